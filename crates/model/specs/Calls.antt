@@ -1,0 +1,235 @@
+-- "Refusals, tested in this order", and the eight calls: what each answers, and every table word, state byte, mark byte and
+-- heap byte after it.
+--
+-- A call is planned by the tables and marks alone (`plan`). Only `finish` reads the heap, at the link of the one cell taken.
+use Prim.Native.Nat.{ℕ, suc, _+_, _%_}
+use mathlib.Core.Bool.{Bool, true, false, not, _&&_, _||_}
+use mathlib.Core.List.{List, [], _∷_, _++_}
+use lib.Dec.{eqb, ltb, leb}
+use lib.ListN.{length, getD}
+use Rattle.model.specs.declared.Params.{Params}
+use Rattle.model.specs.declared.Offer.{Offer}
+use Rattle.model.specs.declared.Offer.the-variants.{Nothing, Fresh}
+use Rattle.model.specs.declared.Refusal.{Refusal}
+use Rattle.model.specs.declared.Refusal.the-variants.{BadSetup, BadTables, WrongPhase, BadHolder, BadRequest, TooBig, BadOffer, BadLink, Exhausted, BadObject, BadLine}
+use Rattle.model.specs.Base.{if_then_else_, flag}
+use Rattle.model.specs.Params.{goodParams, powerOfTwo, Lent, fits, wordCount, heapEnd, inHeap, start, blockAt, minusLower}
+use Rattle.model.specs.Memory.{load, zeroed, marked}
+use Rattle.model.specs.Tables.{Words, Tables, tablesOf, withWords, view, flat, setFree}
+use Rattle.model.specs.SizeClasses.{binOf, raised, alignAllocation}
+use Rattle.model.specs.BlockList.{pagesUsed, pagesEnd}
+use Rattle.model.specs.Block.{Unallocated}
+use Rattle.model.specs.Events.{Event, taken, eventsHeap, sweeps, releases}
+use Rattle.model.specs.FreeListAllocator.{Search, findBlock}
+use Rattle.model.specs.Global.{Running, Marking, Releasing, freshTables, isHolder, isBound, hasReleased, bindHolder, destroyHolder, prepared, markPlace, Freed, releaseHolder, sweepLater, partReleased}
+use Rattle.model.specs.Sound.{sound, stateOf, linkOk}
+
+-- ---- refusals and replies
+
+unfoldable pub refusalNumber : Refusal → ℕ
+refusalNumber BadSetup = 1
+refusalNumber BadTables = 2
+refusalNumber WrongPhase = 3
+refusalNumber BadHolder = 4
+refusalNumber BadRequest = 5
+refusalNumber TooBig = 6
+refusalNumber BadOffer = 7
+refusalNumber BadLink = 8
+refusalNumber Exhausted = 9
+refusalNumber BadObject = 10
+refusalNumber BadLine = 11
+
+-- What a call says: 0 and its values in order, or a refusal's number. "A refusal returns its number only."
+pub record Reply : Type 0 where
+  pub number : ℕ
+  pub values : List ℕ
+
+abbrev pub answered : List ℕ → Reply
+answered vs = record { number = 0; values = vs }
+
+abbrev pub refused : Refusal → Reply
+refused r = record { number = refusalNumber r; values = [] }
+
+-- ---- calls
+
+-- holders, sizes, places and block numbers are as they come
+pub data Call : Type 0 where
+  bind : ℕ → Call
+  destroy : ℕ → Call
+  -- holder, size, align, offset, offer
+  alloc : ℕ → ℕ → ℕ → ℕ → Offer → Call
+  prepare : Call
+  -- place and block
+  mark : ℕ → ℕ → Call
+  release : ℕ → Call
+  sharedRelease : Call
+
+-- how a call ends: by a reply, or by taking a cell of a block, for this align and offset, the offer used or not
+pub data End : Type 0 where
+  says : Reply → End
+  takes : ℕ → ℕ → ℕ → Bool → End
+
+pub record Plan : Type 0 where
+  pub tables : Tables
+  pub events : List Event
+  pub end : End
+
+-- the plan that changes nothing
+abbrev pub refuses : Tables → Refusal → Plan
+refuses t r = record { tables = t; events = []; end = says (refused r) }
+
+-- the plan that only changes tables
+abbrev pub changes : Tables → List ℕ → Plan
+changes t values = record { tables = t; events = []; end = says (answered values) }
+
+-- ---- "BadRequest: size or offset no multiple of MIN, offset over 65,536, align no power of two in MIN to MAX"
+
+unfoldable pub goodRequest : Params → ℕ → ℕ → ℕ → Bool
+goodRequest p size align offset =
+    eqb (size % p .min) 0 && eqb (offset % p .min) 0 && leb offset 65536
+    && (powerOfTwo align && leb (p .min) align && leb align (p .max))
+
+-- "TooBig: raised size over the block size"
+unfoldable pub tooBig : Params → ℕ → ℕ → Bool
+tooBig p size align = ltb (p .bytes) (raised p size align)
+
+-- "BadOffer: offer out of range or not Unallocated, even if not needed"
+unfoldable pub goodOffer : Params → Tables → Offer → Bool
+goodOffer p t Nothing = true
+goodOffer p t (Fresh b) = ltb (b .0) (p .blocks) && eqb (stateOf t (b .0)) Unallocated
+
+-- "BadObject: mark place not in the heap at a multiple of 8, block out of range or Unallocated, or place − L outside that
+-- block"
+unfoldable pub goodObject : Params → Tables → ℕ → ℕ → Bool
+goodObject p t place b =
+    (inHeap p place && eqb (place % 8) 0)
+    && (ltb b (p .blocks) && not (eqb (stateOf t b) Unallocated))
+    && (leb (start p b) (minusLower p place) && ltb (minusLower p place) (start p b + p .bytes))
+
+-- ---- plans, on tables that are sound
+
+-- a search's plan: "Exhausted: no cell found and no offer"
+unfoldable pub takePlan : Params → ℕ → ℕ → Search → Plan
+takePlan p align offset s =
+    record {
+      tables = s .tables;
+      events = s .events;
+      end = if eqb (s .at) 0 then says (refused Exhausted) else takes (blockAt p (s .at)) align offset (s .fresh);
+    }
+
+unfoldable pub planAlloc : Params → Tables → ℕ → ℕ → ℕ → ℕ → Offer → Plan
+planAlloc p t h size align offset offer =
+    if not (eqb (t .words .phase) Running) then refuses t WrongPhase
+    else if not (isBound (t .words) h) then refuses t BadHolder
+    else if not (goodRequest p size align offset) then refuses t BadRequest
+    else if tooBig p size align then refuses t TooBig
+    else if not (goodOffer p t offer) then refuses t BadOffer
+    else takePlan p align offset (findBlock p h (binOf p (raised p size align)) offer t)
+
+-- "call not of this phase, or released already"
+unfoldable pub mayRelease : Words → Bool
+mayRelease w = eqb (w .phase) Marking || eqb (w .phase) Releasing
+
+-- blocks were released, and so a part is done
+unfoldable pub releasePlan : Params → ℕ → Tables → Freed → Plan
+releasePlan p part t f =
+    record {
+      tables = tablesOf (partReleased p part (f .words)) (f .states) (t .marks);
+      events = f .events;
+      end = says (answered (releases (f .events) ∷ []));
+    }
+
+unfoldable pub planSound : Params → Tables → Call → Plan
+planSound p t (bind h) =
+    if not (eqb (t .words .phase) Running) then refuses t WrongPhase
+    else if not (isHolder h) || isBound (t .words) h then refuses t BadHolder
+    else changes (bindHolder h t) []
+planSound p t (destroy h) =
+    if not (eqb (t .words .phase) Running) then refuses t WrongPhase
+    else if not (isBound (t .words) h) then refuses t BadHolder
+    else changes (destroyHolder p h t) []
+planSound p t (alloc h size align offset offer) = planAlloc p t h size align offset offer
+planSound p t prepare =
+    if not (eqb (t .words .phase) Running) then refuses t WrongPhase
+    else changes (prepared t) []
+planSound p t (mark place b) =
+    if not (eqb (t .words .phase) Marking) then refuses t WrongPhase
+    else if not (goodObject p t place b) then refuses t BadObject
+    else changes (markPlace p place b t) (flag (not (marked p (t .marks) place)) ∷ [])
+planSound p t (release h) =
+    if not (mayRelease (t .words)) || (isHolder h && hasReleased (t .words) h) then refuses t WrongPhase
+    else if not (isBound (t .words) h) then refuses t BadHolder
+    else releasePlan p h t (releaseHolder p h (t .words) (t .states))
+planSound p t sharedRelease =
+    if not (mayRelease (t .words)) || hasReleased (t .words) 0 then refuses t WrongPhase
+    else releasePlan p 0 t (sweepLater p (t .words) (t .states))
+
+-- "BadTables: not sound"
+unfoldable pub plan : Params → Tables → Call → Plan
+plan p t c = if sound p t then planSound p t c else refuses t BadTables
+
+-- ---- the end of a call
+
+pub record Step : Type 0 where
+  pub reply : Reply
+  pub tables : Tables
+  pub heap : List ℕ
+  pub events : List Event
+
+-- The cell at the free head of the block b, on the tables and the heap that the events left. "The next link is read before
+-- the whole cell is zeroed." "BadLink: the cell's link is neither 0 nor a whole cell of its block"; "8 leaves cell and head
+-- alone". "The answer: address, cell size, whether the offer was used, blocks swept"
+unfoldable pub takeCell : Params → Tables → List Event → List ℕ → ℕ → ℕ → ℕ → Bool → Step
+takeCell p t es h b align offset fresh =
+    let cell : ℕ = getD (t .words .free) b 0 in
+    let size : ℕ = getD (t .words .size) b 0 in
+    if linkOk p (t .words) b (load p h cell)
+    then record {
+      reply = answered (alignAllocation cell align offset ∷ size ∷ flag fresh ∷ sweeps es ∷ []);
+      tables = withWords (setFree b (load p h cell) (t .words)) t;
+      heap = zeroed p h cell size;
+      events = es ++ (taken cell size ∷ []);
+    }
+    else record { reply = refused BadLink; tables = t; heap = h; events = es }
+
+unfoldable pub finish : Params → Tables → List Event → List ℕ → End → Step
+finish p t es h (says r) = record { reply = r; tables = t; heap = h; events = es }
+finish p t es h (takes b align offset fresh) = takeCell p t es h b align offset fresh
+
+-- one call on tables and a heap of the right lengths
+unfoldable pub step : Params → Tables → List ℕ → Call → Step
+step p t h c =
+    let q : Plan = plan p t c in
+    finish p (q .tables) (q .events) (eventsHeap p (q .events) h) (q .end)
+
+-- ---- the calls on what is lent: "BadSetup: a parameter or buffer length is off", and then nothing is touched
+
+pub record Result : Type 0 where
+  pub reply : Reply
+  pub lent : Lent
+
+abbrev pub tablesIn : Lent → Tables
+tablesIn l = tablesOf (view (l .words)) (l .states) (l .marks)
+
+abbrev pub lentOf : Tables → List ℕ → Lent
+lentOf t h = record { words = flat (t .words); states = t .states; marks = t .marks; heap = h }
+
+abbrev pub resultFrom : Step → Result
+resultFrom s = record { reply = s .reply; lent = lentOf (s .tables) (s .heap) }
+
+abbrev pub badSetup : Lent → Result
+badSetup l = record { reply = refused BadSetup; lent = l }
+
+-- every call but set-up
+unfoldable pub call : Params → Lent → Call → Result
+call p l c = if fits p l then resultFrom (step p (tablesIn l) (l .heap) c) else badSetup l
+
+unfoldable pub setUp : Params → Lent → Result
+setUp p l = if fits p l then record { reply = answered []; lent = lentOf (freshTables p) (l .heap) } else badSetup l
+
+-- pages used of 49 records, by their firsts: BadSetup or BadTables are its only refusals, and nothing is written
+unfoldable pub pages : Params → List ℕ → List ℕ → Reply
+pages p words firsts =
+    if not (goodParams p && eqb (length words) (wordCount p) && eqb (length firsts) 49) then refused BadSetup
+    else if not (pagesEnd p (view words .next) firsts) then refused BadTables
+    else answered (pagesUsed p (view words .next) firsts ∷ [])

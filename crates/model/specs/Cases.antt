@@ -1,0 +1,106 @@
+-- "Marked for proof" and "Limits": one computed table and one theorem. And 01's example trace, computed on the machine.
+use Prim.Native.Nat.{ℕ, suc, _-_, _*_}
+use mathlib.Core.Path.{_≡_, refl}
+use mathlib.Core.Bool.{Bool, true, false, _&&_, _||_}
+use mathlib.Core.List.{List, [], _∷_}
+use lib.Count.{leadingZeros}
+use lib.Dec.{eqb, ltb, leb}
+use lib.IntN.{pos}
+use lib.ListN.{replicate}
+use Rattle.model.specs.declared.Params.{Params}
+use Rattle.model.specs.declared.Offer.the-variants.{Fresh}
+use Rattle.model.specs.Base.{allBelow, anyBelow, member, filter, count, eachBelow, flag}
+use Rattle.model.specs.Params.{Lent, powerOfTwo, lowerOk, isZero, biased, plusLower, minusLower, heapBytes, heapEnd, goodParams, wordCount, fits, start, blockAt, inHeap, isStart, listOf, listWord, localSets, available, unswept, consumed}
+use Rattle.model.specs.Memory.{loadBytes, bytesOf, overwrite, load, store, zeroed, bitOf, setBit, markIndex, marked, setMark, cleared}
+use Rattle.model.specs.Tables.{view, flat, setFirst, setLast, setBound, setReleased, setNext, setPrev, setFree, setSize, setList, setTls, setPhase, withReleased}
+use Rattle.model.specs.SizeClasses.{fours, classWords, cellBytes, wordsIn, highestBit, binInOctave, binOf, raised, shift, alignAllocation}
+use Rattle.model.specs.BlockList.{pushOnly, pushAhead, push, popOnly, popAhead, popAt, pop, removeBetween, remove, relabel, link, append, walk, blocksOn}
+use Rattle.model.specs.Block.{cellCount, isCell, cellsDown, headOf, linkAll, initChain, initBlock, simple, keeps, sweepChain, sweptWords, clearBlock, chainFrom, freeChain}
+use Rattle.model.specs.Events.{eventHeap, eventsHeap, isSweep, isRelease, sweeps, releases}
+use Rattle.model.specs.FreeListAllocator.{findFreeBlockWith, recycleLocalBlocks, acquireAbandoned, acquireFresh, findBlock}
+use Rattle.model.specs.Global.{freshWords, freshTables, isHolder, isBound, bindHolder, abandonBin, abandonBlocks, destroyHolder, unmarkedState, prepared, markPlace, releaseFrom, releaseBlocks, appendTo, releaseBin, releaseHolder, sweepLaterBin, sweepLater, hasReleased, allReleased, mergeBin, merge, partReleased}
+use Rattle.model.specs.Sound.{stateOf, stateKnown, blockClear, listNamed, binNamed, setNamed, onListNamed, sizeOk, linkOk, tlsOk, blockSound, linkedFrom, linked, isEmpty, ownerEmpty, unboundEmpty, inGcEmpty, phaseKnown, flagsKnown, releasedFew, releasedSome, releasedEmpty, sound}
+use Rattle.model.specs.Calls.{Reply, bind, alloc, refusalNumber, goodRequest, tooBig, goodOffer, goodObject, takePlan, planAlloc, mayRelease, releasePlan, planSound, plan, takeCell, finish, step, call, setUp}
+use Rattle.model.specs.Census.{before, pieces, dropBlankEnd, linesOf, isDigit, valueFrom, valueOf, isNumber, isWord, numbersTo, isLine, arg, isAlloc, offerOf, lineOf, censusParams, censusLent, lineResult, runLines, digits, decimal, spaced, joined, section, refusedRow, upTo, occupied, letter, blockRow, freeRows, allFreeRows, listing, census}
+
+-- what the definitions give, and what 01 says
+pub record Case : Type 0 where
+  pub got : List ℕ
+  pub want : List ℕ
+
+abbrev pub gives : List ℕ → List ℕ → Case
+gives x y = record { got = x; want = y }
+
+abbrev pub bin : ℕ → ℕ → Case
+bin size want = gives (binOf censusParams size ∷ []) (want ∷ [])
+
+-- each count of words up to 8,192 has the least class that holds it
+unfoldable pub leastClass : ℕ → Bool
+leastClass w =
+    let n : ℕ = binOf censusParams (8 * w) in
+    leb (8 * w) (cellBytes censusParams n) && (eqb n 1 || ltb (cellBytes censusParams (n - 1)) (8 * w))
+
+unfoldable pub classesRight : Bool
+classesRight = allBelow 8192 (λ i. leastClass (suc i))
+
+-- "with 4,096-byte blocks, MIN 8, MAX 16"
+abbrev pub maxSixteen : Params
+maxSixteen =
+    record { base = 16384; bytes = 4096; blocks = 4; min = 8; max = 16; offsets = false; unified = true; lower = pos 0 }
+
+-- the number that an alloc of this size and align is answered with, right after set-up and bind: 0 is served, 6 is TooBig
+unfoldable pub firstAlloc : ℕ → ℕ → ℕ
+firstAlloc size align =
+    let l : Lent = setUp maxSixteen censusLent .lent in
+    call maxSixteen (call maxSixteen l (bind 1) .lent) (alloc 1 size align 0 (Fresh (record { 0 = 2 }))) .reply .number
+
+unfoldable pub cases : List Case
+cases =
+    bin 0 1 ∷ bin 8 1 ∷ bin 9 2 ∷ bin 64 8 ∷ bin 65 9 ∷ bin 80 9 ∷ bin 81 10 ∷ bin 1024 24 ∷ bin 65536 48
+    -- 0 is none
+    ∷ bin 65537 0
+    ∷ gives (raised censusParams 24 16 ∷ []) (32 ∷ [])
+    ∷ gives (shift 4104 16 8 ∷ shift 4104 16 0 ∷ []) (0 ∷ 8 ∷ [])
+    -- the block at 24576 is number 2
+    ∷ gives (sweepChain censusParams (setMark censusParams (replicate 256 0) 25600) 2 1024) (27648 ∷ 26624 ∷ 24576 ∷ [])
+    ∷ gives (sweepChain censusParams (replicate 256 0) 2 1280) (27136 ∷ 25856 ∷ 24576 ∷ [])
+    ∷ gives (initChain censusParams 2 1280) (27136 ∷ 25856 ∷ 24576 ∷ [])
+    ∷ gives (firstAlloc 4096 8 ∷ firstAlloc 4096 16 ∷ firstAlloc 4088 16 ∷ []) (0 ∷ 6 ∷ 0 ∷ [])
+    ∷ []
+
+-- the lines `b 1` and `a 1 1024 8 0 2`
+unfoldable pub exampleTrace : List ℕ
+exampleTrace =
+    98 ∷ 32 ∷ 49 ∷ 10 ∷ 97 ∷ 32 ∷ 49 ∷ 32 ∷ 49 ∷ 48 ∷ 50 ∷ 52 ∷ 32 ∷ 56 ∷ 32 ∷ 48 ∷ 32 ∷ 50 ∷ 10 ∷ []
+
+-- refused 0 / blocks 1 / 2 255 1024 A 1 / free 3 / 2 26624 / 2 25600 / 2 24576
+unfoldable pub exampleListing : List ℕ
+exampleListing =
+    114 ∷ 101 ∷ 102 ∷ 117 ∷ 115 ∷ 101 ∷ 100 ∷ 32 ∷ 48 ∷ 10 ∷ 98 ∷ 108 ∷ 111 ∷ 99 ∷ 107 ∷ 115 ∷ 32 ∷ 49 ∷ 10 ∷ 50 ∷ 32
+    ∷ 50 ∷ 53 ∷ 53 ∷ 32 ∷ 49 ∷ 48 ∷ 50 ∷ 52 ∷ 32 ∷ 65 ∷ 32 ∷ 49 ∷ 10 ∷ 102 ∷ 114 ∷ 101 ∷ 101 ∷ 32 ∷ 51 ∷ 10 ∷ 50 ∷ 32
+    ∷ 50 ∷ 54 ∷ 54 ∷ 50 ∷ 52 ∷ 10 ∷ 50 ∷ 32 ∷ 50 ∷ 53 ∷ 54 ∷ 48 ∷ 48 ∷ 10 ∷ 50 ∷ 32 ∷ 50 ∷ 52 ∷ 53 ∷ 55 ∷ 54 ∷ 10 ∷
+    []
+
+-- each number is as it should be, and there are as many
+unfoldable pub same : List ℕ → List ℕ → Bool
+same [] [] = true
+same [] (y ∷ ys) = false
+same (x ∷ xs) [] = false
+same (x ∷ xs) (y ∷ ys) = eqb x y && same xs ys
+
+unfoldable pub allRight : List Case → Bool
+allRight [] = true
+allRight (c ∷ cs) = same (c .got) (c .want) && allRight cs
+
+pub cases-hold : allRight cases ≡ true
+unfolding cases allRight same firstAlloc leadingZeros allBelow anyBelow member filter count eachBelow flag powerOfTwo lowerOk isZero biased plusLower minusLower heapBytes heapEnd goodParams wordCount fits start blockAt inHeap isStart listOf listWord localSets available unswept consumed loadBytes bytesOf overwrite load store zeroed bitOf setBit markIndex marked setMark cleared view flat setFirst setLast setBound setReleased setNext setPrev setFree setSize setList setTls setPhase withReleased fours classWords cellBytes wordsIn highestBit binInOctave binOf raised shift alignAllocation pushOnly pushAhead push popOnly popAhead popAt pop removeBetween remove relabel link append walk blocksOn cellCount isCell cellsDown headOf linkAll initChain initBlock simple keeps sweepChain sweptWords clearBlock chainFrom freeChain eventHeap eventsHeap isSweep isRelease sweeps releases findFreeBlockWith recycleLocalBlocks acquireAbandoned acquireFresh findBlock freshWords freshTables isHolder isBound bindHolder abandonBin abandonBlocks destroyHolder unmarkedState prepared markPlace releaseFrom releaseBlocks appendTo releaseBin releaseHolder sweepLaterBin sweepLater hasReleased allReleased mergeBin merge partReleased stateOf stateKnown blockClear listNamed binNamed setNamed onListNamed sizeOk linkOk tlsOk blockSound linkedFrom linked isEmpty ownerEmpty unboundEmpty inGcEmpty phaseKnown flagsKnown releasedFew releasedSome releasedEmpty sound refusalNumber goodRequest tooBig goodOffer goodObject takePlan planAlloc mayRelease releasePlan planSound plan takeCell finish step call setUp before pieces dropBlankEnd linesOf isDigit valueFrom valueOf isNumber isWord numbersTo isLine arg isAlloc offerOf lineOf censusParams censusLent lineResult runLines digits decimal spaced joined section refusedRow upTo occupied letter blockRow freeRows allFreeRows listing census
+cases-hold = refl
+
+-- the whole rule of the classes, once over all counts of words
+pub classes-hold : classesRight ≡ true
+unfolding classesRight leastClass allBelow binOf cellBytes classWords fours wordsIn highestBit binInOctave leadingZeros
+classes-hold = refl
+
+pub example-holds : same (census exampleTrace) exampleListing ≡ true
+unfolding same exampleTrace exampleListing leadingZeros allBelow anyBelow member filter count eachBelow flag powerOfTwo lowerOk isZero biased plusLower minusLower heapBytes heapEnd goodParams wordCount fits start blockAt inHeap isStart listOf listWord localSets available unswept consumed loadBytes bytesOf overwrite load store zeroed bitOf setBit markIndex marked setMark cleared view flat setFirst setLast setBound setReleased setNext setPrev setFree setSize setList setTls setPhase withReleased fours classWords cellBytes wordsIn highestBit binInOctave binOf raised shift alignAllocation pushOnly pushAhead push popOnly popAhead popAt pop removeBetween remove relabel link append walk blocksOn cellCount isCell cellsDown headOf linkAll initChain initBlock simple keeps sweepChain sweptWords clearBlock chainFrom freeChain eventHeap eventsHeap isSweep isRelease sweeps releases findFreeBlockWith recycleLocalBlocks acquireAbandoned acquireFresh findBlock freshWords freshTables isHolder isBound bindHolder abandonBin abandonBlocks destroyHolder unmarkedState prepared markPlace releaseFrom releaseBlocks appendTo releaseBin releaseHolder sweepLaterBin sweepLater hasReleased allReleased mergeBin merge partReleased stateOf stateKnown blockClear listNamed binNamed setNamed onListNamed sizeOk linkOk tlsOk blockSound linkedFrom linked isEmpty ownerEmpty unboundEmpty inGcEmpty phaseKnown flagsKnown releasedFew releasedSome releasedEmpty sound refusalNumber goodRequest tooBig goodOffer goodObject takePlan planAlloc mayRelease releasePlan planSound plan takeCell finish step call setUp before pieces dropBlankEnd linesOf isDigit valueFrom valueOf isNumber isWord numbersTo isLine arg isAlloc offerOf lineOf censusParams censusLent lineResult runLines digits decimal spaced joined section refusedRow upTo occupied letter blockRow freeRows allFreeRows listing census
+example-holds = refl

@@ -1,0 +1,219 @@
+-- "The census program": from the bytes of a trace to the bytes of the listing.
+use Prim.Native.Nat.{ℕ, zero, suc, _+_, _-_, _*_, _/_, _%_, _^_}
+use mathlib.Core.Bool.{Bool, true, false, not, _&&_, _||_}
+use mathlib.Core.List.{List, [], _∷_, _++_, map}
+use lib.Dec.{eqb, ltb, leb}
+use lib.IntN.{pos}
+use lib.ListN.{length, getD, take, replicate}
+use Rattle.model.specs.declared.Params.{Params}
+use Rattle.model.specs.declared.Offer.{Offer}
+use Rattle.model.specs.declared.Offer.the-variants.{Nothing, Fresh}
+use Rattle.model.specs.declared.Refusal.the-variants.{BadLine}
+use Rattle.model.specs.Base.{if_then_else_, filter, allBelow}
+use Rattle.model.specs.Params.{Lent, wordCount, heapBytes, abandoned, inGc}
+use Rattle.model.specs.Tables.{Tables}
+use Rattle.model.specs.Block.{Unallocated, freeChain}
+use Rattle.model.specs.Sound.{stateOf, setNamed}
+use Rattle.model.specs.Calls.{Reply, refused, Call, bind, destroy, alloc, prepare, mark, release, sharedRelease, Result, tablesIn, call, setUp}
+
+-- ---- the trace's lines
+
+abbrev pub newline : ℕ
+newline = 10
+
+abbrev pub space : ℕ
+space = 32
+
+-- c before the first of the pieces
+unfoldable pub before : ℕ → List (List ℕ) → List (List ℕ)
+before c [] = (c ∷ []) ∷ []
+before c (x ∷ xs) = (c ∷ x) ∷ xs
+
+-- what stands before, between and behind the separators
+unfoldable pub pieces : ℕ → List ℕ → List (List ℕ)
+pieces sep [] = [] ∷ []
+pieces sep (c ∷ cs) = if eqb c sep then ([] ∷ pieces sep cs) else before c (pieces sep cs)
+
+-- "no line begins after the last newline if nothing follows it"
+unfoldable pub dropBlankEnd : List (List ℕ) → List (List ℕ)
+dropBlankEnd [] = []
+dropBlankEnd ([] ∷ []) = []
+dropBlankEnd ((c ∷ cs) ∷ []) = (c ∷ cs) ∷ []
+dropBlankEnd (x ∷ (y ∷ ys)) = x ∷ dropBlankEnd (y ∷ ys)
+
+-- "at most 16,384 bytes and 256 lines; the rest is unread. A line, numbered from 1, ends at a newline or where reading
+-- ends": so a line that the byte limit cuts is what was read of it
+unfoldable pub linesOf : List ℕ → List (List ℕ)
+linesOf bytes = take 256 (dropBlankEnd (pieces newline (take 16384 bytes)))
+
+-- ---- numbers: "below 2^64 with no needless zero", decimal
+
+unfoldable pub isDigit : ℕ → Bool
+isDigit c = leb 48 c && leb c 57
+
+unfoldable pub valueFrom : ℕ → List ℕ → ℕ
+valueFrom n [] = n
+valueFrom n (c ∷ cs) = valueFrom (10 * n + (c - 48)) cs
+
+unfoldable pub valueOf : List ℕ → ℕ
+valueOf cs = valueFrom 0 cs
+
+unfoldable pub isNumber : List ℕ → Bool
+isNumber cs =
+    leb 1 (length cs) && allBelow (length cs) (λ i. isDigit (getD cs i 0))
+    && (eqb (length cs) 1 || not (eqb (getD cs 0 0) 48)) && ltb (valueOf cs) (2 ^ 64)
+
+-- ---- what a line asks
+
+pub data Line : Type 0 where
+  asks : Call → Line
+  badLine : Line
+
+-- a word of one letter
+unfoldable pub isWord : ℕ → List ℕ → Bool
+isWord c w = eqb (length w) 1 && eqb (getD w 0 0) c
+
+-- the words from the second to the n-th, of n, are numbers
+unfoldable pub numbersTo : ℕ → List (List ℕ) → Bool
+numbersTo n ws = allBelow (n - 1) (λ i. isNumber (getD ws (i + 1) []))
+
+-- a line of n words that begins with the letter c, and goes on in numbers
+unfoldable pub isLine : ℕ → ℕ → List (List ℕ) → Bool
+isLine c n ws = isWord c (getD ws 0 []) && eqb (length ws) n && numbersTo n ws
+
+-- its i-th number
+unfoldable pub arg : List (List ℕ) → ℕ → ℕ
+arg ws i = valueOf (getD ws i [])
+
+-- "(`-` for none)"
+unfoldable pub isAlloc : List (List ℕ) → Bool
+isAlloc ws =
+    isWord 97 (getD ws 0 []) && eqb (length ws) 6 && numbersTo 5 ws
+    && (isWord 45 (getD ws 5 []) || isNumber (getD ws 5 []))
+
+unfoldable pub offerOf : List ℕ → Offer
+offerOf w = if isWord 45 w then Nothing else Fresh (record { 0 = valueOf w })
+
+-- "Lines, decimal, one space: `b h`, `d h`, `a h size align offset block` (`-` for none), `p`, `m place block`, `r h`, `s`
+-- (shared)."
+unfoldable pub lineOf : List (List ℕ) → Line
+lineOf ws =
+    if isLine 98 2 ws then asks (bind (arg ws 1))
+    else if isLine 100 2 ws then asks (destroy (arg ws 1))
+    else if isAlloc ws then asks (alloc (arg ws 1) (arg ws 2) (arg ws 3) (arg ws 4) (offerOf (getD ws 5 [])))
+    else if isLine 112 1 ws then asks prepare
+    else if isLine 109 3 ws then asks (mark (arg ws 1) (arg ws 2))
+    else if isLine 114 2 ws then asks (release (arg ws 1))
+    else if isLine 115 1 ws then asks sharedRelease
+    else badLine
+
+-- ---- running it: "Set-up: 4 blocks of 4,096, base 16384, MIN = MAX = 8, unified, no offsets, L 0."
+
+unfoldable pub censusParams : Params
+censusParams =
+    record { base = 16384; bytes = 4096; blocks = 4; min = 8; max = 8; offsets = false; unified = true; lower = pos 0 }
+
+-- the buffers that are lent, and after set-up
+unfoldable pub censusLent : Lent
+censusLent =
+    record {
+      words = replicate (wordCount censusParams) 0;
+      states = replicate 4 0;
+      marks = replicate 256 0;
+      heap = replicate 16384 0;
+    }
+
+unfoldable pub lineResult : Lent → Line → Result
+lineResult l (asks c) = call censusParams l c
+lineResult l badLine = record { reply = refused BadLine; lent = l }
+
+-- a refused line: its number, and the refusal's
+pub record RefusedLine : Type 0 where
+  pub line : ℕ
+  pub number : ℕ
+
+pub record Ran : Type 0 where
+  pub refusals : List RefusedLine
+  pub lent : Lent
+
+-- the lines from number i on
+unfoldable pub runLines : ℕ → List (List ℕ) → Lent → Ran
+runLines i [] l = record { refusals = []; lent = l }
+runLines i (x ∷ xs) l =
+    let r : Result = lineResult l (lineOf (pieces space x)) in
+    let rest : Ran = runLines (i + 1) xs (r .lent) in
+    record {
+      refusals = if eqb (r .reply .number) 0 then rest .refusals
+          else (record { line = i; number = r .reply .number } ∷ rest .refusals);
+      lent = rest .lent;
+    }
+
+-- ---- the listing
+
+-- a number in decimal, of at most k digits
+unfoldable pub digits : ℕ → ℕ → List ℕ
+digits zero n = []
+digits (suc k) n =
+    let high : List ℕ = digits k (n / 10) in
+    if ltb n 10 then ((48 + n) ∷ []) else (high ++ ((48 + n % 10) ∷ []))
+
+unfoldable pub decimal : ℕ → List ℕ
+decimal n = digits 20 n
+
+-- "one space"
+unfoldable pub spaced : List (List ℕ) → List ℕ
+spaced [] = newline ∷ []
+spaced (w ∷ []) = w ++ (newline ∷ [])
+spaced (w ∷ (v ∷ ws)) = w ++ (space ∷ spaced (v ∷ ws))
+
+unfoldable pub joined : List (List ℕ) → List ℕ
+joined [] = []
+joined (x ∷ xs) = x ++ joined xs
+
+-- "Sections in fixed order, each after its count"
+unfoldable pub section : List ℕ → List (List ℕ) → List ℕ
+section name rows = spaced (name ∷ decimal (length rows) ∷ []) ++ joined rows
+
+-- "refused (line, number)"
+unfoldable pub refusedRow : RefusedLine → List ℕ
+refusedRow r = spaced (decimal (r .line) ∷ decimal (r .number) ∷ [])
+
+-- "blocks not Unallocated, ascending"
+unfoldable pub upTo : ℕ → List ℕ
+upTo zero = []
+upTo (suc n) = upTo n ++ (n ∷ [])
+
+unfoldable pub occupied : Tables → List ℕ
+occupied t = filter (λ b. not (eqb (stateOf t b) Unallocated)) (upTo (censusParams .blocks))
+
+-- "Lists: A U C local, a u c abandoned, g in-gc."
+unfoldable pub letter : ℕ → ℕ
+letter set =
+    if ltb set abandoned then getD (65 ∷ 85 ∷ 67 ∷ []) (set % 3) 0
+    else if ltb set inGc then getD (97 ∷ 117 ∷ 99 ∷ []) (set - abandoned) 0
+    else 103
+
+-- "(number, state byte, cell size, list, holder)"
+unfoldable pub blockRow : Tables → ℕ → List ℕ
+blockRow t b =
+    spaced (decimal b ∷ decimal (stateOf t b) ∷ decimal (getD (t .words .size) b 0)
+    ∷ (letter (setNamed (t .words) b) ∷ []) ∷ decimal (getD (t .words .tls) b 0) ∷ [])
+
+-- "free cells by block along its chain (block, address)"
+unfoldable pub freeRows : Tables → List ℕ → ℕ → List (List ℕ)
+freeRows t h b = map (λ a. spaced (decimal b ∷ decimal a ∷ [])) (freeChain censusParams h b (t .words))
+
+unfoldable pub allFreeRows : Tables → List ℕ → List ℕ → List (List ℕ)
+allFreeRows t h [] = []
+allFreeRows t h (b ∷ bs) = freeRows t h b ++ allFreeRows t h bs
+
+unfoldable pub listing : Ran → List ℕ
+listing r =
+    let t : Tables = tablesIn (r .lent) in
+    section (114 ∷ 101 ∷ 102 ∷ 117 ∷ 115 ∷ 101 ∷ 100 ∷ []) (map refusedRow (r .refusals))
+    ++ (section (98 ∷ 108 ∷ 111 ∷ 99 ∷ 107 ∷ 115 ∷ []) (map (blockRow t) (occupied t))
+    ++ section (102 ∷ 114 ∷ 101 ∷ 101 ∷ []) (allFreeRows t (r .lent .heap) (occupied t)))
+
+-- the whole program
+unfoldable pub census : List ℕ → List ℕ
+census bytes = listing (runLines 1 (linesOf bytes) (setUp censusParams censusLent .lent))

@@ -1,0 +1,119 @@
+-- "Allocator": the search for a block with a free cell, by tables and marks alone. The heap is not looked at here: it is
+-- read in one place, where the cell is taken (Calls.antt).
+use Prim.Native.Nat.{ℕ, zero, suc}
+use mathlib.Core.Bool.{Bool, true, false}
+use mathlib.Core.List.{List, [], _∷_, _++_}
+use lib.Dec.{eqb}
+use lib.ListN.{getD, set}
+use Rattle.model.specs.declared.Params.{Params}
+use Rattle.model.specs.declared.Offer.{Offer}
+use Rattle.model.specs.declared.Offer.the-variants.{Nothing, Fresh}
+use Rattle.model.specs.Base.{if_then_else_}
+use Rattle.model.specs.Params.{start, blockAt, localSets, abandoned, available, unswept, consumed}
+use Rattle.model.specs.Tables.{Words, Tables, tablesOf, withWords, setTls}
+use Rattle.model.specs.SizeClasses.{cellBytes}
+use Rattle.model.specs.BlockList.{Popped, popped, push, pop}
+use Rattle.model.specs.Block.{Unmarked, sweepChain, sweptWords, initChain, initBlock}
+use Rattle.model.specs.Events.{Event, initialised, swept}
+
+-- "skim the local available list, moving full blocks to consumed": up to a block with a free cell, which stays at the head.
+-- At most k blocks
+unfoldable pub findFreeBlockWith : ℕ → Params → ℕ → ℕ → Words → Popped
+findFreeBlockWith zero p avail full t = popped 0 t
+findFreeBlockWith (suc k) p avail full t =
+    let first : ℕ = getD (t .first) avail 0 in
+    let b : ℕ = blockAt p first in
+    if eqb first 0 then popped 0 t
+    else if eqb (getD (t .free) b 0) 0 then findFreeBlockWith k p avail full (push p full b (pop p avail t .words))
+    else popped first t
+
+-- what a search gives: the start of a block with a free cell, 0 for none; the words after; what happened, in order
+pub record Found : Type 0 where
+  pub at : ℕ
+  pub words : Words
+  pub events : List Event
+
+abbrev pub found : ℕ → Words → Found
+found a t = record { at = a; words = t; events = [] }
+
+abbrev pub after : Event → Found → Found
+after e f = record { at = f .at; words = f .words; events = e ∷ f .events }
+
+-- the second search went on where the first had found none
+abbrev pub andThen : Found → Found → Found
+andThen f g = record { at = g .at; words = g .words; events = f .events ++ g .events }
+
+-- the event of a sweep of b by these words
+abbrev pub sweepOf : Params → List ℕ → ℕ → Words → Event
+sweepOf p ms b t = swept b (sweepChain p ms b (getD (t .size) b 0))
+
+-- "then local unswept": blocks are popped and swept until one has a free cell, which goes to available; the others go to
+-- consumed. At most k blocks
+unfoldable pub recycleLocalBlocks : ℕ → Params → List ℕ → ℕ → ℕ → Words → Found
+recycleLocalBlocks zero p ms owner bin t = found 0 t
+recycleLocalBlocks (suc k) p ms owner bin t =
+    let g : Popped = pop p (unswept owner bin) t in
+    let b : ℕ = blockAt p (g .at) in
+    let w : Words = sweptWords p ms b (g .words) in
+    if eqb (g .at) 0 then found 0 (g .words)
+    else after (sweepOf p ms b (g .words))
+    (if eqb (getD (w .free) b 0) 0 then recycleLocalBlocks k p ms owner bin (push p (consumed owner bin) b w)
+    else found (g .at) (push p (available owner bin) b w))
+
+-- "then `acquire_global_block`: abandoned available, abandoned unswept (swept)": each block becomes the holder's, and goes
+-- to its available list if it has a free cell, else to its consumed one. Abandoned consumed blocks are not tried.
+-- At most k blocks
+unfoldable pub acquireAbandoned : ℕ → Params → List ℕ → ℕ → ℕ → Words → Found
+acquireAbandoned zero p ms h bin t = found 0 t
+acquireAbandoned (suc k) p ms h bin t =
+    let g : Popped = pop p (available abandoned bin) t in
+    let b : ℕ = blockAt p (g .at) in
+    let w : Words = setTls b h (g .words) in
+    let g′ : Popped = pop p (unswept abandoned bin) (g .words) in
+    let b′ : ℕ = blockAt p (g′ .at) in
+    let w′ : Words = setTls b′ h (g′ .words) in
+    let w″ : Words = sweptWords p ms b′ w′ in
+    if eqb (g .at) 0
+    then (if eqb (g′ .at) 0 then found 0 (g′ .words)
+    else after (sweepOf p ms b′ w′)
+    (if eqb (getD (w″ .free) b′ 0) 0
+    then acquireAbandoned k p ms h bin (push p (consumed (localSets h) bin) b′ w″)
+    else found (g′ .at) (push p (available (localSets h) bin) b′ w″)))
+    else (if eqb (getD (w .free) b 0) 0
+    then acquireAbandoned k p ms h bin (push p (consumed (localSets h) bin) b w)
+    else found (g .at) (push p (available (localSets h) bin) b w))
+
+-- a search's end: also whether the offer was used, and all tables
+pub record Search : Type 0 where
+  pub at : ℕ
+  pub fresh : Bool
+  pub tables : Tables
+  pub events : List Event
+
+abbrev pub inFound : Found → Tables → Search
+inFound f t = record { at = f .at; fresh = false; tables = withWords (f .words) t; events = f .events }
+
+-- "the offer": pushed on the available list, then initialised
+unfoldable pub acquireFresh : Params → ℕ → ℕ → Offer → Found → Tables → Search
+acquireFresh p h bin Nothing f t = inFound f t
+acquireFresh p h bin (Fresh b) f t =
+    let s : ℕ = cellBytes p bin in
+    let w : Words = push p (available (localSets h) bin) (b .0) (f .words) in
+    record {
+      at = start p (b .0);
+      fresh = true;
+      tables = tablesOf (initBlock p (b .0) s h w) (set (t .states) (b .0) Unmarked) (t .marks);
+      events = f .events ++ (initialised (b .0) (initChain p (b .0) s) ∷ []);
+    }
+
+-- the whole search of the holder h for a block of this bin
+unfoldable pub findBlock : Params → ℕ → ℕ → Offer → Tables → Search
+findBlock p h bin offer t =
+    let owner : ℕ = localSets h in
+    let g : Popped = findFreeBlockWith (p .blocks) p (available owner bin) (consumed owner bin) (t .words) in
+    let f : Found = recycleLocalBlocks (p .blocks) p (t .marks) owner bin (g .words) in
+    let a : Found = andThen f (acquireAbandoned (p .blocks) p (t .marks) h bin (f .words)) in
+    if eqb (g .at) 0
+    then (if eqb (f .at) 0 then (if eqb (a .at) 0 then acquireFresh p h bin offer a t else inFound a t)
+    else inFound f t)
+    else inFound (found (g .at) (g .words)) t

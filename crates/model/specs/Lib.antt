@@ -1,0 +1,16 @@
+pub mod Base
+pub mod Params
+pub mod Memory
+pub mod Tables
+pub mod SizeClasses
+pub mod BlockList
+pub mod Block
+pub mod Events
+pub mod FreeListAllocator
+pub mod Global
+pub mod Sound
+pub mod Calls
+pub mod Answers
+pub mod Runs
+pub mod Census
+pub mod Cases

@@ -1,0 +1,129 @@
+-- "Sound tables": a test with one part for each item of 01's sentence, in its order.
+use Prim.Native.Nat.{ℕ, zero, suc, _+_, _-_, _*_, _/_, _%_}
+use mathlib.Core.Bool.{Bool, true, false, not, _&&_, _||_}
+use mathlib.Core.List.{List}
+use lib.Dec.{eqb, ltb, leb}
+use lib.ListN.{getD}
+use Rattle.model.specs.declared.Params.{Params}
+use Rattle.model.specs.Base.{if_then_else_, allBelow, anyBelow, member}
+use Rattle.model.specs.Params.{start, blockAt, isStart, listOf, listWord, localSets, abandoned, inGc, lists, bins}
+use Rattle.model.specs.Tables.{Words, Tables}
+use Rattle.model.specs.SizeClasses.{cellBytes}
+use Rattle.model.specs.BlockList.{blocksOn}
+use Rattle.model.specs.Block.{Unallocated, Unmarked, Marked, isCell}
+use Rattle.model.specs.Global.{Running, Marking, Releasing, isHolder, isBound, hasReleased, allReleased}
+
+-- ---- each block
+
+unfoldable pub stateOf : Tables → ℕ → ℕ
+stateOf t b = getD (t .states) b 0
+
+-- "state bytes are the three"
+unfoldable pub stateKnown : Tables → ℕ → Bool
+stateKnown t b = eqb (stateOf t b) Unallocated || eqb (stateOf t b) Unmarked || eqb (stateOf t b) Marked
+
+-- "an Unallocated block's words are 0"
+unfoldable pub blockClear : Words → ℕ → Bool
+blockClear w b =
+    eqb (getD (w .next) b 0) 0 && eqb (getD (w .prev) b 0) 0 && eqb (getD (w .free) b 0) 0
+    && eqb (getD (w .size) b 0) 0 && eqb (getD (w .list) b 0) 0 && eqb (getD (w .tls) b 0) 0
+
+-- the list that a block names, its bin and its set: the one definition of which list a block is on
+unfoldable pub listNamed : Words → ℕ → ℕ
+listNamed w b = getD (w .list) b 0 - 1
+
+unfoldable pub binNamed : Words → ℕ → ℕ
+binNamed w b = listNamed w b % 49
+
+unfoldable pub setNamed : Words → ℕ → ℕ
+setNamed w b = listNamed w b / 49
+
+-- "any other block is on [..] the list it names": there is such a list, and its walk meets the block. That no other list's
+-- walk meets it is `linked`, below: a walk meets only blocks that name its own list
+unfoldable pub onListNamed : Params → Words → ℕ → Bool
+onListNamed p w b =
+    leb 1 (getD (w .list) b 0) && leb (getD (w .list) b 0) lists && member b (blocksOn p (listNamed w b) w)
+
+-- "its bin is 1 or more with that cell size"
+unfoldable pub sizeOk : Params → Words → ℕ → Bool
+sizeOk p w b = leb 1 (binNamed w b) && eqb (getD (w .size) b 0) (cellBytes p (binNamed w b))
+
+-- "its free head is 0 or a whole cell of it"
+unfoldable pub linkOk : Params → Words → ℕ → ℕ → Bool
+linkOk p w b a = eqb a 0 || isCell p b (getD (w .size) b 0) a
+
+-- "its tls is 1 to 8 and equals h on a local list"
+unfoldable pub tlsOk : Words → ℕ → Bool
+tlsOk w b =
+    isHolder (getD (w .tls) b 0)
+    && (leb abandoned (setNamed w b) || eqb (getD (w .tls) b 0) (setNamed w b / 3 + 1))
+
+unfoldable pub blockSound : Params → Tables → ℕ → Bool
+blockSound p t b =
+    if eqb (stateOf t b) Unallocated then blockClear (t .words) b
+    else (stateKnown t b && onListNamed p (t .words) b && sizeOk p (t .words) b
+    && linkOk p (t .words) b (getD (t .words .free) b 0) && tlsOk (t .words) b)
+
+-- ---- each list
+
+-- "links agree both ways": from the address a on, behind the block at `before`, at most k blocks: each link is the start of
+-- an occupied block that names this list and whose prev is the block before; the list's last is the last block met
+unfoldable pub linkedFrom : ℕ → Params → Tables → ℕ → ℕ → ℕ → Bool
+linkedFrom zero p t l before a = eqb a 0 && eqb (getD (t .words .last) l 0) before
+linkedFrom (suc k) p t l before a =
+    let b : ℕ = blockAt p a in
+    if eqb a 0 then eqb (getD (t .words .last) l 0) before
+    else (isStart p a && not (eqb (stateOf t b) Unallocated) && eqb (getD (t .words .list) b 0) (listWord l)
+    && eqb (getD (t .words .prev) b 0) before && linkedFrom k p t l a (getD (t .words .next) b 0))
+
+unfoldable pub linked : Params → Tables → ℕ → Bool
+linked p t l = linkedFrom (p .blocks) p t l 0 (getD (t .words .first) l 0)
+
+unfoldable pub isEmpty : Words → ℕ → Bool
+isEmpty w l = eqb (getD (w .first) l 0) 0
+
+-- the three sets of an owner are empty
+unfoldable pub ownerEmpty : Words → ℕ → Bool
+ownerEmpty w owner = allBelow (3 * bins) (λ i. isEmpty w (listOf owner i))
+
+-- "unbound holders' lists are empty"
+unfoldable pub unboundEmpty : Words → Bool
+unboundEmpty w = allBelow 8 (λ i. isBound w (suc i) || ownerEmpty w (localSets (suc i)))
+
+-- "in-gc lists are empty unless Releasing"
+unfoldable pub inGcEmpty : Words → Bool
+inGcEmpty w = eqb (w .phase) Releasing || ownerEmpty w inGc
+
+-- ---- phase, bound holders and released marks
+
+-- "phase is one of three"
+unfoldable pub phaseKnown : Words → Bool
+phaseKnown w = eqb (w .phase) Running || eqb (w .phase) Marking || eqb (w .phase) Releasing
+
+-- each bound word and each released word is 0 or 1 (how 01's marks are kept here)
+unfoldable pub flagsKnown : Words → Bool
+flagsKnown w = allBelow 8 (λ i. leb (getD (w .bound) i 0) 1) && allBelow 9 (λ i. leb (getD (w .released) i 0) 1)
+
+-- "released marks are set only in Releasing, only for bound holders and the shared part;"
+unfoldable pub releasedFew : Words → Bool
+releasedFew w =
+    allBelow 9 (λ part. not (hasReleased w part) || (eqb (w .phase) Releasing && (eqb part 0 || isBound w part)))
+
+-- "there at least one is set and at least one is still due;"
+unfoldable pub releasedSome : Words → Bool
+releasedSome w = not (eqb (w .phase) Releasing) || (anyBelow 9 (λ part. hasReleased w part) && not (allReleased w))
+
+-- "a released holder's lists are empty."
+unfoldable pub releasedEmpty : Words → Bool
+releasedEmpty w = allBelow 8 (λ i. not (hasReleased w (suc i)) || ownerEmpty w (localSets (suc i)))
+
+-- "Tables are sound if"
+unfoldable pub sound : Params → Tables → Bool
+sound p t =
+    allBelow (p .blocks) (blockSound p t)
+    && allBelow lists (linked p t)
+    && unboundEmpty (t .words)
+    && inGcEmpty (t .words)
+    && (phaseKnown (t .words) && flagsKnown (t .words))
+    && (releasedFew (t .words) && releasedSome (t .words))
+    && releasedEmpty (t .words)

@@ -1,0 +1,82 @@
+// The plain types of the port: what callers hand over and what calls answer. specs/ defines the machine over them.
+
+// An address of the heap; 0 means none.
+pub struct Address(pub usize);
+
+// A block, by its number from 0. Only base + number × block size makes it an address.
+pub struct Block(pub usize);
+
+// The VM's constants and the place of the heap. Field names are single words, since specs/ reads them too.
+pub struct Params {
+    // the address of the heap's first byte
+    pub base: usize,
+    // the block size
+    pub bytes: usize,
+    // how many blocks there are
+    pub blocks: usize,
+    // MIN_ALIGNMENT and MAX_ALIGNMENT
+    pub min: usize,
+    pub max: usize,
+    // USE_ALLOCATION_OFFSET
+    pub offsets: bool,
+    // UNIFIED_OBJECT_REFERENCE_ADDRESS
+    pub unified: bool,
+    // L, OBJECT_REF_OFFSET_LOWER_BOUND
+    pub lower: i64,
+}
+
+// What an alloc is offered in place of `Space::acquire`: nothing, or a block to use as new.
+pub enum Offer {
+    Nothing,
+    Fresh(Block),
+}
+
+// Document 01's refusals, in the order in which they are tested.
+pub enum Refusal {
+    BadSetup,
+    BadTables,
+    WrongPhase,
+    BadHolder,
+    BadRequest,
+    TooBig,
+    BadOffer,
+    BadLink,
+    Exhausted,
+    BadObject,
+    BadLine,
+}
+
+// The answer of set-up, bind, destroy and prepare.
+pub enum Answer {
+    Done,
+    Refused(Refusal),
+}
+
+// The answer of alloc: where the object may start, its cell's size, whether the offer was used, how many blocks were swept.
+pub enum AllocAnswer {
+    Served {
+        address: Address,
+        cell_size: usize,
+        offer_used: bool,
+        swept: usize,
+    },
+    Refused(Refusal),
+}
+
+// The answer of mark: whether the mark is new.
+pub enum MarkAnswer {
+    Marked { new: bool },
+    Refused(Refusal),
+}
+
+// The answer of release and shared release: how many blocks it made Unallocated.
+pub enum ReleaseAnswer {
+    Released { blocks: usize },
+    Refused(Refusal),
+}
+
+// The answer of pages used.
+pub enum PagesAnswer {
+    Pages(usize),
+    Refused(Refusal),
+}
