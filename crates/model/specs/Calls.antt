@@ -14,12 +14,12 @@ use Rattle.model.specs.declared.Refusal.{Refusal}
 use Rattle.model.specs.declared.Refusal.the-variants.{BadSetup, BadTables, WrongPhase, BadHolder, BadRequest, TooBig, BadOffer, BadLink, Exhausted, BadObject, BadLine}
 use Rattle.model.specs.Base.{if_then_else_, flag}
 use Rattle.model.specs.Params.{goodParams, powerOfTwo, Lent, fits, wordCount, heapEnd, inHeap, start, blockAt, minusLower}
-use Rattle.model.specs.Memory.{load, zeroed, marked}
+use Rattle.model.specs.Memory.{load, marked}
 use Rattle.model.specs.Tables.{Words, Tables, tablesOf, withWords, view, flat, setFree}
 use Rattle.model.specs.SizeClasses.{binOf, raised, alignAllocation}
 use Rattle.model.specs.BlockList.{pagesUsed, pagesEnd}
 use Rattle.model.specs.Block.{Unallocated}
-use Rattle.model.specs.Events.{Event, taken, eventsHeap, sweeps, releases}
+use Rattle.model.specs.Events.{Event, taken, eventHeap, eventsHeap, sweeps, releases}
 use Rattle.model.specs.FreeListAllocator.{Search, findBlock}
 use Rattle.model.specs.Global.{Running, Marking, Releasing, freshTables, isHolder, isBound, hasReleased, bindHolder, destroyHolder, prepared, markPlace, Freed, releaseHolder, sweepLater, partReleased}
 use Rattle.model.specs.Sound.{sound, stateOf, linkOk}
@@ -187,7 +187,7 @@ takeCell p t es h b align offset fresh =
     then record {
       reply = answered (alignAllocation cell align offset ∷ size ∷ flag fresh ∷ sweeps es ∷ []);
       tables = withWords (setFree b (load p h cell) (t .words)) t;
-      heap = zeroed p h cell size;
+      heap = eventHeap p (taken cell size) h;
       events = es ++ (taken cell size ∷ []);
     }
     else record { reply = refused BadLink; tables = t; heap = h; events = es }

@@ -59,7 +59,7 @@ cases =
     bin 0 1 ∷ bin 8 1 ∷ bin 9 2 ∷ bin 64 8 ∷ bin 65 9 ∷ bin 80 9 ∷ bin 81 10 ∷ bin 1024 24 ∷ bin 65536 48
     -- 0 is none
     ∷ bin 65537 0
-    ∷ gives (raised censusParams 24 16 ∷ []) (32 ∷ [])
+    ∷ gives (raised maxSixteen 24 16 ∷ []) (32 ∷ [])
     ∷ gives (shift 4104 16 8 ∷ shift 4104 16 0 ∷ []) (0 ∷ 8 ∷ [])
     -- the block at 24576 is number 2
     ∷ gives (sweepChain censusParams (setMark censusParams (replicate 256 0) 25600) 2 1024) (27648 ∷ 26624 ∷ 24576 ∷ [])

@@ -6,7 +6,7 @@
 -- | alloc          | Running            | full blocks to consumed; unswept blocks swept; abandoned ones taken over  | Running    |
 -- | prepare        | Running            | occupied blocks Unmarked, all marks cleared                               | Marking    |
 -- | mark           | Marking            | the block of a new mark becomes Marked                                    | Marking    |
--- | release        | Marking, Releasing | the holder's Unmarked blocks released; the rest, unswept, to in-gc        | Releasing, |
+-- | release        | Marking, Releasing | Unmarked blocks released, its unswept lists apart; the rest to in-gc      | Releasing, |
 -- | shared release | Marking, Releasing | abandoned Unmarked blocks released; the rest unswept                      | Releasing, |
 -- |                |                    | the last of these: in-gc merged into abandoned                            | or Running |
 use Prim.Native.Nat.{ℕ, zero, suc, _-_, _*_, _/_}

@@ -11,9 +11,10 @@ use lib.ListN.{getD, set}
 use Rattle.model.specs.declared.Params.{Params}
 use Rattle.model.specs.Base.{if_then_else_, member, filter, any, In, Pairwise}
 use Rattle.model.specs.Params.{Lent, heapEnd, blockAt}
+use Rattle.model.specs.SizeClasses.{alignAllocation}
 use Rattle.model.specs.Block.{keeps}
-use Rattle.model.specs.Events.{Event, initialised, swept, released, taken}
-use Rattle.model.specs.Calls.{Reply, answered, Call, bind, destroy, alloc, prepare, mark, release, sharedRelease, Step, step, Result, tablesIn, call, setUp}
+use Rattle.model.specs.Events.{Event, initialised, swept, released, taken, sweeps, releases}
+use Rattle.model.specs.Calls.{Reply, answered, Call, bind, destroy, alloc, prepare, mark, release, sharedRelease, Step, step, Result, tablesIn, call, setUp, pages}
 
 -- ---- the book: "It has cells (start, size, holder, old or new) and mark places, and is empty after set-up."
 
@@ -31,11 +32,11 @@ abbrev pub emptyBook : Book
 emptyBook = record { cells = []; places = [] }
 
 -- "A sweep strikes out the cells it frees, in a refused alloc too; a block release strikes out every cell of that block."
-unfoldable pub strikes : Params → Event → Cell → Bool
-strikes p (initialised b chain) c = false
-strikes p (swept b chain) c = member (c .start) chain
-strikes p (released b) c = eqb (blockAt p (c .start)) b
-strikes p (taken a s) c = false
+unfoldable pub frees : Params → Event → Cell → Bool
+frees p (initialised b chain) c = false
+frees p (swept b chain) c = member (c .start) chain
+frees p (released b) c = eqb (blockAt p (c .start)) b
+frees p (taken a s) c = false
 
 -- "A served alloc enters the cell it took, as new; its start is the address before `align_allocation` shifts it."
 unfoldable pub entered : ℕ → Event → List Cell → List Cell
@@ -47,7 +48,7 @@ entered h (taken a s) cs = record { start = a; size = s; holder = h; old = false
 -- one event of a call by the holder h
 unfoldable pub bookEvent : Params → ℕ → Event → Book → Book
 bookEvent p h e bk =
-    record { cells = entered h e (filter (λ c. not (strikes p e c)) (bk .cells)); places = bk .places }
+    record { cells = entered h e (filter (λ c. not (frees p e c)) (bk .cells)); places = bk .places }
 
 unfoldable pub bookEvents : Params → ℕ → List Event → Book → Book
 bookEvents p h [] bk = bk
@@ -78,10 +79,10 @@ takerOf (release h) = 0
 takerOf sharedRelease = 0
 
 -- "It is fed each call and, in order, the sweeps, block releases, cell taken and answer of demand 2's machine in that call"
-unfoldable pub feed : Params → Call → Step → Book → Book
-feed p c s bk =
-    let fed : Book = bookEvents p (takerOf c) (s .events) bk in
-    if eqb (s .reply .number) 0 then bookAnswer c fed else fed
+unfoldable pub bookAfter : Params → Call → Step → Book → Book
+bookAfter p c s bk =
+    let book : Book = bookEvents p (takerOf c) (s .events) bk in
+    if eqb (s .reply .number) 0 then bookAnswer c book else book
 
 -- "unmarked if the sweep chosen would find none of the book's places for it"
 unfoldable pub unmarked : Params → Book → Cell → Bool
@@ -122,7 +123,7 @@ unfoldable pub resultOf : Params → State → Turn → Result
 resultOf p s u = call p (foundBy p (s .lent) u) (u .call)
 
 unfoldable pub turned : Params → State → Turn → State
-turned p s u = record { lent = resultOf p s u .lent; book = feed p (u .call) (stepOf p s u) (s .book) }
+turned p s u = record { lent = resultOf p s u .lent; book = bookAfter p (u .call) (stepOf p s u) (s .book) }
 
 -- after set-up, on what was lent to it
 unfoldable pub begun : Params → Lent → State
@@ -145,16 +146,27 @@ HoldersWrite p s (u ∷ us) =
 
 pub record Seen : Type 0 where
   pub reply : Reply
+  -- of refused calls too
+  pub swept : ℕ
+  pub released : ℕ
   pub words : List ℕ
   pub states : List ℕ
   pub marks : List ℕ
 
-abbrev pub seen : Result → Seen
-seen r = record { reply = r .reply; words = r .lent .words; states = r .lent .states; marks = r .lent .marks }
+abbrev pub seen : Result → List Event → Seen
+seen r es =
+    record {
+      reply = r .reply;
+      swept = sweeps es;
+      released = releases es;
+      words = r .lent .words;
+      states = r .lent .states;
+      marks = r .lent .marks
+    }
 
 unfoldable pub trace : Params → State → List Turn → List Seen
 trace p s [] = []
-trace p s (u ∷ us) = seen (resultOf p s u) ∷ trace p (turned p s u) us
+trace p s (u ∷ us) = seen (resultOf p s u) (stepOf p s u .events) ∷ trace p (turned p s u) us
 
 -- ---- what holds in each turn
 
@@ -167,13 +179,27 @@ Zeroed p es h =
     (a s : ℕ) → In (taken a s) es
     → (p .base ≤ a) × (a + s ≤ heapEnd p) × ((k : ℕ) → a ≤ k → k < a + s → byteAt p h k ≡ 0)
 
+-- A served alloc takes one cell; the address answered is its start, shifted, and the size answered is its size. This ties
+-- what the book enters to what the caller is told
+unfoldable pub Served : Call → Step → Type 0
+Served (bind h) s = Unit {0}
+Served (destroy h) s = Unit {0}
+Served (alloc h size align offset offer) s =
+    s .reply .number ≡ 0
+    → (a : ℕ) × (n : ℕ) × In (taken a n) (s .events) × (getD (s .reply .values) 0 0 ≡ alignAllocation a align offset)
+      × (getD (s .reply .values) 1 0 ≡ n)
+Served prepare s = Unit {0}
+Served (mark place b) s = Unit {0}
+Served (release h) s = Unit {0}
+Served sharedRelease s = Unit {0}
+
 -- "no byte lies in two held cells"
 unfoldable pub Apart : Cell → Cell → Type 0
 Apart c d = (a : ℕ) → covers c a → covers d a → ⊥
 
 -- "One held before a call stays held in it unless struck out"
 unfoldable pub staysHeld : Params → List Event → Cell → Bool
-staysHeld p es c = not (any (λ e. strikes p e c) es)
+staysHeld p es c = not (any (λ e. frees p e c) es)
 
 -- "no call changes a byte of a cell that stays held"
 unfoldable pub Unchanged : Params → Book → List Event → List ℕ → List ℕ → Type 0
@@ -190,19 +216,20 @@ hits p (taken a s) c = false
 
 -- "a cell is lost exactly when its block is swept or made Unallocated while it is unmarked, and only after a prepare since
 -- it was handed out": at each event in order, of each cell held just before it
-unfoldable pub LostRightly : Params → ℕ → List Event → Book → Type 0
-LostRightly p h [] bk = Unit {0}
-LostRightly p h (e ∷ es) bk =
+unfoldable pub LostExactly : Params → ℕ → List Event → Book → Type 0
+LostExactly p h [] bk = Unit {0}
+LostExactly p h (e ∷ es) bk =
     (((c : Cell) → In c (bk .cells)
-    → (strikes p e c ≡ (hits p e c && unmarked p bk c)) × (strikes p e c ≡ true → c .old ≡ true))
-    × LostRightly p h es (bookEvent p h e bk))
+    → (frees p e c ≡ (hits p e c && unmarked p bk c)) × (frees p e c ≡ true → c .old ≡ true))
+    × LostExactly p h es (bookEvent p h e bk))
 
 pub record TurnKeeps (p : Params) (s : State) (u : Turn) : Type 0 where
+  pub served : Served (u .call) (stepOf p s u)
   pub zeroed : Zeroed p (stepOf p s u .events) (resultOf p s u .lent .heap)
   pub apart : Pairwise Apart (turned p s u .book .cells)
   pub unchanged :
       Unchanged p (s .book) (stepOf p s u .events) (foundBy p (s .lent) u .heap) (resultOf p s u .lent .heap)
-  pub lost : LostRightly p (takerOf (u .call)) (stepOf p s u .events) (s .book)
+  pub lost : LostExactly p (takerOf (u .call)) (stepOf p s u .events) (s .book)
 
 unfoldable pub RunKeeps : Params → State → List Turn → Type 0
 RunKeeps p s [] = Unit {0}
@@ -213,8 +240,11 @@ RunKeeps p s (u ∷ us) = (TurnKeeps p s u × RunKeeps p (turned p s u) us)
 -- "whatever the heap's bytes at the start and whatever holders write, two runs with the same calls agree in answers, counts
 -- and tables": at set-up and after each call
 pub record Alike (p : Params) (l l′ : Lent) (us us′ : List Turn) : Type 0 where
-  pub setUps : seen (setUp p l) ≡ seen (setUp p l′)
+  pub setUps : seen (setUp p l) [] ≡ seen (setUp p l′) []
   pub calls : trace p (begun p l) us ≡ trace p (begun p l′) us′
+  -- "Pages used [..] asked at one point of both runs on the same records, it answers alike."
+  pub pagesAtSetUp : (firsts : List ℕ) → pages p (setUp p l .lent .words) firsts ≡ pages p (setUp p l′ .lent .words) firsts
+  pub pagesAfter : (firsts : List ℕ) → map (λ s. pages p (s .words) firsts) (trace p (begun p l) us) ≡ map (λ s. pages p (s .words) firsts) (trace p (begun p l′) us′)
 
 -- For all parameters for which set-up isn't refused, all lent bytes, all lists of calls, refused ones included, and all that
 -- holders write into cells that they hold then. The second run is any run, so the first being any, `keeps` is of each run

@@ -1,0 +1,12 @@
+pub mod Below
+pub mod Good
+pub mod Base
+pub mod Memory
+pub mod Params
+pub mod Classes
+pub mod Marks
+pub mod Cells
+pub mod Tables
+pub mod Lower
+pub mod Requests
+pub mod BlockList

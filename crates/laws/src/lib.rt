@@ -1,0 +1,1 @@
+// Laws of the machine's definitions, for every proof to cite. No code.

@@ -1,0 +1,47 @@
+-- `params::power_of_two` meets its contract: the powers from 2 ^ 17 downwards are tried, as the definition does.
+use Prim.Native.Nat.{_^_}
+use mathlib.Core.Path.{_≡_, refl, sym, _∙_}
+use native.Mathlib.Omega.{arith}
+use lib.Dec.{eqb}
+use borrow.Author.Count.{falls-down}
+use Rattle.model.specs.Base.{anyBelow}
+use Rattle.model.specs.Params.{powerOfTwo}
+use Rattle.laws.specs.Good.{half-power, power-hit, power-miss}
+use Rattle.laws.specs.Below.{any-none}
+use Rattle.native_ms.proofs.params.power_of_two.Statement.{statement}
+use Rattle.native_ms.proofs.params.power_of_two.Tie as tie
+
+abbrev Inv-loop : tie.InvT-loop
+Inv-loop x k₀ v₀ k v = (v ≡ 2 ^ k) × (anyBelow k (λ j. eqb x (2 ^ j)) ≡ powerOfTwo x)
+
+abbrev μ-loop : tie.MeasureT-loop
+μ-loop x k₀ v₀ k v = k
+
+-- src/params.rt:15:5
+loop-holds : tie.Need-loop-holds Inv-loop μ-loop
+unfolding powerOfTwo
+loop-holds c = (refl, refl)
+
+-- src/params.rt:16:13
+sub-k : tie.Need-sub-k Inv-loop μ-loop
+sub-k c = omega arith
+
+-- src/params.rt:19:13
+returns : tie.Need-returns Inv-loop μ-loop
+returns c = sym (sym (c .before .before .loop .inv .1) ∙ power-hit _ _ _ (c .before .loop-test .taken) (c .before .before .loop .inv .0) (c .if1 .taken))
+
+-- src/params.rt:15:5
+loop-less : tie.Need-loop-less Inv-loop μ-loop
+loop-less c = falls-down _ (c .before .loop-test .taken)
+
+-- src/params.rt:15:5
+loop-again : tie.Need-loop-again Inv-loop μ-loop
+loop-again c = (half-power _ _ (c .before .loop-test .taken) (c .before .before .loop .inv .0), power-miss _ _ _ (c .before .loop-test .taken) (c .before .before .loop .inv .0) (c .if1 .left) ∙ c .before .before .loop .inv .1)
+
+-- src/params.rt:10:1
+returns-2 : tie.Need-returns-2 Inv-loop μ-loop
+returns-2 c = sym (any-none _ _ (c .loop-test .left)) ∙ c .before .loop .inv .1
+
+pub power-of-two-spec : {M : Type 1} → statement M
+power-of-two-spec =
+    tie.close (tie.spec Inv-loop μ-loop loop-holds sub-k returns loop-less loop-again returns-2)

@@ -1,0 +1,60 @@
+// Requests: what may be asked for, the size raised by the align, and the shift of an address.
+use crate::params;
+use model::Params;
+ghost use mathlib.Core.Path.{_≡_};
+ghost use mathlib.Core.Bool.{true};
+ghost use Prim.Native.Nat.{_^_, _<_, _≤_};
+ghost use Rattle.model.specs.Params.{goodParams};
+ghost use Rattle.model.specs.SizeClasses.{raised, alignAllocation};
+ghost use Rattle.model.specs.Calls.{goodRequest};
+ghost use Rattle.native_ms.specs.Raised.{raisedTo};
+
+// A size raised by `get_maximum_aligned_size`, if a block can hold it. A sum past 2^64 is no size.
+pub(crate) enum Raised {
+    Fits(usize),
+    TooBig,
+}
+
+pub(crate) fn get_maximum_aligned_size(p: Params, size: usize, align: usize) -> Raised
+    ensures { λ r. ⌜ r ≡ raisedTo p size align ⌝ }
+{
+    let min = p.min;
+    let bytes = p.bytes;
+    if bytes < size {
+        return Raised::TooBig;
+    }
+    if align <= min {
+        return Raised::Fits(size);
+    }
+    if bytes - size < align - min {
+        return Raised::TooBig;
+    }
+    Raised::Fits(size + (align - min))
+}
+
+// The least address from region on that is a multiple of align once offset is added.
+pub(crate) fn align_allocation(region: usize, align: usize, offset: usize) -> usize
+    requires { ⌜ (0 < align) × (align ≤ 64) × (region < 2 ^ 48) × (offset ≤ 65536) ⌝ }
+    ensures { λ r. ⌜ r ≡ alignAllocation region align offset ⌝ }
+{
+    region + (align - (region + offset) % align) % align
+}
+
+// Whether size, align and offset may be asked for.
+pub(crate) fn good_request(p: Params, size: usize, align: usize, offset: usize) -> bool
+    requires { ⌜ goodParams p ≡ true ⌝ }
+    ensures { λ r. ⌜ r ≡ goodRequest p size align offset ⌝ }
+{
+    let min = p.min;
+    let max = p.max;
+    if size % min != 0 {
+        return false;
+    }
+    if offset % min != 0 {
+        return false;
+    }
+    if 65536 < offset {
+        return false;
+    }
+    params::power_between(align, min, max)
+}

@@ -1,0 +1,95 @@
+// Size classes: the cell sizes of the bins, and the bin of a size.
+ghost use mathlib.Core.Path.{_≡_};
+ghost use Prim.Native.Nat.{ℕ, _+_, _-_, _*_, _/_, _^_, _<_, _≤_};
+ghost use Rattle.model.specs.declared.Params.{Params};
+ghost use Rattle.model.specs.SizeClasses.{wordsIn, highestBit, binInOctave, cellBytes, binOf};
+
+// The cell sizes of bins 0 to 48, in words: each next four twice the four before.
+const CLASS_WORDS: [usize; 49] = [
+    1,
+    1,
+    2,
+    3,
+    4,
+    5,
+    6,
+    7,
+    8,
+    10,
+    12,
+    14,
+    16,
+    20,
+    24,
+    28,
+    32,
+    40,
+    48,
+    56,
+    64,
+    80,
+    96,
+    112,
+    128,
+    160,
+    192,
+    224,
+    256,
+    320,
+    384,
+    448,
+    512,
+    640,
+    768,
+    896,
+    1024,
+    1280,
+    1536,
+    1792,
+    2048,
+    2560,
+    3072,
+    3584,
+    4096,
+    5120,
+    6144,
+    7168,
+    8192,
+];
+
+// The cell size of a bin in bytes; 0 past the last bin.
+pub fn class_bytes(bin: usize) -> usize
+    ensures { λ r. ⌜ ((p : Params) → r ≡ cellBytes p bin) ⌝ }
+{
+    if bin < 49 {
+        return CLASS_WORDS[bin] * 8;
+    }
+    0
+}
+
+// The bin of n + 1 words, past eight: the position of the highest one bit picks the octave.
+fn bin_in_octave(n: usize) -> usize
+    requires { ⌜ (8 ≤ n) × (n < 8192) ⌝ }
+    ensures { λ r. ⌜ r ≡ binInOctave n ⌝ }
+{
+    let zeros = usize::leading_zeros(n);
+    let b = 63 - zeros as usize;
+    b * 4 + ((n >> (b - 2)) & 3) - 3
+}
+
+// The bin of a size in bytes; 0 past 65,536, where there is none.
+pub fn mi_bin_from_size(size: usize) -> usize
+    ensures { λ r. ⌜ ((p : Params) → r ≡ binOf p size) ⌝ }
+{
+    if 65536 < size {
+        return 0;
+    }
+    let words = (size + 7) / 8;
+    if words <= 1 {
+        return 1;
+    }
+    if words <= 8 {
+        return words;
+    }
+    bin_in_octave(words - 1)
+}

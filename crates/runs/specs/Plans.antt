@@ -1,0 +1,409 @@
+-- Every call's plan keeps the invariant of a run. Alloc's is in AllocPlan.antt.
+use mathlib.Core.Path.{_≡_, refl, sym, ap, _∙_, subst}
+use mathlib.Core.Logic.{_≢_, _⊎_, inl, inr, ⊎-elim}
+use mathlib.Core.Bool.{Bool, true, false, not, _&&_, _||_}
+use mathlib.Core.List.{List, [], _∷_, _++_, map}
+use Prim.Native.Nat.{ℕ, zero, suc, _+_, _-_, _*_, _/_, _%_, _≤_, _<_}
+use native.Mathlib.Omega.{arith}
+use native.Mathlib.Decide.{ℕ-discrete, decLt}
+use lib.Dec.{eqb, ltb, leb}
+use lib.ListN.{length, getD, set, length-set, length-map, List·getD-eq-default, List·getD-map, replicate, length-replicate}
+use lib.Seq.{getD-set-same, getD-set-other}
+use borrow.Author.Tests.{eqb-true, eqb-false, eq-eqb, ne-eqb, not-true, not-false, ltb-true, leb-true}
+use Rattle.model.specs.declared.Params.{Params}
+use Rattle.model.specs.declared.Refusal.{Refusal}
+use Rattle.model.specs.declared.Refusal.the-variants.{BadSetup, BadTables, WrongPhase, BadHolder, BadRequest, TooBig, BadOffer, BadLink, Exhausted, BadObject, BadLine}
+use Rattle.model.specs.Base.{if_then_else_, In, Pairwise, member, eachBelow, flag}
+use Rattle.model.specs.Params.{start, blockAt, inHeap, heapBytes, minusLower, listWord, listOf, localSets, abandoned, inGc, available, unswept, consumed, bins}
+use Rattle.model.specs.Memory.{marked, setMark, cleared}
+use Rattle.model.specs.Tables.{Words, Tables, tablesOf, withWords, setBound, setReleased, setPhase, withReleased, setFree, setSize, setNext, setPrev, setList, setTls}
+use Rattle.model.specs.BlockList.{append, remove, relabel, link}
+use Rattle.model.specs.Block.{Marked, Unmarked, clearBlock}
+use Rattle.model.specs.Events.{Event, released, eventHeap, eventsHeap}
+use Rattle.model.specs.Global.{bindHolder, destroyHolder, abandonBin, abandonBlocks, unmarkedState, prepared, markPlace, Freed, freed, afterRelease, releaseFrom, releaseBlocks, appendTo, releaseBin, releaseHolder, sweepLaterBin, sweepLater, mergeBin, merge, partReleased, allReleased}
+use Rattle.model.specs.Calls.{refusalNumber, Reply, answered, refused, Call, bind, destroy, alloc, prepare, mark, release, sharedRelease, End, says, takes, Plan, refuses, changes, goodObject}
+use Rattle.model.specs.Sound.{stateOf}
+use Rattle.model.specs.Runs.{Cell, Book, aged, bookEvent, bookEvents, bookAnswer, takerOf, frees, entered, hits, unmarked}
+use Rattle.laws.specs.Base.{and-left, and-right, in-filter, if-true, if-false, if-cases, in-member, member-in, or-none, or-left, or-right, bool-cases, not-both}
+use Rattle.laws.specs.Params.{Bounds, blockAt-start, blockAt-within}
+use Rattle.laws.specs.Tables.{Sized, sized-same, kept-lengths, lengths}
+use Rattle.laws.specs.Memory as Mem
+use Rattle.laws.specs.Marks.{marked-cleared, length-setMark, length-cleared, bytes-setMark, bytes-cleared, marked-setMark}
+use Rattle.runs.specs.Frame.{LinksOnly, links-refl, links-trans, append-links, remove-links, each-keeps, FirstsBut, append-first, append-empties, append-none, remove-first}
+use Rattle.runs.specs.Inv.{Held, Placed, Core, set-cases, release-core, release-unmarked, in-range}
+use Rattle.runs.specs.Steps.{shadowEvent, shadowEvents, EventOk, EventsOk, no-events, more-events, events-append, heap-append, book-append, shadow-append}
+use Rattle.runs.specs.Search.{Settled, Idle, available-settled, consumed-settled, unswept-unsettled, available-low, unswept-low, consumed-low}
+
+-- no refusal has the number 0
+pub refusal-some : (r : Refusal) → eqb (refusalNumber r) 0 ≡ false
+unfolding refusalNumber
+refusal-some BadSetup = refl
+refusal-some BadTables = refl
+refusal-some WrongPhase = refl
+refusal-some BadHolder = refl
+refusal-some BadRequest = refl
+refusal-some TooBig = refl
+refusal-some BadOffer = refl
+refusal-some BadLink = refl
+refusal-some Exhausted = refl
+refusal-some BadObject = refl
+refusal-some BadLine = refl
+
+-- ---- cells made old
+
+in-aged : (cs : List Cell) (c : Cell) → In c (map aged cs) → (d : Cell) × In d cs × (c ≡ aged d)
+unfolding In
+in-aged [] c m = absurd m
+in-aged (x ∷ cs) c (inl e) = (x, inl refl, e)
+in-aged (x ∷ cs) c (inr m) = let z = in-aged cs c m in (z .0, inr (z .1), z .2)
+
+apart-aged : (cs : List Cell) → Pairwise (λ c d. c .start ≢ d .start) cs → Pairwise (λ c d. c .start ≢ d .start) (map aged cs)
+unfolding Pairwise
+apart-aged [] a = tt
+apart-aged (x ∷ cs) a =
+    ((λ y m. let z = in-aged cs y m in λ e. a .0 (z .0) (z .1) (e ∙ ap (λ (c : Cell). c .start) (z .2))), apart-aged cs (a .1))
+
+-- a block that is occupied stays so
+still-occupied : (st : List ℕ) (b : ℕ) → getD st b 0 ≢ 0 → getD (map unmarkedState st) b 0 ≢ 0
+unfolding unmarkedState
+still-occupied st b ne e =
+    absurd (omega (arith, sym e ∙ List·getD-map unmarkedState st b 0 ∙ if-false (eqb (getD st b 0) 0) 0 255 (ne-eqb _ _ ne)))
+
+-- the book after a call that ends so
+unfoldable pub bookFor : Call → End → Book → Book
+bookFor c (says r) bk = if eqb (r .number) 0 then bookAnswer c bk else bk
+bookFor c (takes b align offset fresh) bk = bk
+
+module _ (p : Params) (B : Bounds p) where
+  pub record Inv (t : Tables) (h : List ℕ) (sh : List (List ℕ)) (bk : Book) : Type 0 where
+    pub core : Core p (t .words .free) (t .words .size) (t .states) (t .marks) h sh bk
+    pub sized : Sized (p .blocks) (t .words)
+    -- a cell that is not old: no collection runs, and its block waits for no sweep
+    pub young : (c : Cell) → In c (bk .cells) → c .old ≡ false
+      → (t .words .phase ≡ 0) × Settled (getD (t .words .list) (blockAt p (c .start)) 0)
+    pub idle : Idle (t .words)
+
+  -- what a call that takes a cell needs: a block with a free one that waits for no sweep
+  pub data EndOk (t : Tables) (sh : List (List ℕ)) : End → Type 0 where
+    said : (r : Reply) → EndOk t sh (says r)
+    taking : (b align offset : ℕ) (fresh : Bool) (x : ℕ) (l : List ℕ) → b < p .blocks → getD (t .states) b 0 ≢ 0
+      → Settled (getD (t .words .list) b 0) → t .words .phase ≡ 0 → getD sh b [] ≡ x ∷ l
+      → EndOk t sh (takes b align offset fresh)
+
+  pub record Planned (t : Tables) (h : List ℕ) (sh : List (List ℕ)) (bk : Book) (c : Call) (q : Plan) : Type 0 where
+    pub events : EventsOk p B (takerOf c) (q .events) h bk
+    pub inv : Inv (q .tables) (eventsHeap p (q .events) h) (shadowEvents (q .events) sh)
+      (bookFor c (q .end) (bookEvents p (takerOf c) (q .events) bk))
+    pub end : EndOk (q .tables) (shadowEvents (q .events) sh) (q .end)
+
+  module _ (t : Tables) (h : List ℕ) (sh : List (List ℕ)) (bk : Book) (I : Inv t h sh bk) where
+    -- ---- refused
+
+    pub refuses-planned : (c : Call) (r : Refusal) → Planned t h sh bk c (refuses t r)
+    unfolding bookFor eventsHeap shadowEvents bookEvents
+    refuses-planned c r =
+        record {
+          events = no-events p B (takerOf c) h bk;
+          inv = rw (refusal-some r) I;
+          end = said (refused r)
+        }
+
+    -- ---- bind
+
+    pub bind-planned : (d : ℕ) → Planned t h sh bk (bind d) (changes (bindHolder d t) [])
+    unfolding bookFor bookAnswer eventsHeap shadowEvents bookEvents bindHolder setBound
+    bind-planned d =
+        record {
+          events = no-events p B _ h bk;
+          inv = record { core = I .core; sized = sized-same (simp kept-lengths) (I .sized); young = I .young; idle = I .idle };
+          end = said _
+        }
+
+    -- ---- prepare: every cell is old, no place and no mark is left
+
+    pub prepare-planned : Planned t h sh bk prepare (changes (prepared t) [])
+    unfolding bookFor bookAnswer eventsHeap shadowEvents bookEvents prepared setPhase member In
+    prepare-planned =
+        record {
+          events = no-events p B _ h bk;
+          inv =
+            record {
+              core =
+                record {
+                  heap = I .core .heap;
+                  free-length = I .core .free-length;
+                  sizes = I .core .sizes;
+                  states = length-map (t .states) unmarkedState ∙ I .core .states;
+                  markings = length-cleared (t .marks) ∙ I .core .markings;
+                  shadow = I .core .shadow;
+                  bytes = bytes-cleared (t .marks);
+                  words = I .core .words;
+                  blocks = I .core .blocks;
+                  held = λ c m. held-of c (in-aged (bk .cells) c m);
+                  off = λ c m k. off-of c (in-aged (bk .cells) c m) k;
+                  apart = apart-aged (bk .cells) (I .core .apart);
+                  marks = λ a e. marked-cleared p (t .marks) a;
+                  places = λ q m. absurd m
+                };
+              sized = sized-same (simp kept-lengths) (I .sized);
+              young = λ c m o. absurd (not-young c (in-aged (bk .cells) c m) o);
+              idle = I .idle
+            };
+          end = said _
+        }
+      where
+        held-of : (c : Cell) → (d : Cell) × In d (bk .cells) × (c ≡ aged d) → Held p (t .words .size) (map unmarkedState (t .states)) c
+        held-of c z =
+            let H = I .core .held (z .0) (z .1) in
+            subst (Held p (t .words .size) (map unmarkedState (t .states))) (sym (z .2))
+              (record { low = H .low; occupied = still-occupied (t .states) _ (H .occupied); whole = H .whole; size = H .size })
+        off-of : (c : Cell) → (d : Cell) × In d (bk .cells) × (c ≡ aged d) → In (c .start) (getD sh (blockAt p (c .start)) []) → ⊥
+        off-of c z k = I .core .off (z .0) (z .1) (subst (λ (x : Cell). In (x .start) (getD sh (blockAt p (x .start)) [])) (z .2) k)
+        not-young : (c : Cell) → (d : Cell) × In d (bk .cells) × (c ≡ aged d) → c .old ≡ false → ⊥
+        not-young c z o = not-both true refl (sym (ap (λ (x : Cell). x .old) (z .2)) ∙ o)
+
+    -- ---- mark
+
+    module _ (place b : ℕ) (good : goodObject p t place b ≡ true) where
+      abbrev A : Bool
+      A = inHeap p place && eqb (place % 8) 0
+
+      abbrev C : Bool
+      C = ltb b (p .blocks) && not (eqb (stateOf t b) 0)
+
+      abbrev E : Bool
+      E = leb (start p b) (minusLower p place) && ltb (minusLower p place) (start p b + p .bytes)
+
+      inside : inHeap p place ≡ true
+      unfolding goodObject
+      inside = and-left (inHeap p place) (eqb (place % 8) 0) (and-left A C (and-left (A && C) E good))
+
+      whole : place % 8 ≡ 0
+      unfolding goodObject
+      whole = eqb-true _ _ (and-right (inHeap p place) (eqb (place % 8) 0) (and-left A C (and-left (A && C) E good)))
+
+      low : b < p .blocks
+      unfolding goodObject
+      low = ltb-true _ _ (and-left (ltb b (p .blocks)) (not (eqb (stateOf t b) 0)) (and-right A C (and-left (A && C) E good)))
+
+      occ : getD (t .states) b 0 ≢ 0
+      unfolding goodObject stateOf
+      occ = eqb-false _ _ (not-true _ (and-right (ltb b (p .blocks)) (not (eqb (stateOf t b) 0)) (and-right A C (and-left (A && C) E good))))
+
+      block-is : blockAt p (minusLower p place) ≡ b
+      unfolding goodObject
+      block-is =
+          let e = and-right (A && C) E good in
+          let lo : start p b ≤ minusLower p place = leb-true _ _ (and-left (leb (start p b) (minusLower p place)) (ltb (minusLower p place) (start p b + p .bytes)) e) in
+          let hi : minusLower p place < start p b + p .bytes = ltb-true _ _ (and-right (leb (start p b) (minusLower p place)) (ltb (minusLower p place) (start p b + p .bytes)) e) in
+          ap (blockAt p) (omega arith) ∙ blockAt-within p B b (minusLower p place - start p b) low (omega arith)
+
+      pub mark-planned : Planned t h sh bk (mark place b) (changes (markPlace p place b t) (flag (not (marked p (t .marks) place)) ∷ []))
+      unfolding bookFor bookAnswer eventsHeap shadowEvents bookEvents markPlace member In
+      mark-planned =
+          record {
+            events = no-events p B _ h bk;
+            inv = ⊎-elim old-mark new-mark (bool-cases (marked p (t .marks) place));
+            end = said _
+          }
+        where
+          Bk : Book
+          Bk = record { cells = bk .cells; places = place ∷ bk .places }
+          old-mark : marked p (t .marks) place ≡ true → Inv (markPlace p place b t) h sh Bk
+          old-mark e =
+              rw e (record {
+                core = record {
+                  heap = I .core .heap;
+                  free-length = I .core .free-length;
+                  sizes = I .core .sizes;
+                  states = I .core .states;
+                  markings = I .core .markings;
+                  shadow = I .core .shadow;
+                  bytes = I .core .bytes;
+                  words = I .core .words;
+                  blocks = I .core .blocks;
+                  held = I .core .held;
+                  off = I .core .off;
+                  apart = I .core .apart;
+                  marks = λ a w. marks-old a w (ℕ-discrete a place);
+                  places = λ q m. ⊎-elim (λ z. subst (Placed p (t .states)) (sym z) (I .core .places place known)) (I .core .places q) m
+                };
+                sized = I .sized;
+                young = I .young;
+                idle = I .idle
+              })
+            where
+              known : In place (bk .places)
+              known = member-in place (bk .places) (sym (I .core .marks place whole) ∙ e)
+              marks-old : (a : ℕ) → a % 8 ≡ 0 → Dec (a ≡ place) → marked p (t .marks) a ≡ (eqb a place || member a (bk .places))
+              marks-old a w (yes y) = ap (marked p (t .marks)) y ∙ e ∙ sym (or-left (eqb a place) _ (eq-eqb _ _ y))
+              marks-old a w (no n) = rw (ne-eqb a place n) (I .core .marks a w)
+          new-mark : marked p (t .marks) place ≡ false → Inv (markPlace p place b t) h sh Bk
+          new-mark e =
+              rw e (record {
+                core = record {
+                  heap = I .core .heap;
+                  free-length = I .core .free-length;
+                  sizes = I .core .sizes;
+                  states = length-set (t .states) b Marked ∙ I .core .states;
+                  markings = length-setMark p (t .marks) place ∙ I .core .markings;
+                  shadow = I .core .shadow;
+                  bytes = bytes-setMark p (t .marks) place (I .core .bytes);
+                  words = I .core .words;
+                  blocks = I .core .blocks;
+                  held = λ c m. held-of c (I .core .held c m);
+                  off = I .core .off;
+                  apart = I .core .apart;
+                  marks = λ a w. marked-setMark p B (t .marks) place (I .core .bytes) (I .core .markings) inside whole a w ∙ ap (λ (x : Bool). eqb a place || x) (I .core .marks a w);
+                  places = λ q m. ⊎-elim
+                    (λ z. subst (Placed p (set (t .states) b Marked)) (sym z)
+                      (record { inside = inside; whole = whole; state = ap (λ (x : ℕ). getD (set (t .states) b Marked) x 0) block-is ∙ getD-set-same (t .states) b Marked 0 room }))
+                    (λ z. place-of q (I .core .places q z)) m
+                };
+                sized = I .sized;
+                young = I .young;
+                idle = I .idle
+              })
+            where
+              room : b < length (t .states)
+              room = omega (arith, low, I .core .states)
+              held-of : (c : Cell) → Held p (t .words .size) (t .states) c → Held p (t .words .size) (set (t .states) b Marked) c
+              held-of c H =
+                  record {
+                    low = H .low;
+                    occupied = ⊎-elim (λ z y. absurd (omega (arith, sym (z .1) ∙ y))) (λ z. rw (z .1) (H .occupied)) (set-cases (t .states) b Marked 0 (blockAt p (c .start)) room);
+                    whole = H .whole;
+                    size = H .size
+                  }
+              place-of : (q : ℕ) → Placed p (t .states) q → Placed p (set (t .states) b Marked) q
+              place-of q P =
+                  record {
+                    inside = P .inside;
+                    whole = P .whole;
+                    state = ⊎-elim (λ z. z .1) (λ z. z .1 ∙ P .state) (set-cases (t .states) b Marked 0 (blockAt p (minusLower p q)) room)
+                  }
+
+  -- ---- blocks are released: every cell is old by then
+
+  -- the invariant on the way through a release
+  pub record Freeing (hd : ℕ) (ms h : List ℕ) (sh : List (List ℕ)) (bk : Book) (f : Freed) : Type 0 where
+    pub events : EventsOk p B hd (f .events) h bk
+    pub core : Core p (f .words .free) (f .words .size) (f .states) ms (eventsHeap p (f .events) h) (shadowEvents (f .events) sh) (bookEvents p hd (f .events) bk)
+    pub sized : Sized (p .blocks) (f .words)
+    pub old : (c : Cell) → In c (bookEvents p hd (f .events) bk .cells) → c .old ≡ true
+
+  module _ (hd : ℕ) (ms : List ℕ) where
+    -- a release frees out every cell of its block, all of them unmarked and old
+    released-ok : (free size st h : List ℕ) (sh : List (List ℕ)) (bk : Book) → Core p free size st ms h sh bk → (b : ℕ) → getD st b 0 ≡ 255
+        → ((c : Cell) → In c (bk .cells) → c .old ≡ true) → EventOk p B hd (released b) h bk
+    unfolding eventHeap frees hits
+    released-ok free size st h sh bk I b un old =
+        record {
+          lost = λ c m. (both c m (ℕ-discrete (blockAt p (c .start)) b), λ s. old c m);
+          bytes = λ c m out k v. refl
+        }
+      where
+        both : (c : Cell) → In c (bk .cells) → Dec (blockAt p (c .start) ≡ b) → eqb (blockAt p (c .start)) b ≡ (eqb (blockAt p (c .start)) b && unmarked p bk c)
+        both c m (yes e) = rw (eq-eqb _ _ e, release-unmarked p B free size st ms h sh bk I b un hd c m e)
+        both c m (no f) = rw (ne-eqb _ _ f)
+
+    -- cells that were old are old after a release
+    old-after : (b : ℕ) (bk : Book) → ((c : Cell) → In c (bk .cells) → c .old ≡ true) → (c : Cell) → In c (bookEvent p hd (released b) bk .cells) → c .old ≡ true
+    unfolding bookEvent entered
+    old-after b bk old c m = old c (in-filter (λ (x : Cell). not (frees p (released b) x)) c (bk .cells) m .0)
+
+    abbrev From : ℕ → Type 0
+    From k = (l a : ℕ) (w : Words) (st h : List ℕ) (sh : List (List ℕ)) (bk : Book) → Core p (w .free) (w .size) st ms h sh bk → Sized (p .blocks) w
+        → ((c : Cell) → In c (bk .cells) → c .old ≡ true) → Freeing hd ms h sh bk (releaseFrom k p l a w st)
+
+    nothing-freed : (w : Words) (st h : List ℕ) (sh : List (List ℕ)) (bk : Book) → Core p (w .free) (w .size) st ms h sh bk → Sized (p .blocks) w
+        → ((c : Cell) → In c (bk .cells) → c .old ≡ true) → Freeing hd ms h sh bk (freed w st)
+    unfolding eventsHeap shadowEvents bookEvents
+    nothing-freed w st h sh bk I z old = record { events = no-events p B hd h bk; core = I; sized = z; old = old }
+
+    -- one block released, and then the rest
+    one-freed : (l b : ℕ) (w : Words) (st h : List ℕ) (sh : List (List ℕ)) (bk : Book) (I : Core p (w .free) (w .size) st ms h sh bk) → Sized (p .blocks) w
+        → ((c : Cell) → In c (bk .cells) → c .old ≡ true) → getD st b 0 ≡ 255 → (f : Freed)
+        → (Core p (clearBlock b (remove p l b w) .free) (clearBlock b (remove p l b w) .size) (set st b 0) ms h (set sh b []) (bookEvent p hd (released b) bk)
+          → Sized (p .blocks) (clearBlock b (remove p l b w)) → ((c : Cell) → In c (bookEvent p hd (released b) bk .cells) → c .old ≡ true)
+          → Freeing hd ms h (set sh b []) (bookEvent p hd (released b) bk) f)
+        → Freeing hd ms h sh bk (afterRelease b f)
+    unfolding eventsHeap shadowEvents bookEvents eventHeap shadowEvent clearBlock setTls setList setSize setFree setPrev setNext
+    one-freed l b w st h sh bk I z old un f next =
+        let L : LinksOnly w (remove p l b w) = remove-links p l b w (links-refl w) in
+        let F = next
+              (rw (L .free, L .size) (release-core p B (w .free) (w .size) st ms h sh bk I b un hd))
+              (sized-same (simp kept-lengths (L .lengths)) z)
+              (old-after b bk old) in
+        record {
+          events = more-events p B hd (released b) (f .events) h bk (released-ok (w .free) (w .size) st h sh bk I b un old) (F .events);
+          core = F .core;
+          sized = F .sized;
+          old = F .old
+        }
+
+    releases-from : (k : ℕ) → From k
+    unfolding releaseFrom
+    releases-from zero l a w st h sh bk I z old = nothing-freed w st h sh bk I z old
+    releases-from (suc k) l a w st h sh bk I z old = go (ℕ-discrete a 0) (ℕ-discrete (getD st (blockAt p a) 0) 255) (releases-from k l _ _ _ h _ _) (releases-from k l _ w st h sh bk I z old)
+      where
+        b : ℕ
+        b = blockAt p a
+        next : ℕ
+        next = getD (w .next) b 0
+        go : Dec (a ≡ 0) → Dec (getD st b 0 ≡ 255)
+            → (Core p (clearBlock b (remove p l b w) .free) (clearBlock b (remove p l b w) .size) (set st b 0) ms h (set sh b []) (bookEvent p hd (released b) bk)
+              → Sized (p .blocks) (clearBlock b (remove p l b w)) → ((c : Cell) → In c (bookEvent p hd (released b) bk .cells) → c .old ≡ true)
+              → Freeing hd ms h (set sh b []) (bookEvent p hd (released b) bk) (releaseFrom k p l next (clearBlock b (remove p l b w)) (set st b 0)))
+            → Freeing hd ms h sh bk (releaseFrom k p l next w st)
+            → Freeing hd ms h sh bk
+                (if eqb a 0 then freed w st
+                 else if eqb (getD st b 0) 255
+                      then afterRelease b (releaseFrom k p l next (clearBlock b (remove p l b w)) (set st b 0))
+                      else releaseFrom k p l next w st)
+        go (yes e) d f g = rw (eq-eqb _ _ e) (nothing-freed w st h sh bk I z old)
+        go (no n) (yes u) f g =
+            rw (ne-eqb _ _ n, eq-eqb _ _ u) (one-freed l b w st h sh bk I z old u (releaseFrom k p l next (clearBlock b (remove p l b w)) (set st b 0)) f)
+        go (no n) (no u) f g = rw (ne-eqb _ _ n, ne-eqb _ _ u) g
+
+    -- ---- rows of releases and appends
+
+    module _ (h : List ℕ) (sh : List (List ℕ)) (bk : Book) where
+      pub release-freeing : (l : ℕ) (f : Freed) → Freeing hd ms h sh bk f → Freeing hd ms h sh bk (releaseBlocks p l f)
+      unfolding releaseBlocks
+      release-freeing l f F =
+          let G : Freeing hd ms (eventsHeap p (f .events) h) (shadowEvents (f .events) sh) (bookEvents p hd (f .events) bk) (releaseFrom (p .blocks) p l (getD (f .words .first) l 0) (f .words) (f .states)) =
+                releases-from (p .blocks) l (getD (f .words .first) l 0) (f .words) (f .states) (eventsHeap p (f .events) h) (shadowEvents (f .events) sh) (bookEvents p hd (f .events) bk) (F .core) (F .sized) (F .old) in
+          let es : List Event = releaseFrom (p .blocks) p l (getD (f .words .first) l 0) (f .words) (f .states) .events in
+          record {
+            events = events-append p B hd (f .events) es h bk (F .events) (G .events);
+            core = rw (heap-append p B hd (f .events) es h, shadow-append p B hd (f .events) es sh, book-append p B hd (f .events) es bk) (G .core);
+            sized = G .sized;
+            old = rw (book-append p B hd (f .events) es bk) (G .old)
+          }
+
+      pub append-freeing : (l o : ℕ) (f : Freed) → Freeing hd ms h sh bk f → Freeing hd ms h sh bk (appendTo p l o f)
+      unfolding appendTo
+      append-freeing l o f F =
+          let L : LinksOnly (f .words) (append p l o (f .words)) = append-links p l o (f .words) (links-refl (f .words)) in
+          record {
+            events = F .events;
+            core = rw (L .free, L .size) (F .core);
+            sized = sized-same (L .lengths) (F .sized);
+            old = F .old
+          }
+
+      -- the holder's lists, and the abandoned ones
+      holder-freeing : (owner : ℕ) (f : Freed) → Freeing hd ms h sh bk f → Freeing hd ms h sh bk (eachBelow bins (releaseBin p owner) f)
+      unfolding releaseBin
+      holder-freeing owner f F = each-keeps (Freeing hd ms h sh bk) bins (releaseBin p owner)
+          (λ bin g G. append-freeing (unswept owner bin) (consumed owner bin) _ (release-freeing (consumed owner bin) _
+            (append-freeing (unswept owner bin) (available owner bin) _ (release-freeing (available owner bin) g G)))) f F
+
+      shared-freeing : (f : Freed) → Freeing hd ms h sh bk f → Freeing hd ms h sh bk (eachBelow bins (sweepLaterBin p) f)
+      unfolding sweepLaterBin
+      shared-freeing f F = each-keeps (Freeing hd ms h sh bk) bins (sweepLaterBin p)
+          (λ bin g G. append-freeing (unswept abandoned bin) (consumed abandoned bin) _
+            (append-freeing (unswept abandoned bin) (available abandoned bin) _
+            (release-freeing (unswept abandoned bin) _
+            (release-freeing (consumed abandoned bin) _ (release-freeing (available abandoned bin) g G))))) f F

@@ -1,0 +1,106 @@
+-- A row of events keeps the invariant: the shadow after events, and what is shown of them in order.
+use mathlib.Core.Path.{_≡_, refl, sym, ap, _∙_, subst}
+use mathlib.Core.Logic.{_≢_, _⊎_, inl, inr, ⊎-elim}
+use mathlib.Core.Bool.{Bool, true, false, not, _&&_, _||_}
+use mathlib.Core.List.{List, [], _∷_, _++_}
+use Prim.Native.Nat.{ℕ, _+_, _-_, _≤_, _<_}
+use native.Mathlib.Omega.{arith}
+use lib.ListN.{length, getD, set}
+use borrow.Author.Tests.{not-true, not-false}
+use Rattle.model.specs.declared.Params.{Params}
+use Rattle.model.specs.Base.{if_then_else_, In, any, filter}
+use Rattle.model.specs.Params.{blockAt}
+use Rattle.model.specs.Events.{Event, initialised, swept, released, taken, eventHeap, eventsHeap}
+use Rattle.model.specs.Runs.{Cell, Book, frees, entered, bookEvent, bookEvents, unmarked, covers, staysHeld, Unchanged, byteAt, hits, LostExactly}
+use Rattle.laws.specs.Base.{filter-in, or-none-left, or-none-right}
+use Rattle.laws.specs.Params.{Bounds}
+use Rattle.laws.specs.Memory as Mem
+use Rattle.laws.specs.Cells.{whole-from}
+use Rattle.runs.specs.Inv.{Held, Core}
+
+-- ---- the shadow
+
+unfoldable pub shadowEvent : Event → List (List ℕ) → List (List ℕ)
+shadowEvent (initialised b chain) sh = set sh b chain
+shadowEvent (swept b chain) sh = set sh b chain
+shadowEvent (released b) sh = set sh b []
+shadowEvent (taken a s) sh = sh
+
+unfoldable pub shadowEvents : List Event → List (List ℕ) → List (List ℕ)
+shadowEvents [] sh = sh
+shadowEvents (e ∷ es) sh = shadowEvents es (shadowEvent e sh)
+
+-- ---- one event
+
+module _ (p : Params) (B : Bounds p) (hd : ℕ) where
+  -- what is shown of an event, at the heap and the book before it
+  pub record EventOk (e : Event) (h : List ℕ) (bk : Book) : Type 0 where
+    pub lost : (c : Cell) → In c (bk .cells) → (frees p e c ≡ (hits p e c && unmarked p bk c)) × (frees p e c ≡ true → c .old ≡ true)
+    pub bytes : (c : Cell) → In c (bk .cells) → frees p e c ≡ false → (k : ℕ) → covers c k → byteAt p (eventHeap p e h) k ≡ byteAt p h k
+
+  -- bytes by addresses, from bytes by places
+  pub same-bytes : (size st h h′ : List ℕ) (c : Cell) → Held p size st c → Mem.Same h h′ (c .start - p .base) (c .size) → (k : ℕ) → covers c k → byteAt p h′ k ≡ byteAt p h k
+  unfolding covers
+  same-bytes size st h h′ c H s k v =
+      sym (s (k - p .base) (omega (arith, v .0)) (omega (arith, v .0, v .1, whole-from p B _ _ _ (H .low) (H .whole))))
+
+  -- a cell that is not struck out stays in the book
+  enters : (e : Event) (c : Cell) (cs : List Cell) → In c cs → In c (entered hd e cs)
+  unfolding entered In
+  enters (initialised b chain) c cs m = m
+  enters (swept b chain) c cs m = m
+  enters (released b) c cs m = m
+  enters (taken a s) c cs m = inr m
+
+  pub stays : (e : Event) (bk : Book) (c : Cell) → In c (bk .cells) → frees p e c ≡ false → In c (bookEvent p hd e bk .cells)
+  unfolding bookEvent
+  stays e bk c m s = enters e c _ (filter-in (λ (x : Cell). not (frees p e x)) c (bk .cells) m (ap not s))
+
+  -- ---- events in order
+
+  unfoldable pub EventsOk : List Event → List ℕ → Book → Type 0
+  EventsOk [] h bk = Unit {0}
+  EventsOk (e ∷ es) h bk = (EventOk e h bk × EventsOk es (eventHeap p e h) (bookEvent p hd e bk))
+
+  pub no-events : (h : List ℕ) (bk : Book) → EventsOk [] h bk
+  unfolding EventsOk
+  no-events h bk = tt
+
+  pub more-events : (e : Event) (es : List Event) (h : List ℕ) (bk : Book) → EventOk e h bk → EventsOk es (eventHeap p e h) (bookEvent p hd e bk) → EventsOk (e ∷ es) h bk
+  unfolding EventsOk
+  more-events e es h bk o r = (o, r)
+
+  pub events-append : (es fs : List Event) (h : List ℕ) (bk : Book) → EventsOk es h bk → EventsOk fs (eventsHeap p es h) (bookEvents p hd es bk) → EventsOk (es ++ fs) h bk
+  unfolding EventsOk eventsHeap bookEvents
+  events-append [] fs h bk o r = r
+  events-append (e ∷ es) fs h bk o r = (o .0, events-append es fs (eventHeap p e h) (bookEvent p hd e bk) (o .1) r)
+
+  pub heap-append : (es fs : List Event) (h : List ℕ) → eventsHeap p (es ++ fs) h ≡ eventsHeap p fs (eventsHeap p es h)
+  unfolding eventsHeap
+  heap-append [] fs h = refl
+  heap-append (e ∷ es) fs h = heap-append es fs (eventHeap p e h)
+
+  pub book-append : (es fs : List Event) (bk : Book) → bookEvents p hd (es ++ fs) bk ≡ bookEvents p hd fs (bookEvents p hd es bk)
+  unfolding bookEvents
+  book-append [] fs bk = refl
+  book-append (e ∷ es) fs bk = book-append es fs (bookEvent p hd e bk)
+
+  pub shadow-append : (es fs : List Event) (sh : List (List ℕ)) → shadowEvents (es ++ fs) sh ≡ shadowEvents fs (shadowEvents es sh)
+  unfolding shadowEvents
+  shadow-append [] fs sh = refl
+  shadow-append (e ∷ es) fs sh = shadow-append es fs (shadowEvent e sh)
+
+  -- the two clauses of demand 3 that speak of events
+  pub events-lost : (es : List Event) (h : List ℕ) (bk : Book) → EventsOk es h bk → LostExactly p hd es bk
+  unfolding EventsOk LostExactly
+  events-lost [] h bk o = tt
+  events-lost (e ∷ es) h bk o = (o .0 .lost, events-lost es (eventHeap p e h) (bookEvent p hd e bk) (o .1))
+
+  pub events-unchanged : (es : List Event) (h : List ℕ) (bk : Book) → EventsOk es h bk → Unchanged p bk es h (eventsHeap p es h)
+  unfolding EventsOk Unchanged eventsHeap staysHeld any
+  events-unchanged [] h bk o = λ c m s k v. refl
+  events-unchanged (e ∷ es) h bk o = λ c m s k v.
+      let q = not-true _ s in
+      let here : frees p e c ≡ false = or-none-left (frees p e c) _ q in
+      events-unchanged es (eventHeap p e h) (bookEvent p hd e bk) (o .1) c (stays e bk c m here) (ap not (or-none-right (frees p e c) _ q)) k v
+      ∙ o .0 .bytes c m here k v

@@ -1,0 +1,1 @@
+// Theorems about whole runs of the machine: demand 3. No code.

@@ -1,0 +1,19 @@
+-- `tables::set_free` writes its block table. Leans on `view-free`.
+use mathlib.Core.Path.{_∙_, ap}
+use Rattle.model.specs.Tables.{view}
+use Rattle.laws.specs.Tables.{view-free}
+use borrow.Author.Needs.{needs}
+use Rattle.words.proofs.tables.set_free.Statement.{statement}
+use Rattle.words.proofs.tables.set_free.Tie as tie
+
+put-block-word-requires : tie.Need-put-block-word-requires
+put-block-word-requires c κs = search needs
+
+same-length : tie.Need-same-length
+same-length c = search needs
+
+returns : tie.Need-returns
+returns c = ap view (c .before .before .put-block-word .ensures) ∙ view-free _ _ _
+
+pub set-free-spec : {M : Type 1} → statement M
+set-free-spec = tie.close (tie.spec put-block-word-requires same-length returns)

@@ -1,0 +1,205 @@
+// The table words: all tables in one slice, in the order of `view`. Each access tests its index; past the end of a table
+// there is a 0, and nothing is written.
+ghost use mathlib.Core.Path.{_≡_};
+ghost use Prim.Native.Nat.{_+_, _*_, _<_};
+ghost use lib.ListN.{length, getD};
+ghost use Rattle.model.specs.Tables.{view, part, blocksIn, blockTable, setFirst, setLast, setBound, setReleased, setNext, setPrev, setFree, setSize, setList, setTls, setPhase};
+ghost use Rattle.laws.specs.Tables.{putIn};
+
+// How many blocks the words are for.
+pub fn blocks(w: &[usize]) -> usize
+    ensures { λ r. ⌜ r ≡ blocksIn (now (w .entry)) ⌝ }
+{
+    if w.len() < 2958 {
+        0
+    } else {
+        (w.len() - 2958) / 6
+    }
+}
+
+// The word i of the k words from o on.
+fn word(w: &[usize], o: usize, k: usize, i: usize) -> usize
+    ensures { λ r. ⌜ r ≡ getD (part o k (now (w .entry))) i 0 ⌝ }
+{
+    if i < k {
+        if o < w.len() {
+            if i < w.len() - o {
+                return w[o + i];
+            }
+        }
+    }
+    0
+}
+
+fn put(w: &mut [usize], o: usize, k: usize, i: usize, v: usize)
+    ensures { λ _. ⌜ now (w .exit) ≡ putIn o k i v (now (w .entry)) ⌝ }
+{
+    if i < k {
+        if o < w.len() {
+            if i < w.len() - o {
+                w[o + i] = v;
+            }
+        }
+    }
+}
+
+// The word of the block i in the j-th block table.
+fn block_word(w: &[usize], j: usize, i: usize) -> usize
+    requires { ⌜ j < 6 ⌝ }
+    ensures { λ r. ⌜ r ≡ getD (blockTable (blocksIn (now (w .entry))) j (now (w .entry))) i 0 ⌝ }
+{
+    let n = blocks(w);
+    word(w, 2958 + j * n, n, i)
+}
+
+fn put_block_word(w: &mut [usize], j: usize, i: usize, v: usize)
+    requires { ⌜ j < 6 ⌝ }
+    ensures { λ _. ⌜ now (w .exit) ≡ putIn (2958 + j * blocksIn (now (w .entry))) (blocksIn (now (w .entry))) i v (now (w .entry)) ⌝ }
+{
+    let n = blocks(w);
+    put(w, 2958 + j * n, n, i, v);
+}
+
+// 0 Running, 1 Marking, 2 Releasing.
+pub fn phase(w: &[usize]) -> usize
+    ensures { λ r. ⌜ r ≡ view (now (w .entry)) .phase ⌝ }
+{
+    word(w, 2940, 1, 0)
+}
+
+// The phase is one word and no list, so the store is promised only where the word is there.
+pub fn set_phase(w: &mut [usize], v: usize)
+    ensures { λ _. ⌜ (2940 < length (now (w .entry)) → view (now (w .exit)) ≡ setPhase v (view (now (w .entry)))) ⌝ }
+{
+    put(w, 2940, 1, 0, v);
+}
+
+// Of the list i: its first block, by start address.
+pub fn first(w: &[usize], i: usize) -> usize
+    ensures { λ r. ⌜ r ≡ getD (view (now (w .entry)) .first) i 0 ⌝ }
+{
+    word(w, 0, 1470, i)
+}
+
+pub fn set_first(w: &mut [usize], i: usize, v: usize)
+    ensures { λ _. ⌜ view (now (w .exit)) ≡ setFirst i v (view (now (w .entry))) ⌝ }
+{
+    put(w, 0, 1470, i, v);
+}
+
+// Its last block.
+pub fn last(w: &[usize], i: usize) -> usize
+    ensures { λ r. ⌜ r ≡ getD (view (now (w .entry)) .last) i 0 ⌝ }
+{
+    word(w, 1470, 1470, i)
+}
+
+pub fn set_last(w: &mut [usize], i: usize, v: usize)
+    ensures { λ _. ⌜ view (now (w .exit)) ≡ setLast i v (view (now (w .entry))) ⌝ }
+{
+    put(w, 1470, 1470, i, v);
+}
+
+// Whether the holder i + 1 is bound, as 1 or 0.
+pub fn bound(w: &[usize], i: usize) -> usize
+    ensures { λ r. ⌜ r ≡ getD (view (now (w .entry)) .bound) i 0 ⌝ }
+{
+    word(w, 2941, 8, i)
+}
+
+pub fn set_bound(w: &mut [usize], i: usize, v: usize)
+    ensures { λ _. ⌜ view (now (w .exit)) ≡ setBound i v (view (now (w .entry))) ⌝ }
+{
+    put(w, 2941, 8, i, v);
+}
+
+// Whether the holder i, or at 0 the shared part, has released in this collection.
+pub fn released(w: &[usize], i: usize) -> usize
+    ensures { λ r. ⌜ r ≡ getD (view (now (w .entry)) .released) i 0 ⌝ }
+{
+    word(w, 2949, 9, i)
+}
+
+pub fn set_released(w: &mut [usize], i: usize, v: usize)
+    ensures { λ _. ⌜ view (now (w .exit)) ≡ setReleased i v (view (now (w .entry))) ⌝ }
+{
+    put(w, 2949, 9, i, v);
+}
+
+// Of the block i: the next on its list, by start address.
+pub fn next(w: &[usize], i: usize) -> usize
+    ensures { λ r. ⌜ r ≡ getD (view (now (w .entry)) .next) i 0 ⌝ }
+{
+    block_word(w, 0, i)
+}
+
+pub fn set_next(w: &mut [usize], i: usize, v: usize)
+    ensures { λ _. ⌜ view (now (w .exit)) ≡ setNext i v (view (now (w .entry))) ⌝ }
+{
+    put_block_word(w, 0, i, v);
+}
+
+// The previous on its list.
+pub fn prev(w: &[usize], i: usize) -> usize
+    ensures { λ r. ⌜ r ≡ getD (view (now (w .entry)) .prev) i 0 ⌝ }
+{
+    block_word(w, 1, i)
+}
+
+pub fn set_prev(w: &mut [usize], i: usize, v: usize)
+    ensures { λ _. ⌜ view (now (w .exit)) ≡ setPrev i v (view (now (w .entry))) ⌝ }
+{
+    put_block_word(w, 1, i, v);
+}
+
+// The head of its free chain.
+pub fn free(w: &[usize], i: usize) -> usize
+    ensures { λ r. ⌜ r ≡ getD (view (now (w .entry)) .free) i 0 ⌝ }
+{
+    block_word(w, 2, i)
+}
+
+pub fn set_free(w: &mut [usize], i: usize, v: usize)
+    ensures { λ _. ⌜ view (now (w .exit)) ≡ setFree i v (view (now (w .entry))) ⌝ }
+{
+    put_block_word(w, 2, i, v);
+}
+
+// Its cell size.
+pub fn size(w: &[usize], i: usize) -> usize
+    ensures { λ r. ⌜ r ≡ getD (view (now (w .entry)) .size) i 0 ⌝ }
+{
+    block_word(w, 3, i)
+}
+
+pub fn set_size(w: &mut [usize], i: usize, v: usize)
+    ensures { λ _. ⌜ view (now (w .exit)) ≡ setSize i v (view (now (w .entry))) ⌝ }
+{
+    put_block_word(w, 3, i, v);
+}
+
+// The word that names its list.
+pub fn list(w: &[usize], i: usize) -> usize
+    ensures { λ r. ⌜ r ≡ getD (view (now (w .entry)) .list) i 0 ⌝ }
+{
+    block_word(w, 4, i)
+}
+
+pub fn set_list(w: &mut [usize], i: usize, v: usize)
+    ensures { λ _. ⌜ view (now (w .exit)) ≡ setList i v (view (now (w .entry))) ⌝ }
+{
+    put_block_word(w, 4, i, v);
+}
+
+// Its holder.
+pub fn tls(w: &[usize], i: usize) -> usize
+    ensures { λ r. ⌜ r ≡ getD (view (now (w .entry)) .tls) i 0 ⌝ }
+{
+    block_word(w, 5, i)
+}
+
+pub fn set_tls(w: &mut [usize], i: usize, v: usize)
+    ensures { λ _. ⌜ view (now (w .exit)) ≡ setTls i v (view (now (w .entry))) ⌝ }
+{
+    put_block_word(w, 5, i, v);
+}

@@ -1,0 +1,831 @@
+#!/usr/bin/env python3
+"""Document 01 read as a program: a driver of the script language.
+
+Reads a script on standard input and prints its answers.  It is written from
+document 01, in the order of its headings; only what 01 leaves to the Rust
+(the order of list moves, the list words they change) is taken from there.
+It is a third opinion beside the Rust and the port, so it is plain before it
+is fast.  Blocks are numbers from 0; links, heads and cells are addresses.
+"""
+import re
+import sys
+from bisect import bisect_left
+
+WORD = 8
+PAGE = 4096
+LIMIT = 2 ** 64
+
+RUNNING, MARKING, RELEASING = 0, 1, 2
+UNALLOCATED, UNMARKED, MARKED = 0, 255, 254
+
+BAD_SETUP, BAD_TABLES, WRONG_PHASE, BAD_HOLDER, BAD_REQUEST = 1, 2, 3, 4, 5
+TOO_BIG, BAD_OFFER, BAD_LINK, EXHAUSTED, BAD_OBJECT = 6, 7, 8, 9, 10
+
+
+class Refused(Exception):
+    """A refused call: its number is all that it returns."""
+
+    def __init__(self, number):
+        super().__init__(number)
+        self.number = number
+
+
+def refuse_unless(fine, number):
+    if not fine:
+        raise Refused(number)
+
+
+def is_power_of_two(n):
+    return n > 0 and n & (n - 1) == 0
+
+
+# ---- What must change shape: parameters and list numbers
+
+class Parameters:
+    """The VM constants and the sizes of the heap."""
+
+    def __init__(self, base, log_block_bytes, blocks, least, most,
+                 use_offset, unified, lower_bound):
+        self.base = base
+        self.block_bytes = 1 << log_block_bytes
+        self.blocks = blocks
+        self.least = least              # MIN_ALIGNMENT
+        self.most = most                # MAX_ALIGNMENT
+        self.use_offset = use_offset
+        self.unified = unified
+        self.lower_bound = lower_bound  # L
+        self.end = base + blocks * self.block_bytes
+
+    def fit(self):
+        """Whether set-up takes them; it answers BadSetup otherwise."""
+        return (4096 <= self.block_bytes <= 65536
+                and 1 <= self.blocks <= 1024
+                and self.base > 0 and self.base % self.block_bytes == 0
+                and self.end <= 2 ** 47
+                and self.least in (4, 8)
+                and is_power_of_two(self.most)
+                and self.least <= self.most <= 64
+                and self.lower_bound % 8 == 0
+                and -64 <= self.lower_bound <= 64
+                and not (self.unified and self.lower_bound != 0))
+
+    def simple(self):
+        """Whether `sweep` chooses the simple one."""
+        return (not self.use_offset and self.least == self.most
+                and self.unified)
+
+
+BINS = 49
+SETS = 30
+LISTS = SETS * BINS
+AVAILABLE, UNSWEPT, CONSUMED = 0, 1, 2
+ABANDONED, IN_GC = 9, 10    # owners of lists after the holders 1 to 8
+
+
+def set_of(owner, kind):
+    return 3 * (owner - 1) + kind
+
+
+def list_number(owner, kind, bin):
+    return 1 + BINS * set_of(owner, kind) + bin
+
+
+def owner_of(number):
+    return (number - 1) // (3 * BINS) + 1
+
+
+def bin_of_list(number):
+    return (number - 1) % BINS
+
+
+# ---- Size classes
+
+def class_sizes():
+    """Cell sizes in bytes: 1, then 1 to 8, then fours that double."""
+    words = [1] + list(range(1, 9))
+    four = [10, 12, 14, 16]
+    while len(words) < BINS:
+        words += four
+        four = [2 * w for w in four]
+    return [WORD * w for w in words]
+
+
+CELL_SIZES = class_sizes()
+
+
+def bin_from_size(size):
+    """The least bin from 1 on whose cell holds the size; None past the last.
+
+    01 gives the octave rule of `mi_bin_from_size`; the self-test compares
+    both for every size."""
+    bin = bisect_left(CELL_SIZES, size, 1)
+    return bin if bin < BINS else None
+
+
+def maximum_aligned_size(p, size, align):
+    return size + align - p.least if align > p.least else size
+
+
+def align_allocation(region, align, offset):
+    return region + -(region + offset) % align
+
+
+# ---- Heap: the lent bytes
+
+class Heap:
+    """The arena, read and written by address."""
+
+    def __init__(self, base, length, seed):
+        self.base = base
+        self.bytes = filled(length, seed)
+        # The hash before each page, as far as nothing was written since.
+        self.hashes = [14695981039346656037]
+
+    def touch(self, address):
+        del self.hashes[(address - self.base) // PAGE + 1:]
+
+    def load(self, address):
+        at = address - self.base
+        return int.from_bytes(self.bytes[at:at + WORD], 'little')
+
+    def store(self, address, value):
+        at = address - self.base
+        self.bytes[at:at + WORD] = value.to_bytes(WORD, 'little')
+        self.touch(address)
+
+    def zero(self, address, length):
+        at = address - self.base
+        self.bytes[at:at + length] = bytes(length)
+        self.touch(address)
+
+    def hash(self):
+        """FNV-1a over all bytes."""
+        for start in range(PAGE * (len(self.hashes) - 1),
+                           len(self.bytes), PAGE):
+            h = self.hashes[-1]
+            for byte in self.bytes[start:start + PAGE]:
+                h = (h ^ byte) * 1099511628211 % LIMIT
+            self.hashes.append(h)
+        return self.hashes[-1]
+
+
+def filled(length, seed):
+    if seed == 0:
+        return bytearray(length)
+    out = bytearray(length)
+    x = seed
+    for i in range(length):
+        x = (x * 6364136223846793005 + 1442695040888963407) % LIMIT
+        out[i] = x >> 56
+    return out
+
+
+# ---- Tables, block lists, blocks
+
+class Space:
+    """All tables and the heap, with the calls on them.
+
+    `events` holds what the last call did, in order: ('init', block),
+    ('sweep', block, freed cells), ('release', block), ('take', cell, size).
+    The counts of the answers are counts of events."""
+
+    def __init__(self, p, seed=0):
+        """Set-up: zero tables and marks, Running, no holder bound."""
+        self.p = p
+        n = p.blocks
+        self.state = [UNALLOCATED] * n
+        self.next = [0] * n
+        self.prev = [0] * n
+        self.free = [0] * n
+        self.size = [0] * n
+        self.list = [0] * n
+        self.tls = [0] * n
+        self.first = [0] * (LISTS + 1)      # by list number, from 1
+        self.last = [0] * (LISTS + 1)
+        length = n * p.block_bytes
+        self.marks = bytearray(length // 64)
+        self.heap = Heap(p.base, length, seed)
+        self.phase = RUNNING
+        self.bound = 0                      # bit h for holder h
+        self.released = 0                   # bit 0 for the shared part
+        self.events = []
+
+    # Blocks and addresses
+
+    def start(self, b):
+        return self.p.base + b * self.p.block_bytes
+
+    def block_at(self, address):
+        """The block that starts there, or None."""
+        b, rest = divmod(address - self.p.base, self.p.block_bytes)
+        return b if rest == 0 and 0 <= b < self.p.blocks else None
+
+    def is_whole_cell(self, b, address):
+        at = address - self.start(b)
+        size = self.size[b]
+        return at >= 0 and at % size == 0 and at + size <= self.p.block_bytes
+
+    def whole_cells(self, b):
+        """Starts of the whole cells, ascending; a short tail is none."""
+        size = self.size[b]
+        count = self.p.block_bytes // size
+        return range(self.start(b), self.start(b) + count * size, size)
+
+    def has_free_cells(self, b):
+        return self.free[b] != 0
+
+    # The four list operations, with the list words the Rust changes
+
+    def push(self, l, b):
+        head = self.first[l]
+        self.next[b] = head
+        self.prev[b] = 0
+        if head == 0:
+            self.last[l] = self.start(b)
+        else:
+            self.prev[self.block_at(head)] = self.start(b)
+        self.first[l] = self.start(b)
+        self.list[b] = l
+
+    def pop(self, l):
+        """The head, taken off, or None. It keeps its list word."""
+        if self.first[l] == 0:
+            return None
+        b = self.block_at(self.first[l])
+        if self.next[b] == 0:
+            self.first[l] = self.last[l] = 0
+        else:
+            self.first[l] = self.next[b]
+            follower = self.block_at(self.next[b])
+            self.prev[follower] = 0
+            self.list[follower] = l
+        self.next[b] = self.prev[b] = 0
+        return b
+
+    def remove(self, l, b):
+        """The block's own words stay: its release clears them."""
+        before, after = self.prev[b], self.next[b]
+        if before == 0:
+            self.first[l] = after
+        else:
+            self.next[self.block_at(before)] = after
+        if after == 0:
+            self.last[l] = before
+        else:
+            self.prev[self.block_at(after)] = before
+        # A neighbour that became an end gets the list word stored anew.
+        if before == 0 and after != 0:
+            self.list[self.block_at(after)] = l
+        if before != 0 and after == 0:
+            self.list[self.block_at(before)] = l
+
+    def append(self, l, other):
+        if self.first[other] == 0:
+            return
+        if self.first[l] == 0:
+            self.first[l] = self.first[other]
+        else:
+            self.next[self.block_at(self.last[l])] = self.first[other]
+            self.prev[self.block_at(self.first[other])] = self.last[l]
+        self.last[l] = self.last[other]
+        for b in self.walk(other):
+            self.list[b] = l
+        self.first[other] = self.last[other] = 0
+
+    def walk(self, l):
+        """The blocks of a list; next is read before the block is used."""
+        link = self.first[l]
+        while link != 0:
+            b = self.block_at(link)
+            link = self.next[b]
+            yield b
+
+    # Marks: one bit for each 8 heap bytes
+
+    def mark_bit(self, place):
+        g = (place - self.p.base) // 8
+        return g // 8, 1 << (g % 8)
+
+    def is_marked(self, place):
+        """A place outside the heap reads unmarked."""
+        if not self.p.base <= place < self.p.end:
+            return False
+        byte, bit = self.mark_bit(place)
+        return self.marks[byte] & bit != 0
+
+    # Block: init, sweep
+
+    def link_cells(self, b, cells):
+        """Chain the cells, given ascending, so that the highest is first."""
+        below = 0
+        for cell in cells:
+            self.heap.store(cell, below)
+            below = cell
+        self.free[b] = below
+
+    def init_block(self, b, cell_size, h):
+        self.state[b] = UNMARKED
+        self.size[b] = cell_size
+        self.tls[b] = h
+        self.link_cells(b, self.whole_cells(b))
+        self.events.append(('init', b))
+
+    def is_kept(self, cell, size):
+        """Whether the sweep chosen finds a mark for the cell."""
+        if self.p.simple():
+            return self.is_marked(cell)
+        low = cell + self.p.lower_bound
+        return any(self.is_marked(place)
+                   for place in range(low, low + size, 8))
+
+    def sweep(self, b):
+        size = self.size[b]
+        freed = [cell for cell in self.whole_cells(b)
+                 if not self.is_kept(cell, size)]
+        self.link_cells(b, freed)
+        self.events.append(('sweep', b, freed))
+
+    # Allocator
+
+    def find_free_block(self, h, bin):
+        """Skim the local available list; full blocks go to consumed."""
+        available = list_number(h, AVAILABLE, bin)
+        while self.first[available] != 0:
+            b = self.block_at(self.first[available])
+            if self.has_free_cells(b):
+                return b
+            self.pop(available)
+            self.push(list_number(h, CONSUMED, bin), b)
+        return None
+
+    def keep_block(self, h, bin, b):
+        """Push to available or consumed; whether it has a free cell."""
+        kind = AVAILABLE if self.has_free_cells(b) else CONSUMED
+        self.push(list_number(h, kind, bin), b)
+        return kind == AVAILABLE
+
+    def recycle_local_blocks(self, h, bin):
+        while True:
+            b = self.pop(list_number(h, UNSWEPT, bin))
+            if b is None:
+                return None
+            self.sweep(b)
+            if self.keep_block(h, bin, b):
+                return b
+
+    def acquire_abandoned(self, h, bin):
+        """Abandoned available, then abandoned unswept; never consumed."""
+        while True:
+            b = self.pop(list_number(ABANDONED, AVAILABLE, bin))
+            if b is None:
+                b = self.pop(list_number(ABANDONED, UNSWEPT, bin))
+                if b is None:
+                    return None
+                self.sweep(b)
+            self.tls[b] = h
+            if self.keep_block(h, bin, b):
+                return b
+
+    def find_block(self, h, bin, offer):
+        """The block to take a cell from, and whether it is the offer."""
+        for search in (self.find_free_block, self.recycle_local_blocks,
+                       self.acquire_abandoned):
+            b = search(h, bin)
+            if b is not None:
+                return b, False
+        refuse_unless(offer is not None, EXHAUSTED)
+        self.push(list_number(h, AVAILABLE, bin), offer)
+        self.init_block(offer, CELL_SIZES[bin], h)
+        return offer, True
+
+    def take_cell(self, b):
+        """The link is read, and tested, before the whole cell is zeroed."""
+        cell = self.free[b]
+        link = self.heap.load(cell)
+        refuse_unless(link == 0 or self.is_whole_cell(b, link), BAD_LINK)
+        self.heap.zero(cell, self.size[b])
+        self.free[b] = link
+        self.events.append(('take', cell, self.size[b]))
+        return cell
+
+    def is_good_request(self, size, align, offset):
+        p = self.p
+        return (size % p.least == 0 and offset % p.least == 0
+                and offset <= 65536 and is_power_of_two(align)
+                and p.least <= align <= p.most)
+
+    def alloc(self, h, size, align, offset, offer):
+        self.begin()
+        refuse_unless(self.phase == RUNNING, WRONG_PHASE)
+        refuse_unless(self.is_bound(h), BAD_HOLDER)
+        refuse_unless(self.is_good_request(size, align, offset), BAD_REQUEST)
+        raised = maximum_aligned_size(self.p, size, align)
+        refuse_unless(raised <= self.p.block_bytes, TOO_BIG)
+        if offer is not None:
+            refuse_unless(offer < self.p.blocks
+                          and self.state[offer] == UNALLOCATED, BAD_OFFER)
+        b, used = self.find_block(h, bin_from_size(raised), offer)
+        cell = self.take_cell(b)
+        return (align_allocation(cell, align, offset), self.size[b],
+                int(used), self.count('sweep'))
+
+    # Space
+
+    def begin(self):
+        """What every call but set-up and pages used tests first."""
+        self.events = []
+        refuse_unless(self.is_sound(), BAD_TABLES)
+
+    def count(self, kind):
+        return sum(event[0] == kind for event in self.events)
+
+    def is_holder(self, h):
+        return 1 <= h <= 8
+
+    def is_bound(self, h):
+        return self.is_holder(h) and self.bound >> h & 1 == 1
+
+    def bind(self, h):
+        self.begin()
+        refuse_unless(self.phase == RUNNING, WRONG_PHASE)
+        refuse_unless(self.is_holder(h) and not self.is_bound(h), BAD_HOLDER)
+        self.bound |= 1 << h
+
+    def destroy(self, h):
+        self.begin()
+        refuse_unless(self.phase == RUNNING, WRONG_PHASE)
+        refuse_unless(self.is_bound(h), BAD_HOLDER)
+        self.abandon_blocks(h, ABANDONED)
+        self.bound &= ~(1 << h)
+
+    def abandon_blocks(self, h, owner):
+        for bin in range(BINS):
+            for kind in (AVAILABLE, CONSUMED, UNSWEPT):
+                self.append(list_number(owner, kind, bin),
+                            list_number(h, kind, bin))
+
+    def prepare(self):
+        self.begin()
+        refuse_unless(self.phase == RUNNING, WRONG_PHASE)
+        for b in range(self.p.blocks):
+            if self.state[b] != UNALLOCATED:
+                self.state[b] = UNMARKED
+        self.marks = bytearray(len(self.marks))
+        self.phase = MARKING
+
+    def mark(self, place, b):
+        """1 if the mark is new; only a new one makes the block Marked."""
+        self.begin()
+        p = self.p
+        refuse_unless(self.phase == MARKING, WRONG_PHASE)
+        refuse_unless(p.base <= place < p.end and place % 8 == 0
+                      and b < p.blocks and self.state[b] != UNALLOCATED
+                      and 0 <= place - p.lower_bound - self.start(b)
+                      < p.block_bytes, BAD_OBJECT)
+        if self.is_marked(place):
+            return 0
+        byte, bit = self.mark_bit(place)
+        self.marks[byte] |= bit
+        self.state[b] = MARKED
+        return 1
+
+    def release_block(self, b):
+        self.next[b] = self.prev[b] = self.free[b] = 0
+        self.size[b] = self.list[b] = self.tls[b] = 0
+        self.state[b] = UNALLOCATED
+        self.events.append(('release', b))
+
+    def release_blocks(self, l):
+        """Release the Unmarked blocks of a list."""
+        for b in self.walk(l):
+            if self.state[b] == UNMARKED:
+                self.remove(self.list[b], b)
+                self.release_block(b)
+
+    def release(self, h):
+        """As the Rust does, a holder's unswept list isn't looked through."""
+        self.begin()
+        done = self.is_holder(h) and self.released >> h & 1 == 1
+        refuse_unless(self.phase != RUNNING and not done, WRONG_PHASE)
+        refuse_unless(self.is_bound(h), BAD_HOLDER)
+        for bin in range(BINS):
+            for kind in (AVAILABLE, CONSUMED):
+                l = list_number(h, kind, bin)
+                self.release_blocks(l)
+                self.append(list_number(h, UNSWEPT, bin), l)
+        self.abandon_blocks(h, IN_GC)
+        return self.end_release(h)
+
+    def shared_release(self):
+        """`sweep_later` on abandoned."""
+        self.begin()
+        done = self.released & 1 == 1
+        refuse_unless(self.phase != RUNNING and not done, WRONG_PHASE)
+        for bin in range(BINS):
+            available, unswept, consumed = (
+                list_number(ABANDONED, kind, bin)
+                for kind in (AVAILABLE, UNSWEPT, CONSUMED))
+            for l in (available, consumed, unswept):
+                self.release_blocks(l)
+            self.append(unswept, available)
+            self.append(unswept, consumed)
+        return self.end_release(0)
+
+    def end_release(self, part):
+        """The first enters Releasing; the last merges in-gc and ends it."""
+        self.phase = RELEASING
+        self.released |= 1 << part
+        if self.released == self.bound | 1:
+            for bin in range(BINS):
+                for kind in (AVAILABLE, UNSWEPT, CONSUMED):
+                    self.append(list_number(ABANDONED, kind, bin),
+                                list_number(IN_GC, kind, bin))
+            self.released = 0
+            self.phase = RUNNING
+        return self.count('release')
+
+    def pages_used(self, set):
+        """Bins 1 to 48 of one set; walks tables that need not be sound."""
+        blocks = 0
+        for bin in range(1, BINS):
+            link = self.first[1 + BINS * set + bin]
+            passed = 0
+            while link != 0:
+                b = self.block_at(link)
+                passed += 1
+                refuse_unless(b is not None and passed <= self.p.blocks,
+                              BAD_TABLES)
+                link = self.next[b]
+            blocks += passed
+        return blocks * (self.p.block_bytes // PAGE)
+
+    # Sound tables, clause by clause
+
+    def is_sound(self):
+        return (all(map(self.is_sound_block, range(self.p.blocks)))
+                and self.are_sound_lists() and self.is_sound_phase()
+                and self.are_due_lists_empty())
+
+    def is_sound_block(self, b):
+        """State byte and words; the walk of its list is another clause."""
+        words = (self.next[b], self.prev[b], self.free[b], self.size[b],
+                 self.list[b], self.tls[b])
+        if self.state[b] == UNALLOCATED:
+            return not any(words)
+        if self.state[b] not in (UNMARKED, MARKED):
+            return False
+        l = self.list[b]
+        if not 1 <= l <= LISTS:
+            return False
+        bin, owner = bin_of_list(l), owner_of(l)
+        return (bin >= 1 and self.size[b] == CELL_SIZES[bin]
+                and (self.free[b] == 0 or self.is_whole_cell(b, self.free[b]))
+                and self.is_holder(self.tls[b])
+                and (not self.is_holder(owner) or self.tls[b] == owner))
+
+    def are_sound_lists(self):
+        """Links agree both ways; each occupied block is on its list."""
+        met = 0
+        for l in range(1, LISTS + 1):
+            if self.first[l] == 0 and self.last[l] == 0:
+                continue
+            count = self.sound_list_length(l)
+            if count is None:
+                return False
+            met += count
+        return met == sum(s != UNALLOCATED for s in self.state)
+
+    def sound_list_length(self, l):
+        """How many blocks the list has, or None where it isn't sound.
+
+        A block passed twice has two blocks before it, so its prev word
+        differs from one of them: the walk ends."""
+        before, link, count = 0, self.first[l], 0
+        while link != 0:
+            b = self.block_at(link)
+            if (b is None or self.state[b] == UNALLOCATED
+                    or self.list[b] != l or self.prev[b] != before):
+                return None
+            before, link, count = link, self.next[b], count + 1
+        return count if self.last[l] == before else None
+
+    def is_sound_phase(self):
+        due = self.bound | 1
+        if self.phase not in (RUNNING, MARKING, RELEASING):
+            return False
+        if self.phase != RELEASING:
+            return self.released == 0
+        return (self.released != 0 and self.released & ~due == 0
+                and self.released != due)
+
+    def are_due_lists_empty(self):
+        """Lists of unbound and released holders, and in-gc lists."""
+        empty = [h for h in range(1, 9)
+                 if not self.is_bound(h) or self.released >> h & 1]
+        if self.phase != RELEASING:
+            empty.append(IN_GC)
+        return not any(any(self.first[list_number(o, AVAILABLE, 0):
+                                      list_number(o + 1, AVAILABLE, 0)])
+                       for o in empty)
+
+
+# ---- The script language
+
+class Bad(Exception):
+    """A line that ends the run."""
+
+
+NUMBER = re.compile(r'(?:0|[1-9][0-9]{0,19})\Z')
+
+
+def number(word):
+    if not NUMBER.match(word):
+        raise Bad
+    n = int(word)
+    if n >= LIMIT:
+        raise Bad
+    return n
+
+
+def signed(word):
+    if not word.startswith('-'):
+        n = number(word)
+    elif word == '-0':
+        raise Bad
+    else:
+        n = -number(word[1:])
+    bad_unless(-2 ** 63 <= n < 2 ** 63)
+    return n
+
+
+def bad_unless(fine):
+    if not fine:
+        raise Bad
+
+
+class Driver:
+    """Answers the lines of a script one by one."""
+
+    def __init__(self, make_space=Space):
+        self.make_space = make_space
+        self.space = None
+        self.ended = False
+        self.lines = {
+            'b': (1, self.do_bind), 'd': (1, self.do_destroy),
+            'p': (0, self.do_prepare), 'm': (2, self.do_mark),
+            'r': (1, self.do_release), 's': (0, self.do_shared_release),
+            'u': (1, self.do_pages_used), 'n': (1, self.do_bin),
+            'q': (2, self.do_raise), 'g': (3, self.do_align),
+            'w': (2, self.do_write), 'T': (8, self.do_block_words),
+            'F': (3, self.do_list_words), 'G': (3, self.do_phase_words),
+            'D': (0, self.do_dump), 'H': (0, self.do_heap),
+        }
+
+    def answer(self, line):
+        """The answer to a line: None if it is skipped or the run ended."""
+        if self.ended or line == '' or line.startswith('#'):
+            return None
+        try:
+            return self.run(line.split(' '))
+        except Refused as refusal:
+            return 'refused %d' % refusal.number
+        except Bad:
+            self.ended = True
+            return 'bad'
+
+    def run(self, words):
+        kind, rest = words[0], words[1:]
+        if kind == 'setup':
+            return self.do_setup(rest)
+        bad_unless(self.space is not None)
+        if kind == 'a':
+            return self.do_alloc(rest)
+        if kind == 'K':
+            return self.do_mark_bytes(rest)
+        bad_unless(kind in self.lines)
+        count, action = self.lines[kind]
+        bad_unless(len(rest) == count)
+        return action(*map(number, rest))
+
+    def do_setup(self, words):
+        bad_unless(len(words) == 9)
+        base, log, blocks, least, most = map(number, words[:5])
+        use_offset, unified = map(number, words[5:7])
+        lower_bound, seed = signed(words[7]), number(words[8])
+        bad_unless(log <= 63 and use_offset <= 1 and unified <= 1)
+        p = Parameters(base, log, blocks, least, most, use_offset == 1,
+                       unified == 1, lower_bound)
+        self.space = None
+        refuse_unless(p.fit(), BAD_SETUP)
+        self.space = self.make_space(p, seed)
+        return 'ok'
+
+    def do_bind(self, h):
+        self.space.bind(h)
+        return 'ok'
+
+    def do_destroy(self, h):
+        self.space.destroy(h)
+        return 'ok'
+
+    def do_prepare(self):
+        self.space.prepare()
+        return 'ok'
+
+    def do_alloc(self, words):
+        bad_unless(len(words) == 5)
+        h, size, align, offset = map(number, words[:4])
+        offer = None if words[4] == '-' else number(words[4])
+        answer = self.space.alloc(h, size, align, offset, offer)
+        return 'ok %d %d %d %d' % answer
+
+    def do_mark(self, place, b):
+        return 'ok %d' % self.space.mark(place, b)
+
+    def do_release(self, h):
+        return 'ok %d' % self.space.release(h)
+
+    def do_shared_release(self):
+        return 'ok %d' % self.space.shared_release()
+
+    def do_pages_used(self, set):
+        bad_unless(set < SETS)
+        return 'ok %d' % self.space.pages_used(set)
+
+    def do_bin(self, size):
+        bin = bin_from_size(size)
+        return 'ok -' if bin is None else 'ok %d' % bin
+
+    def do_raise(self, size, align):
+        bad_unless(self.space.is_good_request(size, align, 0))
+        raised = maximum_aligned_size(self.space.p, size, align)
+        bin = bin_from_size(raised)
+        if bin is None:
+            return 'ok -'
+        return 'ok %d %d %d' % (raised, bin, CELL_SIZES[bin])
+
+    def do_align(self, region, align, offset):
+        bad_unless(self.space.is_good_request(0, align, offset))
+        bad_unless(region % 8 == 0 and 0 < region < 2 ** 47)
+        return 'ok %d' % align_allocation(region, align, offset)
+
+    def do_write(self, address, value):
+        p = self.space.p
+        bad_unless(p.base <= address and address + WORD <= p.end)
+        self.space.heap.store(address, value)
+        return 'ok'
+
+    def do_block_words(self, b, state, next, prev, free, size, list, tls):
+        s = self.space
+        bad_unless(b < s.p.blocks and state <= 255)
+        s.state[b], s.next[b], s.prev[b] = state, next, prev
+        s.free[b], s.size[b], s.list[b], s.tls[b] = free, size, list, tls
+        return 'ok'
+
+    def do_list_words(self, l, first, last):
+        bad_unless(1 <= l <= LISTS)
+        self.space.first[l], self.space.last[l] = first, last
+        return 'ok'
+
+    def do_phase_words(self, phase, bound, released):
+        bad_unless(bound & ~0x1FE == 0 and released & ~0x1FF == 0)
+        s = self.space
+        s.phase, s.bound, s.released = phase, bound, released
+        return 'ok'
+
+    def do_mark_bytes(self, words):
+        bad_unless(len(words) == 1)
+        bad_unless(re.match(r'[0-9a-f]*\Z', words[0]))
+        bad_unless(len(words[0]) == 2 * len(self.space.marks))
+        self.space.marks = bytearray.fromhex(words[0])
+        return 'ok'
+
+    def do_dump(self):
+        s = self.space
+        out = ['phase %d bound %d released %d' % (s.phase, s.bound,
+                                                  s.released)]
+        rows = zip(s.state, s.next, s.prev, s.free, s.size, s.list, s.tls)
+        for b, row in enumerate(rows):
+            out.append('block %d ' % b + ' '.join(map(str, row)))
+        for l in range(1, LISTS + 1):
+            if s.first[l] != 0 or s.last[l] != 0:
+                out.append('list %d %d %d' % (l, s.first[l], s.last[l]))
+        out.append('marks ' + s.marks.hex())
+        out.append('heap %016x' % s.heap.hash())
+        out.append('end')
+        return '\n'.join(out)
+
+    def do_heap(self):
+        return self.space.heap.bytes.hex()
+
+
+def main(make_space=Space):
+    driver = Driver(make_space)
+    for line in sys.stdin.buffer.read().decode('latin-1').split('\n'):
+        answer = driver.answer(line)
+        if answer is not None:
+            sys.stdout.write(answer + '\n')
+
+
+if __name__ == '__main__':
+    main()

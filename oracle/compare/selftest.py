@@ -1,0 +1,418 @@
+#!/usr/bin/env python3
+"""Shows that the comparer finds what document 01 calls wrong.
+
+Each mutant is the reference with one rule bent; run as a driver beside the
+true reference, it must be found and shrunk.  `selftest.py --mutant NAME` is
+that driver.  Also compares the bins with the octave rule for every size.
+"""
+import argparse
+import subprocess
+import sys
+from pathlib import Path
+
+import compare
+import generate
+import reference as ref
+
+HERE = Path(__file__).resolve()
+SEEDS = 12          # scripts tried for each mutant
+CALLS = 1500
+MOST_LINES = 40     # a shrunk script is no longer
+
+
+# ---- Mutants: the first eight are 01's "Wrong though tempting"
+
+class SizeBeforeRaise(ref.Space):
+    """Tests the size before raising it."""
+
+    def alloc(self, h, size, align, offset, offer):
+        true = ref.maximum_aligned_size
+        self.begin()
+        if size <= self.p.block_bytes < true(self.p, size, align):
+            align = self.p.least
+        return super().alloc(h, size, align, offset, offer)
+
+
+class ZeroBeforeLink(ref.Space):
+    """Zeroes a cell before its link is read."""
+
+    def take_cell(self, b):
+        self.heap.zero(self.free[b], self.size[b])
+        return super().take_cell(b)
+
+
+class ZeroSizeWanted(ref.Space):
+    """Zeroes only the size wanted."""
+
+    def alloc(self, h, size, align, offset, offer):
+        self.wanted = size
+        return super().alloc(h, size, align, offset, offer)
+
+    def take_cell(self, b):
+        cell = self.free[b]
+        before = self.heap.bytes[cell - self.p.base + self.wanted:
+                                 cell - self.p.base + self.size[b]]
+        super().take_cell(b)
+        at = cell - self.p.base + self.wanted
+        self.heap.bytes[at:at + len(before)] = before
+        return cell
+
+
+class AscendingChain(ref.Space):
+    def link_cells(self, b, cells):
+        super().link_cells(b, reversed(cells))
+
+
+class ShortTail(ref.Space):
+    """Links the short tail as a cell, where it can hold a link."""
+
+    def whole_cells(self, b):
+        whole = super().whole_cells(b)
+        return range(whole.start, self.start(b) + self.p.block_bytes - 7,
+                     whole.step)
+
+
+class NextAfterRemoval(ref.Space):
+    """Reads next after the block is removed, so the walk ends there."""
+
+    def walk(self, l):
+        link = self.first[l]
+        while link != 0:
+            b = self.block_at(link)
+            yield b
+            link = self.next[b]
+
+
+class MarkedAgain(ref.Space):
+    """Sets Marked on a repeated mark."""
+
+    def mark(self, place, b):
+        new = super().mark(place, b)
+        self.state[b] = ref.MARKED
+        return new
+
+
+class ConsumedTried(ref.Space):
+    """Tries abandoned consumed blocks."""
+
+    def acquire_abandoned(self, h, bin):
+        b = super().acquire_abandoned(h, bin)
+        while b is None:
+            b = self.pop(ref.list_number(ref.ABANDONED, ref.CONSUMED, bin))
+            if b is None:
+                return None
+            self.tls[b] = h
+            if not self.keep_block(h, bin, b):
+                b = None
+        return b
+
+
+# ---- Mutants after "What a reviewer will try" and the other sentences
+
+class EarlyExhausted(ref.Space):
+    """Says Exhausted before it looks at abandoned lists."""
+
+    def acquire_abandoned(self, h, bin):
+        return None
+
+
+class FirstReleasesAll(ref.Space):
+    """The first release frees for all holders."""
+
+    def release(self, h):
+        first = self.phase == ref.MARKING
+        count = super().release(h)
+        for other in range(1, 9):
+            if first and self.phase == ref.RELEASING:
+                for bin in range(1, ref.BINS):
+                    self.release_blocks(
+                        ref.list_number(other, ref.AVAILABLE, bin))
+        return count
+
+
+class UnsweptReleased(ref.Space):
+    """A holder's release looks through its unswept list too."""
+
+    def abandon_blocks(self, h, owner):
+        if owner == ref.IN_GC:
+            for bin in range(1, ref.BINS):
+                self.release_blocks(ref.list_number(h, ref.UNSWEPT, bin))
+        super().abandon_blocks(h, owner)
+
+
+class KeptHolder(ref.Space):
+    """Only the block that serves gets the new tls, none passed over."""
+
+    def acquire_abandoned(self, h, bin):
+        before = list(self.tls)
+        b = super().acquire_abandoned(h, bin)
+        for other, holder in enumerate(before):
+            if other != b:
+                self.tls[other] = holder
+        return b
+
+
+class PushedBehind(ref.Space):
+    """Pushes at the tail."""
+
+    def push(self, l, b):
+        tail = self.last[l]
+        super().push(l, b)
+        if tail != 0:
+            self.pop(l)
+            self.next[b], self.prev[b] = 0, tail
+            self.next[self.block_at(tail)] = self.start(b)
+            self.last[l] = self.start(b)
+
+
+class ConsumedFirst(ref.Space):
+    """A holder's release appends consumed before available."""
+
+    def release(self, h):
+        lists = [(ref.list_number(h, ref.AVAILABLE, bin),
+                  ref.list_number(h, ref.CONSUMED, bin))
+                 for bin in range(ref.BINS)]
+        if self.is_sound() and self.phase != ref.RUNNING and self.is_bound(h):
+            for available, consumed in lists:
+                self.first[available], self.first[consumed] = (
+                    self.first[consumed], self.first[available])
+                self.last[available], self.last[consumed] = (
+                    self.last[consumed], self.last[available])
+                for l in (available, consumed):
+                    for b in self.walk(l):
+                        self.list[b] = l
+        return super().release(h)
+
+
+class WrongSign(ref.Space):
+    """Adds L with the other sign in the sweep."""
+
+    def is_kept(self, cell, size):
+        return super().is_kept(cell - 2 * self.p.lower_bound, size)
+
+
+class CellStartOnly(ref.Space):
+    """The brute-force sweep looks at the first place only."""
+
+    def is_kept(self, cell, size):
+        return super().is_kept(cell, 8)
+
+
+class LastPlaceMissed(ref.Space):
+    def is_kept(self, cell, size):
+        return super().is_kept(cell, max(8, size - 8))
+
+
+class StaleMarks(ref.Space):
+    """Prepare leaves the marks of blocks that are Unallocated."""
+
+    def prepare(self):
+        before = bytes(self.marks)
+        super().prepare()
+        part = self.p.block_bytes // 64
+        for b in range(self.p.blocks):
+            if self.state[b] == ref.UNALLOCATED:
+                self.marks[b * part:(b + 1) * part] = before[
+                    b * part:(b + 1) * part]
+
+
+class SweptNotCounted(ref.Space):
+    """Counts only the sweeps that freed a cell."""
+
+    def count(self, kind):
+        return sum(e[0] == kind and (kind != 'sweep' or len(e[2]) > 0)
+                   for e in self.events)
+
+
+class OfferOnlyIfNeeded(ref.Space):
+    """Tests the offer only where it is needed."""
+
+    def alloc(self, h, size, align, offset, offer):
+        self.begin()
+        good = offer is None or (offer < self.p.blocks and
+                                 self.state[offer] == ref.UNALLOCATED)
+        return super().alloc(h, size, align, offset, offer if good else None)
+
+
+class BadLinkTakesCell(ref.Space):
+    """BadLink zeroes the cell's link first, as the Rust does."""
+
+    def take_cell(self, b):
+        try:
+            return super().take_cell(b)
+        except ref.Refused:
+            self.heap.store(self.free[b], 0)
+            raise
+
+
+class UndoneMoves(ref.Space):
+    """An exhausted alloc takes its moves back."""
+
+    def alloc(self, h, size, align, offset, offer):
+        kept = {n: list(getattr(self, n)) for n in
+                ('next', 'prev', 'list', 'tls', 'free', 'first', 'last')}
+        try:
+            return super().alloc(h, size, align, offset, offer)
+        except ref.Refused:
+            for name, value in kept.items():
+                setattr(self, name, value)
+            raise
+
+
+def without(clause):
+    """A reference that skips one clause of sound tables."""
+    class Skips(ref.Space):
+        pass
+    setattr(Skips, clause, lambda self, *_: True)
+    Skips.__doc__ = 'skips the clause %s of sound tables' % clause
+    return Skips
+
+
+def with_block_clause(keep):
+    """Soundness of a block that trusts some words."""
+    class Trusts(ref.Space):
+        def is_sound_block(self, b):
+            before = (self.free[b], self.tls[b], self.size[b])
+            keep(self, b)
+            try:
+                return super().is_sound_block(b)
+            finally:
+                self.free[b], self.tls[b], self.size[b] = before
+    return Trusts
+
+
+def trust_free(space, b):
+    if space.state[b] != ref.UNALLOCATED:
+        space.free[b] = 0
+
+
+def trust_tls(space, b):
+    if 1 <= space.list[b] <= ref.LISTS and space.tls[b] in range(1, 9):
+        owner = ref.owner_of(space.list[b])
+        if owner <= 8:
+            space.tls[b] = owner
+
+
+def trust_size(space, b):
+    if 1 <= space.list[b] <= ref.LISTS and space.size[b] != 0:
+        space.size[b] = ref.CELL_SIZES[ref.bin_of_list(space.list[b])]
+
+
+# Name: (mode that must find it, mutant).
+MUTANTS = {
+    'size-before-raise': ('all', SizeBeforeRaise),
+    'zero-before-link': ('rust', ZeroBeforeLink),
+    'zero-size-wanted': ('rust', ZeroSizeWanted),
+    'ascending-chain': ('rust', AscendingChain),
+    'short-tail': ('rust', ShortTail),
+    'next-after-removal': ('rust', NextAfterRemoval),
+    'marked-again': ('rust', MarkedAgain),
+    'consumed-tried': ('rust', ConsumedTried),
+    'early-exhausted': ('rust', EarlyExhausted),
+    'first-releases-all': ('rust', FirstReleasesAll),
+    'unswept-released': ('rust', UnsweptReleased),
+    'kept-holder': ('rust', KeptHolder),
+    'pushed-behind': ('rust', PushedBehind),
+    'consumed-first': ('rust', ConsumedFirst),
+    'wrong-sign': ('rust', WrongSign),
+    'cell-start-only': ('rust', CellStartOnly),
+    'last-place-missed': ('rust', LastPlaceMissed),
+    'stale-marks': ('rust', StaleMarks),
+    'swept-not-counted': ('rust', SweptNotCounted),
+    'offer-only-if-needed': ('all', OfferOnlyIfNeeded),
+    'bad-link-takes-cell': ('all', BadLinkTakesCell),
+    'undone-moves': ('rust', UndoneMoves),
+    'sound-phase': ('all', without('is_sound_phase')),
+    'sound-empty-lists': ('all', without('are_due_lists_empty')),
+    'sound-free-head': ('all', with_block_clause(trust_free)),
+    'sound-holder': ('all', with_block_clause(trust_tls)),
+    'sound-cell-size': ('all', with_block_clause(trust_size)),
+}
+
+
+# ---- The test
+
+def octave_rule(size):
+    """`mi_bin_from_size` as document 01 tells it."""
+    words = -(-size // 8)
+    if words <= 8:
+        return max(1, words)
+    top = (words - 1).bit_length() - 1
+    return 4 * top + ((words - 1) >> (top - 2) & 3) - 3
+
+
+def check_bins():
+    for size in range(65537):
+        assert ref.bin_from_size(size) == octave_rule(size), size
+    assert ref.bin_from_size(65537) is None
+    print('bins: the octave rule and the least class agree for 0 to 65536')
+
+
+def crash(space, seed):
+    raise SystemExit(3)
+
+
+def find(name, mode):
+    """The shrunk script that shows the mutant, or None."""
+    command = '%s %s --mutant %s' % (sys.executable, HERE, name)
+    drivers = ['reference', command]
+    for seed in range(1, SEEDS + 1):
+        maker = generate.Maker(seed, mode).script(CALLS)
+        runs = [compare.Run(maker.answers),
+                compare.run_driver(command, maker.lines)]
+        at = compare.first_difference(runs, maker.lines, mode)
+        if at is not None:
+            shrinker = compare.Shrinker(drivers, mode)
+            short = shrinker.shrink(maker.lines, at)
+            assert shrinker.differs(short) is not None
+            return short
+    return None
+
+
+def check_mutants(names):
+    missed = []
+    for name in names:
+        short = find(name, MUTANTS[name][0])
+        if short is None or len(short) > MOST_LINES:
+            missed.append(name)
+        print('%s: %s' % (name, 'NOT FOUND' if short is None else
+                          'found, shrunk to %d lines' % len(short)))
+        sys.stdout.flush()
+    return missed
+
+
+def check_crash():
+    """A driver that stops early is a difference."""
+    lines = generate.Maker(1, 'rust').script(50).lines
+    run = compare.run_driver('%s %s --mutant crash' % (sys.executable, HERE),
+                             lines)
+    runs = [compare.Run(compare.run_reference(lines)), run]
+    assert compare.first_difference(runs, lines, 'rust') == 0
+    status = subprocess.run(
+        [sys.executable, str(HERE.parent / 'compare.py'), '--count', '1',
+         '--calls', '20', '--quiet', '--drivers', 'reference', 'false'],
+        stdout=subprocess.DEVNULL).returncode
+    assert status == 1, status
+    print('crash: found')
+
+
+def main():
+    parser = argparse.ArgumentParser(description=__doc__)
+    parser.add_argument('--mutant', help='be this driver')
+    parser.add_argument('names', nargs='*', help='only these mutants')
+    options = parser.parse_args()
+    if options.mutant:
+        mutant = (crash if options.mutant == 'crash'
+                  else MUTANTS[options.mutant][1])
+        ref.main(mutant)
+        return 0
+    check_bins()
+    check_crash()
+    missed = check_mutants(options.names or MUTANTS)
+    print('%d mutants, %d missed %s' % (
+        len(options.names or MUTANTS), len(missed), ' '.join(missed)))
+    return 1 if missed else 0
+
+
+if __name__ == '__main__':
+    sys.exit(main())
