@@ -1,33 +1,18 @@
--- Laws of tests, of what holds below a bound, and of lists as sets. Assumes nothing.
+-- Laws of tests, of what holds below a bound, and of lists as sets; those of Below.antt are passed on. Assumes nothing.
 use mathlib.Core.Path.{_≡_, refl, sym, ap, _∙_}
 use mathlib.Core.Logic.{_⊎_, inl, inr, ⊎-elim}
-use mathlib.Core.Bool.{Bool, true, false, _&&_, _||_}
+use mathlib.Core.Bool.{Bool, true, false, _||_}
 use mathlib.Core.List.{List, [], _∷_, _++_}
 use Prim.Native.Nat.{ℕ, zero, suc, _+_, _<_}
-use native.Mathlib.Nat.{not-suc-le-zero}
 use native.Mathlib.Decide.{decLt}
 use native.Mathlib.Omega.{arith}
 use lib.Dec.{eqb}
 use borrow.Author.Tests.{eqb-true, eq-eqb}
+use Rattle.laws.specs.Below.{true-not-false}
+pub use Rattle.laws.specs.Below.{and-left, and-right, or-cases, same-test, test as bool-cases, allBelow-at as all-below, allBelow-from as below-all, anyBelow-from as below-any, anyBelow-none as below-none-any}
 use Rattle.model.specs.Base.{if_then_else_, allBelow, anyBelow, member, filter, count, In, Pairwise}
 
 -- ---- tests
-
-pub and-left : (a b : Bool) → (a && b) ≡ true → a ≡ true
-and-left true b e = refl
-and-left false b e = e
-
-pub and-right : (a b : Bool) → (a && b) ≡ true → b ≡ true
-and-right true b e = e
-and-right false true e = refl
-and-right false false e = e
-
-pub and-both : (a b : Bool) → a ≡ true → b ≡ true → (a && b) ≡ true
-and-both a b e f = rw (e, f)
-
-pub and-false : (a b : Bool) → (a && b) ≡ false → (a ≡ false) ⊎ (b ≡ false)
-and-false true b e = inr e
-and-false false b e = inl refl
 
 pub or-left : (a b : Bool) → a ≡ true → (a || b) ≡ true
 or-left a b e = rw e
@@ -35,10 +20,6 @@ or-left a b e = rw e
 pub or-right : (a b : Bool) → b ≡ true → (a || b) ≡ true
 or-right true b e = refl
 or-right false b e = e
-
-pub or-cases : (a b : Bool) → (a || b) ≡ true → (a ≡ true) ⊎ (b ≡ true)
-or-cases true b e = inl refl
-or-cases false b e = inr e
 
 pub or-none : (a b : Bool) → a ≡ false → b ≡ false → (a || b) ≡ false
 or-none a b e f = rw (e, f)
@@ -52,18 +33,8 @@ or-none-right true true e = e
 or-none-right true false e = refl
 or-none-right false b e = e
 
-pub bool-cases : (a : Bool) → (a ≡ true) ⊎ (a ≡ false)
-bool-cases true = inl refl
-bool-cases false = inr refl
-
--- two tests that say yes to the same are one
-pub same-test : (a b : Bool) → (a ≡ true → b ≡ true) → (b ≡ true → a ≡ true) → a ≡ b
-same-test true b f g = sym (f refl)
-same-test false true f g = g refl
-same-test false false f g = refl
-
 pub not-both : (a : Bool) → a ≡ true → a ≡ false → ⊥
-not-both a e f = let z : true ≡ false = sym e ∙ f in let n : _≡_ {A = ℕ} 0 1 = cc in omega arith
+not-both a e f = true-not-false (sym e ∙ f)
 
 -- a property of `if` from both ways
 pub if-cases {ℓ} : {A : Type 0} (P : A → Type ℓ) (b : Bool) {x y : A} → (b ≡ true → P x) → (b ≡ false → P y)
@@ -86,52 +57,12 @@ below-last i n l = go (decLt i n)
     go (yes y) = inr y
     go (no f) = inl (omega arith)
 
-pub all-below : (n : ℕ) (f : ℕ → Bool) → allBelow n f ≡ true → (i : ℕ) → i < n → f i ≡ true
-unfolding allBelow
-all-below zero f e i l = absurd (not-suc-le-zero l)
-all-below (suc n) f e i l =
-    ⊎-elim (λ q. ap f q ∙ and-left (f n) (allBelow n f) e)
-    (λ m. all-below n f (and-right (f n) (allBelow n f) e) i m) (below-last i n l)
-
-pub below-all : (n : ℕ) (f : ℕ → Bool) → ((i : ℕ) → i < n → f i ≡ true) → allBelow n f ≡ true
-unfolding allBelow
-below-all zero f h = refl
-below-all (suc n) f h =
-    and-both (f n) (allBelow n f) (h n (omega arith)) (below-all n f (λ i l. h i (omega arith)))
-
-pub below-any : (n : ℕ) (f : ℕ → Bool) (i : ℕ) → i < n → f i ≡ true → anyBelow n f ≡ true
-unfolding anyBelow
-below-any zero f i l e = absurd (not-suc-le-zero l)
-below-any (suc n) f i l e =
-    ⊎-elim (λ q. or-left (f n) (anyBelow n f) (ap f (sym q) ∙ e))
-    (λ m. or-right (f n) (anyBelow n f) (below-any n f i m e)) (below-last i n l)
-
--- the place that an `anyBelow` found
-pub record Below (n : ℕ) (f : ℕ → Bool) : Type 0 where
-  pub at : ℕ
-  pub low : at < n
-  pub yes : f at ≡ true
-
-pub any-below : (n : ℕ) (f : ℕ → Bool) → anyBelow n f ≡ true → Below n f
-unfolding anyBelow
-any-below zero f e = absurd (not-both false e refl)
-any-below (suc n) f e =
-    ⊎-elim (λ y. record { at = n; low = omega arith; yes = y })
-    (λ m. let w : Below n f = any-below n f m in record { at = w .at; low = omega arith; yes = w .yes })
-    (or-cases (f n) (anyBelow n f) e)
-
 pub none-below : (n : ℕ) (f : ℕ → Bool) → anyBelow n f ≡ false → (i : ℕ) → i < n → f i ≡ false
 none-below n f e i l = go (bool-cases (f i))
   where
     go : (f i ≡ true) ⊎ (f i ≡ false) → f i ≡ false
     go (inl y) = absurd (not-both (anyBelow n f) (below-any n f i l y) e)
     go (inr z) = z
-
-pub below-none-any : (n : ℕ) (f : ℕ → Bool) → ((i : ℕ) → i < n → f i ≡ false) → anyBelow n f ≡ false
-unfolding anyBelow
-below-none-any zero f h = refl
-below-none-any (suc n) f h =
-    or-none (f n) (anyBelow n f) (h n (omega arith)) (below-none-any n f (λ i l. h i (omega arith)))
 
 pub any-same : (n : ℕ) (f g : ℕ → Bool) → ((i : ℕ) → i < n → f i ≡ g i) → anyBelow n f ≡ anyBelow n g
 unfolding anyBelow

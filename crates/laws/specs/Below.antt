@@ -1,5 +1,5 @@
 -- Laws of the tests of model/specs/Base.antt: `&&`, `||`, every i below n, some i below n. Assumes nothing.
-use Prim.Native.Nat.{ℕ, zero, suc, _<_, _≤_}
+use Prim.Native.Nat.{ℕ, zero, suc, _-_, _<_, _≤_}
 use mathlib.Core.Path.{_≡_, refl, sym, ap, _∙_}
 use mathlib.Core.Bool.{Bool, true, false, _&&_, _||_}
 use mathlib.Core.Logic.{_⊎_, inl, inr, ⊎-elim}
@@ -118,3 +118,31 @@ pub any-none : (n : ℕ) (f : ℕ → Bool) → n ≤ 0 → anyBelow n f ≡ fal
 unfolding anyBelow
 any-none zero f h = refl
 any-none (suc n) f h = absurd (not-suc-le-zero h)
+
+-- ---- a loop that counts down: what is left of all or of some
+
+module _ (f : ℕ → Bool) where
+  pub all-end : (k : ℕ) → k ≤ 0 → allBelow k f ≡ true
+  unfolding allBelow
+  all-end zero h = refl
+  all-end (suc k) h = absurd (not-suc-le-zero h)
+
+  pub all-stop : (k : ℕ) → 0 < k → f (k - 1) ≡ false → allBelow k f ≡ false
+  all-stop k h e = allBelow-off k f (k - 1) (omega arith) e
+
+  pub all-step : (k : ℕ) → 0 < k → f (k - 1) ≡ true → allBelow (k - 1) f ≡ allBelow k f
+  unfolding allBelow
+  all-step zero h e = absurd (not-suc-le-zero h)
+  all-step (suc k) h e =
+      let d : suc k - 1 ≡ k = omega arith in
+      rw (d, ap f (sym d) ∙ e)
+
+  pub any-stop : (k : ℕ) → 0 < k → f (k - 1) ≡ true → anyBelow k f ≡ true
+  any-stop k h e = anyBelow-from k f (k - 1) (omega arith) e
+
+  pub any-step : (k : ℕ) → 0 < k → f (k - 1) ≡ false → anyBelow (k - 1) f ≡ anyBelow k f
+  unfolding anyBelow
+  any-step zero h e = absurd (not-suc-le-zero h)
+  any-step (suc k) h e =
+      let d : suc k - 1 ≡ k = omega arith in
+      rw (d, ap f (sym d) ∙ e)

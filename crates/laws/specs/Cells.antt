@@ -7,6 +7,7 @@ use mathlib.Core.List.{List, [], _∷_}
 use Prim.Native.Nat.{ℕ, zero, suc, _+_, _-_, _*_, _/_, _%_, _^_, _≤_, _<_}
 use native.Mathlib.Nat.{not-suc-le-zero, mul-le-mul-right, suc-mul, div-add-mod', mul-mod-left, le-div-iff-mul-le, div-mul-le-self}
 use native.Mathlib.Decide.{decLt}
+use native.Mathlib.Numerals.{add-one}
 use native.Mathlib.Omega.{arith}
 use lib.Dec.{eqb, ltb, leb}
 use lib.ListN.{length}
@@ -179,6 +180,17 @@ length-cellsDown kept from s zero = omega arith
 length-cellsDown kept from s (suc n) =
     let ih : length (cellsDown kept from s n) ≤ n = length-cellsDown kept from s n in
     if-cases (λ (c : List ℕ). length c ≤ suc n) (kept (from + n * s)) (λ t. omega arith) (λ t. omega arith)
+
+-- one cell more, kept or not
+pub cellsDown-kept : (kept : ℕ → Bool) (from s k : ℕ) {a : ℕ} → a ≡ from + k * s → kept a ≡ true
+    → cellsDown kept from s k ≡ cellsDown kept from s (k + 1)
+unfolding cellsDown
+cellsDown-kept kept from s k e t = rw (add-one k, ap kept (sym e) ∙ t)
+
+pub cellsDown-freed : (kept : ℕ → Bool) (from s k : ℕ) {a : ℕ} → a ≡ from + k * s → kept a ≡ false
+    → (a ∷ cellsDown kept from s k) ≡ cellsDown kept from s (k + 1)
+unfolding cellsDown
+cellsDown-freed kept from s k e t = rw (add-one k, ap kept (sym e) ∙ t, e)
 
 -- cells kept alike make one chain
 pub cellsDown-same : (kept kept′ : ℕ → Bool) (from s n : ℕ) → ((k : ℕ) → k < n → kept (from + k * s) ≡ kept′ (from + k * s))

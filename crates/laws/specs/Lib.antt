@@ -10,3 +10,5 @@ pub mod Tables
 pub mod Lower
 pub mod Requests
 pub mod BlockList
+pub mod Pigeon
+pub mod Linked

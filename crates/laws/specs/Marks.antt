@@ -1,6 +1,6 @@
 -- Laws of mark bits: one bit of a byte by a table over all bytes, then the marks of the heap. Assumes nothing.
 use mathlib.Core.Path.{_≡_, refl, sym, ap, _∙_}
-use mathlib.Core.Logic.{_⊎_, ⊎-elim}
+use mathlib.Core.Logic.{⊎-elim}
 use mathlib.Core.Bool.{Bool, true, false, not, _&&_, _||_}
 use mathlib.Core.List.{List, [], _∷_}
 use Prim.Native.Nat.{ℕ, zero, suc, _-_, _*_, _/_, _%_, _^_, _≤_, _<_}
@@ -93,6 +93,12 @@ bit-set ms g f byte l = go (ℕ-discrete (f / 8) (g / 8))
 pub marked-out : (p : Params) (ms : List ℕ) (a : ℕ) → inHeap p a ≡ false → marked p ms a ≡ false
 unfolding marked
 marked-out p ms a e = rw e
+
+-- what the bit of an offset in the heap says is what the place says
+pub marked-inside : (p : Params) (ms : List ℕ) (a : ℕ) {i : ℕ} {t : Bool} → inHeap p a ≡ true → i ≡ a - p .base
+    → t ≡ bitOf (getD ms (i / 8 / 8) 0) (i / 8 % 8) → t ≡ marked p ms a
+unfolding marked markIndex
+marked-inside p ms a e o b = rw (e, ← o) b
 
 pub marked-in : (p : Params) (ms : List ℕ) (a : ℕ) → marked p ms a ≡ true → inHeap p a ≡ true
 unfolding marked

@@ -179,15 +179,15 @@ Zeroed p es h =
     (a s : ℕ) → In (taken a s) es
     → (p .base ≤ a) × (a + s ≤ heapEnd p) × ((k : ℕ) → a ≤ k → k < a + s → byteAt p h k ≡ 0)
 
--- A served alloc takes one cell; the address answered is its start, shifted, and the size answered is its size. This ties
--- what the book enters to what the caller is told
+-- A served alloc takes one cell: the size answered is the cell's, and the address answered is its start, shifted, from which
+-- the size asked for lies within the cell. This ties what the book enters to what the caller is told
 unfoldable pub Served : Call → Step → Type 0
 Served (bind h) s = Unit {0}
 Served (destroy h) s = Unit {0}
 Served (alloc h size align offset offer) s =
     s .reply .number ≡ 0
     → (a : ℕ) × (n : ℕ) × In (taken a n) (s .events) × (getD (s .reply .values) 0 0 ≡ alignAllocation a align offset)
-      × (getD (s .reply .values) 1 0 ≡ n)
+      × (getD (s .reply .values) 1 0 ≡ n) × (alignAllocation a align offset + size ≤ a + n)
 Served prepare s = Unit {0}
 Served (mark place b) s = Unit {0}
 Served (release h) s = Unit {0}

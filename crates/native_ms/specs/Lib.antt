@@ -1,1 +1,6 @@
 pub mod Raised
+pub mod Block
+pub mod Counted
+pub mod SoundWalk
+pub mod SoundLaws
+pub mod SoundTests

@@ -3,4 +3,7 @@ mod address;
 mod params;
 pub mod size_class;
 mod allocator;
-mod block_list;
+pub mod block_list;
+mod memory;
+mod block;
+mod sound;

@@ -167,11 +167,11 @@ module _ (p : Params) where
 
 -- what holds at the start and after each round holds at the end
 pub each-keeps :
-    {A : Type 0} (P : A → Type 0) (n : ℕ) (f : ℕ → A → A) → ((i : ℕ) (x : A) → P x → P (f i x))
+    {A : Type 0} (P : A → Type 0) (n : ℕ) (f : ℕ → A → A) → ((i : ℕ) → i < n → (x : A) → P x → P (f i x))
     → (x : A) → P x → P (eachBelow n f x)
 unfolding eachBelow
 each-keeps P zero f h x q = q
-each-keeps P (suc n) f h x q = h n _ (each-keeps P n f h x q)
+each-keeps P (suc n) f h x q = h n (omega arith) _ (each-keeps P n f (λ i l. h i (omega arith)) x q)
 
 -- ---- first words: an operation on lists changes those of its lists alone
 

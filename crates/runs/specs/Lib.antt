@@ -5,3 +5,7 @@ pub mod Inv
 pub mod Steps
 pub mod Search
 pub mod Plans
+pub mod AllocPlan
+pub mod Finish
+pub mod Calls
+pub mod Demand3

@@ -16,22 +16,23 @@ use Rattle.model.specs.declared.Refusal.the-variants.{BadSetup, BadTables, Wron
 use Rattle.model.specs.Base.{if_then_else_, In, Pairwise, member, eachBelow, flag}
 use Rattle.model.specs.Params.{start, blockAt, inHeap, heapBytes, minusLower, listWord, listOf, localSets, abandoned, inGc, available, unswept, consumed, bins}
 use Rattle.model.specs.Memory.{marked, setMark, cleared}
-use Rattle.model.specs.Tables.{Words, Tables, tablesOf, withWords, setBound, setReleased, setPhase, withReleased, setFree, setSize, setNext, setPrev, setList, setTls}
+use Rattle.model.specs.Tables.{Words, Tables, tablesOf, withWords, setFirst, setLast, setBound, setReleased, setPhase, withReleased, setFree, setSize, setNext, setPrev, setList, setTls}
+use Rattle.model.specs.SizeClasses.{alignAllocation}
 use Rattle.model.specs.BlockList.{append, remove, relabel, link}
 use Rattle.model.specs.Block.{Marked, Unmarked, clearBlock}
 use Rattle.model.specs.Events.{Event, released, eventHeap, eventsHeap}
 use Rattle.model.specs.Global.{bindHolder, destroyHolder, abandonBin, abandonBlocks, unmarkedState, prepared, markPlace, Freed, freed, afterRelease, releaseFrom, releaseBlocks, appendTo, releaseBin, releaseHolder, sweepLaterBin, sweepLater, mergeBin, merge, partReleased, allReleased}
-use Rattle.model.specs.Calls.{refusalNumber, Reply, answered, refused, Call, bind, destroy, alloc, prepare, mark, release, sharedRelease, End, says, takes, Plan, refuses, changes, goodObject}
+use Rattle.model.specs.Calls.{refusalNumber, Reply, answered, refused, Call, bind, destroy, alloc, prepare, mark, release, sharedRelease, End, says, takes, Plan, refuses, changes, goodObject, mayRelease, releasePlan}
 use Rattle.model.specs.Sound.{stateOf}
 use Rattle.model.specs.Runs.{Cell, Book, aged, bookEvent, bookEvents, bookAnswer, takerOf, frees, entered, hits, unmarked}
-use Rattle.laws.specs.Base.{and-left, and-right, in-filter, if-true, if-false, if-cases, in-member, member-in, or-none, or-left, or-right, bool-cases, not-both}
+use Rattle.laws.specs.Base.{and-left, and-right, in-filter, if-true, if-false, if-cases, in-member, member-in, or-none, or-left, or-right, or-cases, bool-cases, not-both}
 use Rattle.laws.specs.Params.{Bounds, blockAt-start, blockAt-within}
 use Rattle.laws.specs.Tables.{Sized, sized-same, kept-lengths, lengths}
 use Rattle.laws.specs.Memory as Mem
 use Rattle.laws.specs.Marks.{marked-cleared, length-setMark, length-cleared, bytes-setMark, bytes-cleared, marked-setMark}
 use Rattle.runs.specs.Frame.{LinksOnly, links-refl, links-trans, append-links, remove-links, each-keeps, FirstsBut, append-first, append-empties, append-none, remove-first}
 use Rattle.runs.specs.Inv.{Held, Placed, Core, set-cases, release-core, release-unmarked, in-range}
-use Rattle.runs.specs.Steps.{shadowEvent, shadowEvents, EventOk, EventsOk, no-events, more-events, events-append, heap-append, book-append, shadow-append}
+use Rattle.runs.specs.Steps.{shadowEvent, shadowEvents, isTaken, EventOk, EventsOk, no-events, more-events, events-append, heap-append, book-append, shadow-append}
 use Rattle.runs.specs.Search.{Settled, Idle, available-settled, consumed-settled, unswept-unsettled, available-low, unswept-low, consumed-low}
 
 -- no refusal has the number 0
@@ -74,6 +75,35 @@ unfoldable pub bookFor : Call → End → Book → Book
 bookFor c (says r) bk = if eqb (r .number) 0 then bookAnswer c bk else bk
 bookFor c (takes b align offset fresh) bk = bk
 
+-- of an alloc: a reply that is said refuses; a cell that is taken has room for what was asked. No other call takes one
+unfoldable pub Serves : Call → Words → End → Type 0
+Serves (bind h) w (says r) = Unit {0}
+Serves (bind h) w (takes b align offset fresh) = ⊥
+Serves (destroy h) w (says r) = Unit {0}
+Serves (destroy h) w (takes b align offset fresh) = ⊥
+Serves (alloc h size align offset offer) w (says r) = eqb (r .number) 0 ≡ false
+Serves (alloc h size align offset offer) w (takes b align′ offset′ fresh) =
+    ((align′ ≡ align) × (offset′ ≡ offset)
+    × ((x : ℕ) → x % 8 ≡ 0 → alignAllocation x align offset + size ≤ x + getD (w .size) b 0))
+Serves prepare w (says r) = Unit {0}
+Serves prepare w (takes b align offset fresh) = ⊥
+Serves (mark place a) w (says r) = Unit {0}
+Serves (mark place a) w (takes b align offset fresh) = ⊥
+Serves (release h) w (says r) = Unit {0}
+Serves (release h) w (takes b align offset fresh) = ⊥
+Serves sharedRelease w (says r) = Unit {0}
+Serves sharedRelease w (takes b align offset fresh) = ⊥
+
+refused-serves : (c : Call) (w : Words) (r : Refusal) → Serves c w (says (refused r))
+unfolding Serves
+refused-serves (bind h) w r = tt
+refused-serves (destroy h) w r = tt
+refused-serves (alloc h size align offset offer) w r = refusal-some r
+refused-serves prepare w r = tt
+refused-serves (mark place b) w r = tt
+refused-serves (release h) w r = tt
+refused-serves sharedRelease w r = tt
+
 module _ (p : Params) (B : Bounds p) where
   pub record Inv (t : Tables) (h : List ℕ) (sh : List (List ℕ)) (bk : Book) : Type 0 where
     pub core : Core p (t .words .free) (t .words .size) (t .states) (t .marks) h sh bk
@@ -84,45 +114,55 @@ module _ (p : Params) (B : Bounds p) where
     pub idle : Idle (t .words)
 
   -- what a call that takes a cell needs: a block with a free one that waits for no sweep
-  pub data EndOk (t : Tables) (sh : List (List ℕ)) : End → Type 0 where
-    said : (r : Reply) → EndOk t sh (says r)
-    taking : (b align offset : ℕ) (fresh : Bool) (x : ℕ) (l : List ℕ) → b < p .blocks → getD (t .states) b 0 ≢ 0
-      → Settled (getD (t .words .list) b 0) → t .words .phase ≡ 0 → getD sh b [] ≡ x ∷ l
-      → EndOk t sh (takes b align offset fresh)
+  pub record Taking (t : Tables) (sh : List (List ℕ)) (b : ℕ) : Type 0 where
+    pub inside : b < p .blocks
+    pub occupied : getD (t .states) b 0 ≢ 0
+    pub settled : Settled (getD (t .words .list) b 0)
+    pub running : t .words .phase ≡ 0
+    pub cell : ℕ
+    pub rest : List ℕ
+    pub chain : getD sh b [] ≡ cell ∷ rest
+
+  unfoldable pub EndOk : Tables → List (List ℕ) → End → Type 0
+  EndOk t sh (says r) = Unit {0}
+  EndOk t sh (takes b align offset fresh) = Taking t sh b
 
   pub record Planned (t : Tables) (h : List ℕ) (sh : List (List ℕ)) (bk : Book) (c : Call) (q : Plan) : Type 0 where
     pub events : EventsOk p B (takerOf c) (q .events) h bk
     pub inv : Inv (q .tables) (eventsHeap p (q .events) h) (shadowEvents (q .events) sh)
       (bookFor c (q .end) (bookEvents p (takerOf c) (q .events) bk))
     pub end : EndOk (q .tables) (shadowEvents (q .events) sh) (q .end)
+    pub serves : Serves c (q .tables .words) (q .end)
 
   module _ (t : Tables) (h : List ℕ) (sh : List (List ℕ)) (bk : Book) (I : Inv t h sh bk) where
     -- ---- refused
 
     pub refuses-planned : (c : Call) (r : Refusal) → Planned t h sh bk c (refuses t r)
-    unfolding bookFor eventsHeap shadowEvents bookEvents
+    unfolding EndOk bookFor eventsHeap shadowEvents bookEvents
     refuses-planned c r =
         record {
           events = no-events p B (takerOf c) h bk;
           inv = rw (refusal-some r) I;
-          end = said (refused r)
+          end = tt;
+          serves = refused-serves c _ r
         }
 
     -- ---- bind
 
     pub bind-planned : (d : ℕ) → Planned t h sh bk (bind d) (changes (bindHolder d t) [])
-    unfolding bookFor bookAnswer eventsHeap shadowEvents bookEvents bindHolder setBound
+    unfolding EndOk Serves bookFor bookAnswer eventsHeap shadowEvents bookEvents bindHolder setBound
     bind-planned d =
         record {
           events = no-events p B _ h bk;
           inv = record { core = I .core; sized = sized-same (simp kept-lengths) (I .sized); young = I .young; idle = I .idle };
-          end = said _
+          end = tt;
+          serves = tt
         }
 
     -- ---- prepare: every cell is old, no place and no mark is left
 
     pub prepare-planned : Planned t h sh bk prepare (changes (prepared t) [])
-    unfolding bookFor bookAnswer eventsHeap shadowEvents bookEvents prepared setPhase member In
+    unfolding EndOk Serves bookFor bookAnswer eventsHeap shadowEvents bookEvents prepared setPhase member In
     prepare-planned =
         record {
           events = no-events p B _ h bk;
@@ -149,7 +189,8 @@ module _ (p : Params) (B : Bounds p) where
               young = λ c m o. absurd (not-young c (in-aged (bk .cells) c m) o);
               idle = I .idle
             };
-          end = said _
+          end = tt;
+          serves = tt
         }
       where
         held-of : (c : Cell) → (d : Cell) × In d (bk .cells) × (c ≡ aged d) → Held p (t .words .size) (map unmarkedState (t .states)) c
@@ -199,12 +240,13 @@ module _ (p : Params) (B : Bounds p) where
           ap (blockAt p) (omega arith) ∙ blockAt-within p B b (minusLower p place - start p b) low (omega arith)
 
       pub mark-planned : Planned t h sh bk (mark place b) (changes (markPlace p place b t) (flag (not (marked p (t .marks) place)) ∷ []))
-      unfolding bookFor bookAnswer eventsHeap shadowEvents bookEvents markPlace member In
+      unfolding EndOk Serves bookFor bookAnswer eventsHeap shadowEvents bookEvents markPlace member In
       mark-planned =
           record {
             events = no-events p B _ h bk;
             inv = ⊎-elim old-mark new-mark (bool-cases (marked p (t .marks) place));
-            end = said _
+            end = tt;
+            serves = tt
           }
         where
           Bk : Book
@@ -328,7 +370,7 @@ module _ (p : Params) (B : Bounds p) where
           → Sized (p .blocks) (clearBlock b (remove p l b w)) → ((c : Cell) → In c (bookEvent p hd (released b) bk .cells) → c .old ≡ true)
           → Freeing hd ms h (set sh b []) (bookEvent p hd (released b) bk) f)
         → Freeing hd ms h sh bk (afterRelease b f)
-    unfolding eventsHeap shadowEvents bookEvents eventHeap shadowEvent clearBlock setTls setList setSize setFree setPrev setNext
+    unfolding isTaken eventsHeap shadowEvents bookEvents eventHeap shadowEvent clearBlock setTls setList setSize setFree setPrev setNext
     one-freed l b w st h sh bk I z old un f next =
         let L : LinksOnly w (remove p l b w) = remove-links p l b w (links-refl w) in
         let F = next
@@ -336,7 +378,7 @@ module _ (p : Params) (B : Bounds p) where
               (sized-same (simp kept-lengths (L .lengths)) z)
               (old-after b bk old) in
         record {
-          events = more-events p B hd (released b) (f .events) h bk (released-ok (w .free) (w .size) st h sh bk I b un old) (F .events);
+          events = more-events p B hd (released b) (f .events) h bk refl (released-ok (w .free) (w .size) st h sh bk I b un old) (F .events);
           core = F .core;
           sized = F .sized;
           old = F .old
@@ -397,13 +439,342 @@ module _ (p : Params) (B : Bounds p) where
       holder-freeing : (owner : ℕ) (f : Freed) → Freeing hd ms h sh bk f → Freeing hd ms h sh bk (eachBelow bins (releaseBin p owner) f)
       unfolding releaseBin
       holder-freeing owner f F = each-keeps (Freeing hd ms h sh bk) bins (releaseBin p owner)
-          (λ bin g G. append-freeing (unswept owner bin) (consumed owner bin) _ (release-freeing (consumed owner bin) _
+          (λ bin low g G. append-freeing (unswept owner bin) (consumed owner bin) _ (release-freeing (consumed owner bin) _
             (append-freeing (unswept owner bin) (available owner bin) _ (release-freeing (available owner bin) g G)))) f F
 
       shared-freeing : (f : Freed) → Freeing hd ms h sh bk f → Freeing hd ms h sh bk (eachBelow bins (sweepLaterBin p) f)
       unfolding sweepLaterBin
       shared-freeing f F = each-keeps (Freeing hd ms h sh bk) bins (sweepLaterBin p)
-          (λ bin g G. append-freeing (unswept abandoned bin) (consumed abandoned bin) _
+          (λ bin low g G. append-freeing (unswept abandoned bin) (consumed abandoned bin) _
             (append-freeing (unswept abandoned bin) (available abandoned bin) _
             (release-freeing (unswept abandoned bin) _
             (release-freeing (consumed abandoned bin) _ (release-freeing (available abandoned bin) g G))))) f F
+
+  -- ---- destroy: available and consumed blocks go over; there are no unswept ones
+
+  -- list words that name no unswept list still do not
+  unfoldable pub Steady : Words → Words → Type 0
+  Steady w w′ = (b : ℕ) → Settled (getD (w .list) b 0) → Settled (getD (w′ .list) b 0)
+
+  pub set-steady : (l : List ℕ) (i v z : ℕ) → Settled v → Settled (getD l z 0) → Settled (getD (set l i v) z 0)
+  set-steady l i v z sv sl = go (ℕ-discrete z i) (decLt i (length l))
+    where
+      go : Dec (z ≡ i) → Dec (i < length l) → Settled (getD (set l i v) z 0)
+      go (no f) d = rw (getD-set-other l i z v 0 f) sl
+      go (yes e) (yes low) = subst (λ (x : ℕ). Settled (getD (set l i v) x 0)) (sym e) (rw (getD-set-same l i v 0 low) sv)
+      go (yes e) (no f) =
+          subst Settled
+            (List·getD-eq-default l 0 {n = z} (omega (arith, e)) ∙ sym (List·getD-eq-default (set l i v) 0 {n = z} (omega (arith, length-set l i v, e)))) sl
+
+  relabel-steady : (k l a : ℕ) (w : Words) → Settled (listWord l) → Steady w (relabel k p l a w)
+  unfolding Steady relabel setList
+  relabel-steady zero l a w sl = λ b s. s
+  relabel-steady (suc k) l a w sl = λ b s. if-cases (λ (x : Words). Settled (getD (x .list) b 0)) (eqb a 0) (λ e. s)
+      (λ e. relabel-steady k l _ _ sl b (set-steady (w .list) (blockAt p a) (listWord l) b sl s))
+
+  link-list : (l o : ℕ) (w : Words) → link p l o w .list ≡ w .list
+  unfolding link setFirst setLast setNext setPrev
+  link-list l o w = if-cases (λ (x : Words). x .list ≡ w .list) (eqb (getD (w .first) l 0) 0) (λ e. refl) (λ e. refl)
+
+  append-steady : (l o : ℕ) (w : Words) → Settled (listWord l) → Steady w (append p l o w)
+  unfolding Steady append setFirst setLast
+  append-steady l o w sl = λ b s. if-cases (λ (x : Words). Settled (getD (x .list) b 0)) (eqb (getD (w .first) o 0) 0) (λ e. s)
+      (λ e. relabel-steady (p .blocks) l (getD (w .first) o 0) (link p l o w) sl b (subst (λ (x : List ℕ). Settled (getD x b 0)) (sym (link-list l o w)) s))
+
+  pub record Leaving (w w′ : Words) : Type 0 where
+    pub links : LinksOnly w w′
+    pub steady : Steady w w′
+    pub idle : Idle w′
+
+  -- one list of an owner, none of them unswept, goes behind another
+  append-leaving : (w w′ : Words) (l o : ℕ) → Settled (listWord l) → Settled (listWord o) → Leaving w w′ → Leaving w (append p l o w′)
+  unfolding Steady FirstsBut
+  append-leaving w w′ l o sl so L =
+      record {
+        links = append-links p l o w′ (L .links);
+        steady = λ b s. append-steady l o w′ sl b (L .steady b s);
+        idle = λ j n lj ln.
+          append-first p l o w′ (unswept (3 * j) n)
+            (λ e. unswept-unsettled j n (omega arith) ln (subst (λ (x : ℕ). Settled (listWord x)) (sym e) sl))
+            (λ e. unswept-unsettled j n (omega arith) ln (subst (λ (x : ℕ). Settled (listWord x)) (sym e) so))
+          ∙ L .idle j n lj ln
+      }
+
+  bin-leaving : (w : Words) (j : ℕ) → j < 8 → (bin : ℕ) → bin < 49 → (w′ : Words) → Leaving w w′ → Leaving w (abandonBin p abandoned (3 * j) bin w′)
+  unfolding abandonBin
+  bin-leaving w j lj bin lb w′ L =
+      let M = append-leaving w w′ (available abandoned bin) (available (3 * j) bin) (available-settled 8 bin (omega arith) lb) (available-settled j bin (omega arith) lb) L in
+      let N = append-leaving w _ (consumed abandoned bin) (consumed (3 * j) bin) (consumed-settled 8 bin (omega arith) lb) (consumed-settled j bin (omega arith) lb) M in
+      subst (Leaving w) (sym (append-none p (unswept abandoned bin) (unswept (3 * j) bin) _ (N .idle j bin lj lb))) N
+
+  module _ (t : Tables) (h : List ℕ) (sh : List (List ℕ)) (bk : Book) (I : Inv t h sh bk) where
+    pub destroy-planned : (d : ℕ) → 1 ≤ d → d ≤ 8 → Planned t h sh bk (destroy d) (changes (destroyHolder p d t) [])
+    unfolding EndOk Serves bookFor bookAnswer eventsHeap shadowEvents bookEvents destroyHolder setBound abandonBlocks localSets Steady
+    destroy-planned d lo hi =
+        let L : Leaving (t .words) (eachBelow bins (abandonBin p abandoned (3 * (d - 1))) (t .words)) =
+              each-keeps (Leaving (t .words)) bins (abandonBin p abandoned (3 * (d - 1)))
+                (λ bin lb x X. bin-leaving (t .words) (d - 1) (omega arith) bin lb x X) (t .words)
+                (record { links = links-refl (t .words); steady = λ b s. s; idle = I .idle }) in
+        record {
+          events = no-events p B _ h bk;
+          inv = record {
+            core = rw (L .links .free, L .links .size) (I .core);
+            sized = sized-same (simp kept-lengths (L .links .lengths)) (I .sized);
+            young = λ c m o. let y = I .young c m o in (L .links .phase ∙ y .0, L .steady _ (y .1));
+            idle = L .idle
+          };
+          end = tt;
+          serves = tt
+        }
+
+  -- ---- release and shared release
+
+  -- first words of lists of other owners than the j-th and the k-th (an owner has 147 lists) stay
+  unfoldable pub OwnersBut : ℕ → ℕ → Words → Words → Type 0
+  OwnersBut j k w w′ = (m : ℕ) → m / 147 ≢ j → m / 147 ≢ k → getD (w′ .first) m 0 ≡ getD (w .first) m 0
+
+  module _ (j k : ℕ) (w : Words) where
+    owners-remove : (l b : ℕ) (w′ : Words) → l / 147 ≡ j → OwnersBut j k w w′ → OwnersBut j k w (remove p l b w′)
+    unfolding OwnersBut FirstsBut
+    owners-remove l b w′ e O = λ m f g. let ne : m ≢ l = λ x. f (ap (λ (y : ℕ). y / 147) x ∙ e) in remove-first p l b w′ m ne ne ∙ O m f g
+
+    owners-append : (l o : ℕ) (w′ : Words) → l / 147 ≡ j → o / 147 ≡ k → OwnersBut j k w w′ → OwnersBut j k w (append p l o w′)
+    unfolding OwnersBut FirstsBut
+    owners-append l o w′ e d O = λ m f g.
+        append-first p l o w′ m (λ x. f (ap (λ (y : ℕ). y / 147) x ∙ e)) (λ x. g (ap (λ (y : ℕ). y / 147) x ∙ d)) ∙ O m f g
+
+    owners-clear : (b : ℕ) (w′ : Words) → OwnersBut j k w w′ → OwnersBut j k w (clearBlock b w′)
+    unfolding OwnersBut clearBlock setTls setList setSize setFree setPrev setNext
+    owners-clear b w′ O = O
+
+    owners-from : (n l a : ℕ) (w′ : Words) (st : List ℕ) → l / 147 ≡ j → OwnersBut j k w w′ → OwnersBut j k w (releaseFrom n p l a w′ st .words)
+    unfolding releaseFrom
+    owners-from zero l a w′ st e O = O
+    owners-from (suc n) l a w′ st e O = if-cases (λ (f : Freed). OwnersBut j k w (f .words)) (eqb a 0) (λ t. O)
+        (λ t. if-cases (λ (f : Freed). OwnersBut j k w (f .words)) (eqb (getD st (blockAt p a) 0) 255)
+          (λ u. owners-from n l _ _ _ e (owners-clear (blockAt p a) (remove p l (blockAt p a) w′) (owners-remove l (blockAt p a) w′ e O)))
+          (λ u. owners-from n l _ w′ st e O))
+
+  -- the owner of a list
+  module _ (j bin : ℕ) (low : bin < 49) where
+    pub available-owner : available (3 * j) bin / 147 ≡ j
+    unfolding available listOf
+    available-owner = omega arith
+
+    pub unswept-owner : unswept (3 * j) bin / 147 ≡ j
+    unfolding unswept listOf
+    unswept-owner = omega arith
+
+    pub consumed-owner : consumed (3 * j) bin / 147 ≡ j
+    unfolding consumed listOf
+    consumed-owner = omega arith
+
+  -- a release touches the lists of its owner, the shared one those of abandoned, the merge those of abandoned and in-gc
+  module _ (w : Words) where
+    release-owners : (j k l : ℕ) (f : Freed) → l / 147 ≡ j → OwnersBut j k w (f .words) → OwnersBut j k w (releaseBlocks p l f .words)
+    unfolding releaseBlocks
+    release-owners j k l f e O = owners-from j k w (p .blocks) l (getD (f .words .first) l 0) (f .words) (f .states) e O
+
+    append-owners : (j k l o : ℕ) (f : Freed) → l / 147 ≡ j → o / 147 ≡ k → OwnersBut j k w (f .words) → OwnersBut j k w (appendTo p l o f .words)
+    unfolding appendTo
+    append-owners j k l o f e d O = owners-append j k w l o (f .words) e d O
+
+    holder-owners : (j : ℕ) (f : Freed) → OwnersBut j j w (f .words) → OwnersBut j j w (eachBelow bins (releaseBin p (3 * j)) f .words)
+    unfolding releaseBin
+    holder-owners j f O = each-keeps (λ (g : Freed). OwnersBut j j w (g .words)) bins (releaseBin p (3 * j))
+        (λ bin low g G.
+          let a = available-owner j bin low in let u = unswept-owner j bin low in let c = consumed-owner j bin low in
+          append-owners j j (unswept (3 * j) bin) (consumed (3 * j) bin) _ u c
+            (release-owners j j (consumed (3 * j) bin) _ c
+            (append-owners j j (unswept (3 * j) bin) (available (3 * j) bin) _ u a (release-owners j j (available (3 * j) bin) g a G)))) f O
+
+    shared-owners : (f : Freed) → OwnersBut 8 8 w (f .words) → OwnersBut 8 8 w (eachBelow bins (sweepLaterBin p) f .words)
+    unfolding sweepLaterBin
+    shared-owners f O = each-keeps (λ (g : Freed). OwnersBut 8 8 w (g .words)) bins (sweepLaterBin p)
+        (λ bin low g G.
+          let a = available-owner 8 bin low in let u = unswept-owner 8 bin low in let c = consumed-owner 8 bin low in
+          append-owners 8 8 (unswept abandoned bin) (consumed abandoned bin) _ u c
+            (append-owners 8 8 (unswept abandoned bin) (available abandoned bin) _ u a
+            (release-owners 8 8 (unswept abandoned bin) _ u
+            (release-owners 8 8 (consumed abandoned bin) _ c (release-owners 8 8 (available abandoned bin) g a G))))) f O
+
+    merge-owners : (w′ : Words) → OwnersBut 8 9 w w′ → OwnersBut 8 9 w (merge p w′)
+    unfolding merge mergeBin
+    merge-owners w′ O = each-keeps (OwnersBut 8 9 w) bins (mergeBin p)
+        (λ bin low x X.
+          owners-append 8 9 w (consumed abandoned bin) (consumed inGc bin) _ (consumed-owner 8 bin low) (consumed-owner 9 bin low)
+            (owners-append 8 9 w (unswept abandoned bin) (unswept inGc bin) _ (unswept-owner 8 bin low) (unswept-owner 9 bin low)
+            (owners-append 8 9 w (available abandoned bin) (available inGc bin) x (available-owner 8 bin low) (available-owner 9 bin low) X))) w′ O
+
+    abandon-owners : (j : ℕ) (w′ : Words) → OwnersBut 9 j w w′ → OwnersBut 9 j w (abandonBlocks p inGc (3 * j) w′)
+    unfolding abandonBlocks abandonBin
+    abandon-owners j w′ O = each-keeps (OwnersBut 9 j w) bins (abandonBin p inGc (3 * j))
+        (λ bin low x X.
+          owners-append 9 j w (unswept inGc bin) (unswept (3 * j) bin) _ (unswept-owner 9 bin low) (unswept-owner j bin low)
+            (owners-append 9 j w (consumed inGc bin) (consumed (3 * j) bin) _ (consumed-owner 9 bin low) (consumed-owner j bin low)
+            (owners-append 9 j w (available inGc bin) (available (3 * j) bin) x (available-owner 9 bin low) (available-owner j bin low) X))) w′ O
+
+  -- the links alone change
+  abandon-links : (to from : ℕ) (w : Words) → LinksOnly w (abandonBlocks p to from w)
+  unfolding abandonBlocks abandonBin
+  abandon-links to from w = each-keeps (LinksOnly w) bins (abandonBin p to from)
+      (λ bin low x X. append-links p (unswept to bin) (unswept from bin) _
+        (append-links p (consumed to bin) (consumed from bin) _ (append-links p (available to bin) (available from bin) x X))) w (links-refl w)
+
+  merge-links : (w₀ w : Words) → LinksOnly w₀ w → LinksOnly w₀ (merge p w)
+  unfolding merge mergeBin
+  merge-links w₀ w L = each-keeps (LinksOnly w₀) bins (mergeBin p)
+      (λ bin low x X. append-links p (consumed abandoned bin) (consumed inGc bin) _
+        (append-links p (unswept abandoned bin) (unswept inGc bin) _ (append-links p (available abandoned bin) (available inGc bin) x X))) w L
+
+  -- after a holder's lists went to in-gc, its unswept lists are empty
+  module _ (j : ℕ) (lj : j < 8) where
+    other-bin : (n bin : ℕ) → n < 49 → bin < 49 → bin ≢ n → (w : Words)
+        → getD (abandonBin p inGc (3 * j) n w .first) (unswept (3 * j) bin) 0 ≡ getD (w .first) (unswept (3 * j) bin) 0
+    unfolding abandonBin FirstsBut unswept consumed available listOf
+    other-bin n bin ln lb ne w =
+        append-first p (unswept inGc n) (unswept (3 * j) n) _ (unswept (3 * j) bin) u₁ u₂
+        ∙ append-first p (consumed inGc n) (consumed (3 * j) n) _ (unswept (3 * j) bin) c₁ c₂
+        ∙ append-first p (available inGc n) (available (3 * j) n) w (unswept (3 * j) bin) a₁ a₂
+      where
+        u₁ : unswept (3 * j) bin ≢ unswept inGc n
+        u₁ e = omega (arith, e)
+        u₂ : unswept (3 * j) bin ≢ unswept (3 * j) n
+        u₂ e = ne (omega (arith, e))
+        c₁ : unswept (3 * j) bin ≢ consumed inGc n
+        c₁ e = omega (arith, e)
+        c₂ : unswept (3 * j) bin ≢ consumed (3 * j) n
+        c₂ e = omega (arith, e)
+        a₁ : unswept (3 * j) bin ≢ available inGc n
+        a₁ e = omega (arith, e)
+        a₂ : unswept (3 * j) bin ≢ available (3 * j) n
+        a₂ e = omega (arith, e)
+
+    own-bin : (n : ℕ) → n < 49 → (w : Words) → Sized (p .blocks) w → getD (abandonBin p inGc (3 * j) n w .first) (unswept (3 * j) n) 0 ≡ 0
+    unfolding abandonBin
+    own-bin n ln w z =
+        let L : LinksOnly w (append p (consumed inGc n) (consumed (3 * j) n) (append p (available inGc n) (available (3 * j) n) w)) =
+              append-links p (consumed inGc n) (consumed (3 * j) n) _ (append-links p (available inGc n) (available (3 * j) n) w (links-refl w)) in
+        append-empties p (unswept inGc n) (unswept (3 * j) n) _ (omega (arith, sized-same (L .lengths) z .first, unswept-low j n (omega arith) ln))
+
+    bins-empty : (n : ℕ) → n ≤ 49 → (w : Words) → Sized (p .blocks) w → (bin : ℕ) → bin < n → getD (eachBelow n (abandonBin p inGc (3 * j)) w .first) (unswept (3 * j) bin) 0 ≡ 0
+    unfolding eachBelow abandonBin
+    bins-empty zero le w z bin lb = absurd (omega arith)
+    bins-empty (suc n) le w z bin lb = go (ℕ-discrete bin n) (bins-empty n (omega arith) w z bin)
+      where
+        W : Words
+        W = eachBelow n (abandonBin p inGc (3 * j)) w
+        sized : Sized (p .blocks) W
+        sized = sized-same (each-keeps (LinksOnly w) n (abandonBin p inGc (3 * j)) (λ i li x X. bin-links i x X) w (links-refl w) .lengths) z
+          where
+            bin-links : (i : ℕ) (x : Words) → LinksOnly w x → LinksOnly w (abandonBin p inGc (3 * j) i x)
+            bin-links i x X = append-links p (unswept inGc i) (unswept (3 * j) i) _ (append-links p (consumed inGc i) (consumed (3 * j) i) _ (append-links p (available inGc i) (available (3 * j) i) x X))
+        go : Dec (bin ≡ n) → (bin < n → getD (W .first) (unswept (3 * j) bin) 0 ≡ 0) → getD (abandonBin p inGc (3 * j) n W .first) (unswept (3 * j) bin) 0 ≡ 0
+        go (yes e) ih = subst (λ (x : ℕ). getD (abandonBin p inGc (3 * j) n W .first) (unswept (3 * j) x) 0 ≡ 0) (sym e) (own-bin n (omega arith) W sized)
+        go (no f) ih = other-bin n bin (omega arith) (omega arith) f W ∙ ih (omega arith)
+
+  -- ---- a part has released
+
+  pub record Ended (w w′ : Words) : Type 0 where
+    pub free : w′ .free ≡ w .free
+    pub size : w′ .size ≡ w .size
+    pub sized : Sized (p .blocks) w′
+    pub idle : Idle w′
+
+  part-ended : (part : ℕ) (w : Words) → Sized (p .blocks) w → Idle w → Ended w (partReleased p part w)
+  unfolding partReleased setPhase setReleased withReleased OwnersBut
+  part-ended part w z idle = if-cases (Ended w) (allReleased w₁) (λ e. last) (λ e. more)
+    where
+      w₁ : Words
+      w₁ = setReleased part 1 (setPhase 2 w)
+      more : Ended w w₁
+      more = record { free = refl; size = refl; sized = sized-same (simp kept-lengths) z; idle = idle }
+      last : Ended w (setPhase 0 (withReleased (replicate 9 0) (merge p w₁)))
+      last =
+          let L : LinksOnly w₁ (merge p w₁) = merge-links w₁ w₁ (links-refl w₁) in
+          let Z : Sized (p .blocks) (merge p w₁) = sized-same (L .lengths) (more .sized) in
+          record {
+            free = L .free;
+            size = L .size;
+            sized = record { first = Z .first; last = Z .last; bound = Z .bound; released = refl; next = Z .next; prev = Z .prev; free = Z .free; size = Z .size; list = Z .list; tls = Z .tls };
+            idle = λ j n lj ln.
+              merge-owners w₁ w₁ (λ m f g. refl) (unswept (3 * j) n)
+                (λ e. absurd (omega (arith, lj, sym (unswept-owner j n ln) ∙ e)))
+                (λ e. absurd (omega (arith, lj, sym (unswept-owner j n ln) ∙ e)))
+              ∙ idle j n lj ln
+          }
+
+  module _ (t : Tables) (h : List ℕ) (sh : List (List ℕ)) (bk : Book) (I : Inv t h sh bk)
+    (late : mayRelease (t .words) ≡ true) where
+    -- a collection runs, so every cell is old
+    all-old : (c : Cell) → In c (bk .cells) → c .old ≡ true
+    unfolding mayRelease
+    all-old c m = go (c .old) refl
+      where
+        go : (b : Bool) → c .old ≡ b → c .old ≡ true
+        go true e = e
+        go false e =
+            let z = I .young c m e .0 in
+            absurd (⊎-elim (λ y. omega (arith, eqb-true (t .words .phase) 1 y, z)) (λ y. omega (arith, eqb-true (t .words .phase) 2 y, z)) (or-cases (eqb (t .words .phase) 1) (eqb (t .words .phase) 2) late))
+
+    -- blocks were released, and a part is done
+    part-planned : (c : Call) (part : ℕ) (f : Freed) → bookAnswer c (bookEvents p (takerOf c) (f .events) bk) ≡ bookEvents p (takerOf c) (f .events) bk
+        → Freeing (takerOf c) (t .marks) h sh bk f → Idle (f .words) → ((w : Words) (r : Reply) → Serves c w (says r)) → Planned t h sh bk c (releasePlan p part t f)
+    unfolding EndOk releasePlan bookFor
+    part-planned c part f same F idle serves =
+        let E : Ended (f .words) (partReleased p part (f .words)) = part-ended part (f .words) (F .sized) idle in
+        record {
+          events = F .events;
+          inv = rw same (record {
+            core = rw (E .free, E .size) (F .core);
+            sized = E .sized;
+            young = λ d m o. absurd (not-both true refl (sym (F .old d m) ∙ o));
+            idle = E .idle
+          });
+          end = tt;
+          serves = serves _ _
+        }
+
+    pub release-planned : (d : ℕ) → 1 ≤ d → d ≤ 8 → Planned t h sh bk (release d) (releasePlan p d t (releaseHolder p d (t .words) (t .states)))
+    unfolding EndOk Serves bookAnswer releaseHolder OwnersBut localSets abandonBlocks
+    release-planned d lo hi =
+        part-planned (release d) d (releaseHolder p d (t .words) (t .states)) refl
+          (record {
+            events = F .events;
+            core = rw (L .free, L .size) (F .core);
+            sized = sized-same (L .lengths) (F .sized);
+            old = F .old
+          })
+          (λ j n lj ln. idle-of j n lj ln (ℕ-discrete j (d - 1)))
+          (λ w e. tt)
+      where
+        f : Freed
+        f = eachBelow bins (releaseBin p (localSets d)) (freed (t .words) (t .states))
+        F : Freeing (takerOf (release d)) (t .marks) h sh bk f
+        F = holder-freeing (takerOf (release d)) (t .marks) h sh bk (localSets d) _ (nothing-freed (takerOf (release d)) (t .marks) (t .words) (t .states) h sh bk (I .core) (I .sized) all-old)
+        L : LinksOnly (f .words) (abandonBlocks p inGc (localSets d) (f .words))
+        L = abandon-links inGc (localSets d) (f .words)
+        idle-of : (j n : ℕ) → j < 8 → n < 49 → Dec (j ≡ d - 1) → getD (abandonBlocks p inGc (3 * (d - 1)) (f .words) .first) (unswept (3 * j) n) 0 ≡ 0
+        idle-of j n lj ln (yes e) =
+            subst (λ (x : ℕ). getD (abandonBlocks p inGc (3 * (d - 1)) (f .words) .first) (unswept (3 * x) n) 0 ≡ 0) (sym e)
+              (bins-empty (d - 1) (omega arith) bins (omega arith) (f .words) (F .sized) n ln)
+        idle-of j n lj ln (no f′) =
+            abandon-owners (f .words) (d - 1) (f .words) (λ m x y. refl) (unswept (3 * j) n)
+              (λ e. absurd (omega (arith, lj, sym (unswept-owner j n ln) ∙ e)))
+              (λ e. f′ (sym (unswept-owner j n ln) ∙ e))
+            ∙ holder-owners (t .words) (d - 1) (freed (t .words) (t .states)) (λ m x y. refl) (unswept (3 * j) n)
+              (λ e. f′ (sym (unswept-owner j n ln) ∙ e))
+              (λ e. f′ (sym (unswept-owner j n ln) ∙ e))
+            ∙ I .idle j n lj ln
+
+    pub shared-planned : Planned t h sh bk sharedRelease (releasePlan p 0 t (sweepLater p (t .words) (t .states)))
+    unfolding EndOk Serves bookAnswer sweepLater OwnersBut
+    shared-planned =
+        part-planned sharedRelease 0 (sweepLater p (t .words) (t .states)) refl
+          (shared-freeing (takerOf sharedRelease) (t .marks) h sh bk _ (nothing-freed (takerOf sharedRelease) (t .marks) (t .words) (t .states) h sh bk (I .core) (I .sized) all-old))
+          (λ j n lj ln.
+            shared-owners (t .words) (freed (t .words) (t .states)) (λ m f g. refl) (unswept (3 * j) n)
+              (λ e. absurd (omega (arith, lj, sym (unswept-owner j n ln) ∙ e)))
+              (λ e. absurd (omega (arith, lj, sym (unswept-owner j n ln) ∙ e)))
+            ∙ I .idle j n lj ln)
+          (λ w e. tt)

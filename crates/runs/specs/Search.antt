@@ -14,6 +14,7 @@ use Rattle.model.specs.declared.Params.{Params}
 use Rattle.model.specs.Base.{if_then_else_, In}
 use Rattle.model.specs.Params.{start, blockAt, listWord, listOf, available, unswept, consumed, localSets, abandoned}
 use Rattle.model.specs.Tables.{Words, setFree, setTls}
+use Rattle.model.specs.SizeClasses.{cellBytes}
 use Rattle.model.specs.BlockList.{Popped, popped, push, pop}
 use Rattle.model.specs.Block.{headOf, linkAll, sweepChain, sweptWords}
 use Rattle.model.specs.Events.{Event, swept, eventHeap, eventsHeap}
@@ -25,13 +26,17 @@ use Rattle.laws.specs.Params.{Bounds, blockAt-start}
 use Rattle.runs.specs.Frame.{LinksOnly, links-refl, push-links, pop-links, FirstsBut, pop-firsts, push-first}
 use Rattle.runs.specs.Links.{Occupied, Link, Linked, Loose, some-start, Popping, Pop, Empty, pop-cases, Pushed, push-pushed}
 use Rattle.runs.specs.Inv.{Held, Core, was-held, sweep-core, sweep-bytes, sweep-frees}
-use Rattle.runs.specs.Steps.{shadowEvent, shadowEvents, EventOk, EventsOk, no-events, more-events, same-bytes}
+use Rattle.runs.specs.Steps.{shadowEvent, shadowEvents, isTaken, EventOk, EventsOk, no-events, more-events, same-bytes}
 
 -- ---- list words
 
 -- a list word that names no unswept list
 unfoldable pub Settled : ℕ → Type 0
 Settled word = (word - 1) / 49 % 3 ≢ 1
+
+-- the bin of a list word
+unfoldable pub wordBin : ℕ → ℕ
+wordBin word = (word - 1) % 49
 
 -- the lists of the owner whose first set is 3j
 module _ (j bin : ℕ) (few : j ≤ 9) (low : bin < 49) where
@@ -55,6 +60,18 @@ module _ (j bin : ℕ) (few : j ≤ 9) (low : bin < 49) where
   unfolding Settled consumed listOf listWord
   consumed-settled e = omega (arith, e)
 
+  pub available-bin : wordBin (listWord (available (3 * j) bin)) ≡ bin
+  unfolding wordBin available listOf listWord
+  available-bin = omega arith
+
+  pub unswept-bin : wordBin (listWord (unswept (3 * j) bin)) ≡ bin
+  unfolding wordBin unswept listOf listWord
+  unswept-bin = omega arith
+
+  pub consumed-bin : wordBin (listWord (consumed (3 * j) bin)) ≡ bin
+  unfolding wordBin consumed listOf listWord
+  consumed-bin = omega arith
+
   pub unswept-unsettled : Settled (listWord (unswept (3 * j) bin)) → ⊥
   unfolding Settled unswept listOf listWord
   unswept-unsettled s = s (omega arith)
@@ -74,15 +91,19 @@ module _ (p : Params) (B : Bounds p) (st ms : List ℕ) (hd : ℕ) where
     pub core : Core p (w .free) (w .size) st ms h sh bk
     pub young : Young w bk
     pub wide : (b : ℕ) → Occupied p st b → 8 ≤ getD (w .size) b 0
+    -- a block has the cell size of the bin of its list
+    pub class : (b : ℕ) → Occupied p st b → getD (w .size) b 0 ≡ cellBytes p (wordBin (getD (w .list) b 0))
     pub idle : Idle w
+    pub phase : w .phase ≡ 0
 
   -- a block with a free cell that waits for no sweep, at the address a
-  pub record Ready (w : Words) (a : ℕ) : Type 0 where
+  pub record Ready (bin : ℕ) (w : Words) (a : ℕ) : Type 0 where
     pub block : ℕ
     pub occupied : Occupied p st block
     pub at : a ≡ start p block
     pub free : getD (w .free) block 0 ≢ 0
     pub settled : Settled (getD (w .list) block 0)
+    pub size : getD (w .size) block 0 ≡ cellBytes p bin
 
   module _ (w : Words) (h : List ℕ) (sh : List (List ℕ)) (bk : Book) (S : Searching w h sh bk) where
     -- a block is popped
@@ -96,16 +117,25 @@ module _ (p : Params) (B : Bounds p) (st ms : List ℕ) (hd : ℕ) where
           core = rw (L .free, L .size) (S .core);
           young = λ c m o. subst Settled (sym (P .popping .lists (blockAt p (c .start)))) (S .young c m o);
           wide = λ d od. rw (L .size) (S .wide d od);
+          class = λ d od. rw (L .size) (S .class d od ∙ ap (λ (x : ℕ). cellBytes p (wordBin x)) (sym (P .popping .lists d)));
+          phase = L .phase ∙ S .phase;
           idle = λ j n lj ln.
             let ne : unswept (3 * j) n ≢ l = λ e. some-start p st B b (P .popping .occupied .0) (sym (P .first) ∙ ap (λ (x : ℕ). getD (w .first) x 0) (sym e) ∙ S .idle j n lj ln) in
             subst (λ (x : Popped). FirstsBut l l w (x .words)) (P .is) (pop-firsts p l w) (unswept (3 * j) n) ne ne ∙ S .idle j n lj ln
         }
 
+    pub popped-size : (l b bin : ℕ) (P : Pop p st B w (S .lengths) (S .linked) l b) → wordBin (listWord l) ≡ bin → getD (P .words .size) b 0 ≡ cellBytes p bin
+    popped-size l b bin P e =
+        let L : LinksOnly w (P .words) = subst (λ (x : Popped). LinksOnly w (x .words)) (P .is) (pop-links p l w (links-refl w)) in
+        ap (λ (x : List ℕ). getD x b 0) (L .size) ∙ S .class b (P .popping .occupied)
+        ∙ ap (λ (x : ℕ). cellBytes p (wordBin x)) (P .popping .word) ∙ ap (cellBytes p) e
+
     pub popped-free : (l b : ℕ) (P : Pop p st B w (S .lengths) (S .linked) l b) → P .words .free ≡ w .free
     popped-free l b P = subst (λ (x : Popped). LinksOnly w (x .words)) (P .is) (pop-links p l w (links-refl w)) .free
 
     -- a block is pushed, to which no link leads
-    module _ (b c : ℕ) (ob : Occupied p st b) (loose : Loose p st w b) (low : c < 1470) (set : Settled (listWord c)) where
+    module _ (b c : ℕ) (ob : Occupied p st b) (loose : Loose p st w b) (low : c < 1470) (set : Settled (listWord c))
+      (bin : ℕ) (cell : getD (w .size) b 0 ≡ cellBytes p bin) (into : wordBin (listWord c) ≡ bin) where
       pushing : Pushed p st B w (S .lengths) (S .linked) c b (push p c b w)
       pushing = push-pushed p st B w (S .lengths) (S .linked) c b low ob loose
 
@@ -120,6 +150,8 @@ module _ (p : Params) (B : Bounds p) (st ms : List ℕ) (hd : ℕ) where
             core = rw (pushed-links .free, pushed-links .size) (S .core);
             young = λ d m o. young-of d m o (ℕ-discrete (blockAt p (d .start)) b);
             wide = λ d od. rw (pushed-links .size) (S .wide d od);
+            class = λ d od. rw (pushed-links .size) (class-of d od (ℕ-discrete d b));
+            phase = pushed-links .phase ∙ S .phase;
             idle = λ j n lj ln.
               ap (λ (x : List ℕ). getD x (unswept (3 * j) n) 0) (push-first p c b w)
               ∙ getD-set-other (w .first) c (unswept (3 * j) n) (start p b) 0
@@ -127,20 +159,26 @@ module _ (p : Params) (B : Bounds p) (st ms : List ℕ) (hd : ℕ) where
               ∙ S .idle j n lj ln
           }
         where
+          class-of : (d : ℕ) → Occupied p st d → Dec (d ≡ b) → getD (w .size) d 0 ≡ cellBytes p (wordBin (getD (push p c b w .list) d 0))
+          class-of d od (yes e) =
+              ap (λ (x : ℕ). getD (w .size) x 0) e ∙ cell ∙ ap (cellBytes p) (sym into)
+              ∙ ap (λ (x : ℕ). cellBytes p (wordBin x)) (sym (ap (λ (x : ℕ). getD (push p c b w .list) x 0) e ∙ pushing .word))
+          class-of d od (no f) = S .class d od ∙ ap (λ (x : ℕ). cellBytes p (wordBin x)) (sym (pushing .others d f))
           young-of : (d : Cell) → In d (bk .cells) → d .old ≡ false → Dec (blockAt p (d .start) ≡ b)
               → Settled (getD (push p c b w .list) (blockAt p (d .start)) 0)
           young-of d m o (yes e) = subst Settled (sym (ap (λ (x : ℕ). getD (push p c b w .list) x 0) e ∙ pushing .word)) set
           young-of d m o (no f) = subst Settled (sym (pushing .others (blockAt p (d .start)) f)) (S .young d m o)
 
       -- where it has a free cell, it is ready
-      pub pushed-ready : getD (w .free) b 0 ≢ 0 → Ready (push p c b w) (start p b)
+      pub pushed-ready : getD (w .free) b 0 ≢ 0 → Ready bin (push p c b w) (start p b)
       pushed-ready f =
           record {
             block = b;
             occupied = ob;
             at = refl;
             free = subst (λ (x : List ℕ). getD x b 0 ≢ 0) (sym (pushed-links .free)) f;
-            settled = subst Settled (sym (pushing .word)) set
+            settled = subst Settled (sym (pushing .word)) set;
+            size = ap (λ (x : List ℕ). getD x b 0) (pushed-links .size) ∙ cell
           }
 
     -- a block gets a holder
@@ -153,7 +191,9 @@ module _ (p : Params) (B : Bounds p) (st ms : List ℕ) (hd : ℕ) where
           core = S .core;
           young = S .young;
           wide = S .wide;
-          idle = S .idle
+          class = S .class;
+          idle = S .idle;
+          phase = S .phase
         }
 
     -- a block is swept, all of whose held cells are old
@@ -171,7 +211,9 @@ module _ (p : Params) (B : Bounds p) (st ms : List ℕ) (hd : ℕ) where
             core = sweep-core p B (w .free) (w .size) st ms h sh bk (S .core) b (ob .0) chain (ob .1) (S .wide b ob) refl hd;
             young = λ c m o. S .young c (was-held p B (w .free) (w .size) st ms h sh bk (S .core) b (ob .0) chain hd (sweepOf p ms b w) (λ cs. refl) c m .0) o;
             wide = S .wide;
-            idle = S .idle
+            class = S .class;
+            idle = S .idle;
+            phase = S .phase
           }
 
       pub swept-ok : EventOk p B hd (sweepOf p ms b w) h bk
@@ -188,21 +230,22 @@ module _ (p : Params) (B : Bounds p) (st ms : List ℕ) (hd : ℕ) where
 
   -- ---- skimming the available list
 
-  pub record Skimmed (h : List ℕ) (sh : List (List ℕ)) (bk : Book) (g : Popped) : Type 0 where
+  pub record Skimmed (bin : ℕ) (h : List ℕ) (sh : List (List ℕ)) (bk : Book) (g : Popped) : Type 0 where
     pub searching : Searching (g .words) h sh bk
-    pub result : (g .at ≡ 0) ⊎ Ready (g .words) (g .at)
+    pub result : (g .at ≡ 0) ⊎ Ready bin (g .words) (g .at)
 
-  module _ (av full : ℕ) (lav : av < 1470) (lfull : full < 1470) (sav : Settled (listWord av)) (sfull : Settled (listWord full)) where
+  module _ (av full : ℕ) (lav : av < 1470) (lfull : full < 1470) (sav : Settled (listWord av)) (sfull : Settled (listWord full))
+    (bin : ℕ) (bav : wordBin (listWord av) ≡ bin) (bfull : wordBin (listWord full) ≡ bin) where
     pub skim : (k : ℕ) (w : Words) (h : List ℕ) (sh : List (List ℕ)) (bk : Book) → Searching w h sh bk
-        → Skimmed h sh bk (findFreeBlockWith k p av full w)
+        → Skimmed bin h sh bk (findFreeBlockWith k p av full w)
     unfolding findFreeBlockWith
     skim zero w h sh bk S = record { searching = S; result = inl refl }
     skim (suc k) w h sh bk S = go (pop-cases p st B w (S .lengths) (S .linked) av lav)
-        (λ b P. skim k (push p full b (P .words)) h sh bk (pushed-searching (P .words) h sh bk (popped-searching w h sh bk S av b P) b full (P .popping .occupied) (P .popping .loose) lfull sfull))
+        (λ b P. skim k (push p full b (P .words)) h sh bk (pushed-searching (P .words) h sh bk (popped-searching w h sh bk S av b P) b full (P .popping .occupied) (P .popping .loose) lfull sfull bin (popped-size w h sh bk S av b bin P bav) bfull))
       where
         go : Empty p st B w (S .lengths) (S .linked) av ⊎ ((b : ℕ) × Pop p st B w (S .lengths) (S .linked) av b)
-            → ((b : ℕ) (P : Pop p st B w (S .lengths) (S .linked) av b) → Skimmed h sh bk (findFreeBlockWith k p av full (push p full b (P .words))))
-            → Skimmed h sh bk (if eqb (getD (w .first) av 0) 0 then popped 0 w
+            → ((b : ℕ) (P : Pop p st B w (S .lengths) (S .linked) av b) → Skimmed bin h sh bk (findFreeBlockWith k p av full (push p full b (P .words))))
+            → Skimmed bin h sh bk (if eqb (getD (w .first) av 0) 0 then popped 0 w
               else if eqb (getD (w .free) (blockAt p (getD (w .first) av 0)) 0) 0 then findFreeBlockWith k p av full (push p full (blockAt p (getD (w .first) av 0)) (pop p av w .words))
               else popped (getD (w .first) av 0) w)
         go (inl E) ih = rw (eq-eqb _ _ (E .first)) (record { searching = S; result = inl refl })
@@ -211,37 +254,38 @@ module _ (p : Params) (B : Bounds p) (st ms : List ℕ) (hd : ℕ) where
                 blockAt-start p B (z .0) (z .1 .popping .occupied .0), z .1 .is)
               (fork (z .0) (z .1) (ih (z .0) (z .1)) (ℕ-discrete (getD (w .free) (z .0) 0) 0))
           where
-            fork : (b : ℕ) (P : Pop p st B w (S .lengths) (S .linked) av b) → Skimmed h sh bk (findFreeBlockWith k p av full (push p full b (P .words)))
+            fork : (b : ℕ) (P : Pop p st B w (S .lengths) (S .linked) av b) → Skimmed bin h sh bk (findFreeBlockWith k p av full (push p full b (P .words)))
                 → Dec (getD (w .free) b 0 ≡ 0)
-                → Skimmed h sh bk (if eqb (getD (w .free) b 0) 0 then findFreeBlockWith k p av full (push p full b (P .words)) else popped (start p b) w)
+                → Skimmed bin h sh bk (if eqb (getD (w .free) b 0) 0 then findFreeBlockWith k p av full (push p full b (P .words)) else popped (start p b) w)
             fork b P next (yes e) = rw (eq-eqb _ _ e) next
             fork b P next (no f) =
                 rw (ne-eqb _ _ f) (record {
                   searching = S;
-                  result = inr (record { block = b; occupied = P .popping .occupied; at = refl; free = f; settled = subst Settled (sym (P .popping .word)) sav })
+                  result = inr (record { block = b; occupied = P .popping .occupied; at = refl; free = f; settled = subst Settled (sym (P .popping .word)) sav;
+                    size = S .class b (P .popping .occupied) ∙ ap (λ (x : ℕ). cellBytes p (wordBin x)) (P .popping .word) ∙ ap (cellBytes p) bav })
                 })
 
   -- ---- blocks taken over from abandoned
 
-  pub record Acquired (h : List ℕ) (sh : List (List ℕ)) (bk : Book) (f : Found) : Type 0 where
+  pub record Acquired (bin : ℕ) (h : List ℕ) (sh : List (List ℕ)) (bk : Book) (f : Found) : Type 0 where
     pub events : EventsOk p B hd (f .events) h bk
     pub searching : Searching (f .words) (eventsHeap p (f .events) h) (shadowEvents (f .events) sh) (bookEvents p hd (f .events) bk)
-    pub result : (f .at ≡ 0) ⊎ Ready (f .words) (f .at)
+    pub result : (f .at ≡ 0) ⊎ Ready bin (f .words) (f .at)
 
   -- nothing happened to cells
-  pub plain : (a : ℕ) (w : Words) (h : List ℕ) (sh : List (List ℕ)) (bk : Book) → Searching w h sh bk → (a ≡ 0) ⊎ Ready w a → Acquired h sh bk (found a w)
+  pub plain : (bin a : ℕ) (w : Words) (h : List ℕ) (sh : List (List ℕ)) (bk : Book) → Searching w h sh bk → (a ≡ 0) ⊎ Ready bin w a → Acquired bin h sh bk (found a w)
   unfolding eventsHeap shadowEvents bookEvents
-  plain a w h sh bk S r = record { events = no-events p B hd h bk; searching = S; result = r }
+  plain bin a w h sh bk S r = record { events = no-events p B hd h bk; searching = S; result = r }
 
   -- a sweep happened first
-  first-swept : (w : Words) (h : List ℕ) (sh : List (List ℕ)) (bk : Book) (S : Searching w h sh bk) (b : ℕ) (f : Found)
+  first-swept : (bin : ℕ) (w : Words) (h : List ℕ) (sh : List (List ℕ)) (bk : Book) (S : Searching w h sh bk) (b : ℕ) (f : Found)
       → EventOk p B hd (sweepOf p ms b w) h bk
-      → Acquired (eventHeap p (sweepOf p ms b w) h) (shadowEvent (sweepOf p ms b w) sh) (bookEvent p hd (sweepOf p ms b w) bk) f
-      → Acquired h sh bk (after (sweepOf p ms b w) f)
-  unfolding eventsHeap shadowEvents bookEvents
-  first-swept w h sh bk S b f o A =
+      → Acquired bin (eventHeap p (sweepOf p ms b w) h) (shadowEvent (sweepOf p ms b w) sh) (bookEvent p hd (sweepOf p ms b w) bk) f
+      → Acquired bin h sh bk (after (sweepOf p ms b w) f)
+  unfolding eventsHeap shadowEvents bookEvents isTaken
+  first-swept bin w h sh bk S b f o A =
       record {
-        events = more-events p B hd (sweepOf p ms b w) (f .events) h bk o (A .events);
+        events = more-events p B hd (sweepOf p ms b w) (f .events) h bk refl o (A .events);
         searching = A .searching;
         result = A .result
       }
@@ -266,6 +310,12 @@ module _ (p : Params) (B : Bounds p) (st ms : List ℕ) (hd : ℕ) where
     co-settled : Settled (listWord (consumed (localSets hd) bin))
     co-settled = rw own (consumed-settled j bin few low)
 
+    av-bin : wordBin (listWord (available (localSets hd) bin)) ≡ bin
+    av-bin = rw own (available-bin j bin few low)
+
+    co-bin : wordBin (listWord (consumed (localSets hd) bin)) ≡ bin
+    co-bin = rw own (consumed-bin j bin few low)
+
     -- the end of a round, after the popped unswept block
     abbrev unsweptPart : ℕ → Popped → Found
     unsweptPart k g =
@@ -278,33 +328,41 @@ module _ (p : Params) (B : Bounds p) (st ms : List ℕ) (hd : ℕ) where
                    (push p (available (localSets hd) bin) (blockAt p (g .at)) (sweptWords p ms (blockAt p (g .at)) (setTls (blockAt p (g .at)) hd (g .words)))))
 
     Round : ℕ → Type 0
-    Round k = (w : Words) (h : List ℕ) (sh : List (List ℕ)) (bk : Book) → Searching w h sh bk → Acquired h sh bk (acquireAbandoned k p ms hd bin w)
+    Round k = (w : Words) (h : List ℕ) (sh : List (List ℕ)) (bk : Book) → Searching w h sh bk → Acquired bin h sh bk (acquireAbandoned k p ms hd bin w)
 
     -- a block that is no link's goes to the holder: to available if it has a free cell, else to consumed and the search goes on
     module _ (k : ℕ) (ih : Round k) (w : Words) (h : List ℕ) (sh : List (List ℕ)) (bk : Book) (S : Searching w h sh bk)
-      (b : ℕ) (ob : Occupied p st b) (loose : Loose p st w b) where
-      settle : Acquired h sh bk
+      (b : ℕ) (ob : Occupied p st b) (loose : Loose p st w b) (cell : getD (w .size) b 0 ≡ cellBytes p bin) where
+      settle : Acquired bin h sh bk
           (if eqb (getD (w .free) b 0) 0 then acquireAbandoned k p ms hd bin (push p (consumed (localSets hd) bin) b w)
            else found (start p b) (push p (available (localSets hd) bin) b w))
       unfolding Round
       settle = go (ℕ-discrete (getD (w .free) b 0) 0)
         where
-          go : Dec (getD (w .free) b 0 ≡ 0) → Acquired h sh bk
+          go : Dec (getD (w .free) b 0 ≡ 0) → Acquired bin h sh bk
               (if eqb (getD (w .free) b 0) 0 then acquireAbandoned k p ms hd bin (push p (consumed (localSets hd) bin) b w)
                else found (start p b) (push p (available (localSets hd) bin) b w))
           go (yes e) =
               rw (eq-eqb _ _ e)
                 (ih (push p (consumed (localSets hd) bin) b w) h sh bk
-                  (pushed-searching w h sh bk S b (consumed (localSets hd) bin) ob loose co-low co-settled))
+                  (pushed-searching w h sh bk S b (consumed (localSets hd) bin) ob loose co-low co-settled bin cell co-bin))
           go (no f) =
               rw (ne-eqb _ _ f)
-                (plain (start p b) (push p (available (localSets hd) bin) b w) h sh bk
-                  (pushed-searching w h sh bk S b (available (localSets hd) bin) ob loose av-low av-settled)
-                  (inr (pushed-ready w h sh bk S b (available (localSets hd) bin) ob loose av-low av-settled f)))
+                (plain bin (start p b) (push p (available (localSets hd) bin) b w) h sh bk
+                  (pushed-searching w h sh bk S b (available (localSets hd) bin) ob loose av-low av-settled bin cell av-bin)
+                  (inr (pushed-ready w h sh bk S b (available (localSets hd) bin) ob loose av-low av-settled bin cell av-bin f)))
 
     tls-loose : (w : Words) (b v c : ℕ) → Loose p st w c → Loose p st (setTls b v w) c
     unfolding setTls
     tls-loose w b v c L = record { firsts = L .firsts; nexts = L .nexts }
+
+    tls-size : (w : Words) (b v c : ℕ) → getD (setTls b v w .size) c 0 ≡ getD (w .size) c 0
+    unfolding setTls
+    tls-size w b v c = refl
+
+    swept-size : (w : Words) (b c : ℕ) → getD (sweptWords p ms b w .size) c 0 ≡ getD (w .size) c 0
+    unfolding sweptWords setFree
+    swept-size w b c = refl
 
     swept-loose : (w : Words) (b c : ℕ) → Loose p st w c → Loose p st (sweptWords p ms b w) c
     unfolding sweptWords setFree
@@ -312,7 +370,7 @@ module _ (p : Params) (B : Bounds p) (st ms : List ℕ) (hd : ℕ) where
 
     -- an available block of abandoned
     module _ (k : ℕ) (ih : Round k) (w : Words) (h : List ℕ) (sh : List (List ℕ)) (bk : Book) (S : Searching w h sh bk) where
-      take-available : (b : ℕ) (P : Pop p st B w (S .lengths) (S .linked) (available abandoned bin) b) → Acquired h sh bk
+      take-available : (b : ℕ) (P : Pop p st B w (S .lengths) (S .linked) (available abandoned bin) b) → Acquired bin h sh bk
           (if eqb (getD (setTls b hd (P .words) .free) b 0) 0
            then acquireAbandoned k p ms hd bin (push p (consumed (localSets hd) bin) b (setTls b hd (P .words)))
            else found (start p b) (push p (available (localSets hd) bin) b (setTls b hd (P .words))))
@@ -320,17 +378,19 @@ module _ (p : Params) (B : Bounds p) (st ms : List ℕ) (hd : ℕ) where
           settle k ih (setTls b hd (P .words)) h sh bk
             (tls-searching (P .words) h sh bk (popped-searching w h sh bk S (available abandoned bin) b P) b hd)
             b (P .popping .occupied) (tls-loose (P .words) b hd b (P .popping .loose))
+            (tls-size (P .words) b hd b ∙ popped-size w h sh bk S (available abandoned bin) b bin P (available-bin 8 bin (omega arith) low))
 
       -- an unswept block of abandoned: its list word says that its cells are old
-      take-unswept : (b : ℕ) (P : Pop p st B w (S .lengths) (S .linked) (unswept abandoned bin) b) → Acquired h sh bk
+      take-unswept : (b : ℕ) (P : Pop p st B w (S .lengths) (S .linked) (unswept abandoned bin) b) → Acquired bin h sh bk
           (after (sweepOf p ms b (setTls b hd (P .words)))
           (if eqb (getD (sweptWords p ms b (setTls b hd (P .words)) .free) b 0) 0
            then acquireAbandoned k p ms hd bin (push p (consumed (localSets hd) bin) b (sweptWords p ms b (setTls b hd (P .words))))
            else found (start p b) (push p (available (localSets hd) bin) b (sweptWords p ms b (setTls b hd (P .words))))))
       take-unswept b P =
-          first-swept W h sh bk T b _ (swept-ok W h sh bk T b ob aged)
+          first-swept bin W h sh bk T b _ (swept-ok W h sh bk T b ob aged)
             (settle k ih (sweptWords p ms b W) (eventHeap p (sweepOf p ms b W) h) (shadowEvent (sweepOf p ms b W) sh) (bookEvent p hd (sweepOf p ms b W) bk)
-              (swept-searching W h sh bk T b ob aged) b ob (swept-loose W b b (tls-loose (P .words) b hd b (P .popping .loose))))
+              (swept-searching W h sh bk T b ob aged) b ob (swept-loose W b b (tls-loose (P .words) b hd b (P .popping .loose)))
+              (swept-size W b b ∙ tls-size (P .words) b hd b ∙ popped-size w h sh bk S (unswept abandoned bin) b bin P (unswept-bin 8 bin (omega arith) low)))
         where
           W : Words
           W = setTls b hd (P .words)
@@ -347,25 +407,25 @@ module _ (p : Params) (B : Bounds p) (st ms : List ℕ) (hd : ℕ) where
                   absurd (unswept-unsettled 8 bin (omega arith) low
                     (subst Settled (ap (λ (x : ℕ). getD (w .list) x 0) e ∙ P .popping .word) (S .young c m o)))
 
-      next-round : Acquired h sh bk (acquireAbandoned (suc k) p ms hd bin w)
+      next-round : Acquired bin h sh bk (acquireAbandoned (suc k) p ms hd bin w)
       unfolding acquireAbandoned
       next-round = go (pop-cases p st B w (S .lengths) (S .linked) (available abandoned bin) (available-low 8 bin (omega arith) low))
         where
           go : Empty p st B w (S .lengths) (S .linked) (available abandoned bin) ⊎ ((b : ℕ) × Pop p st B w (S .lengths) (S .linked) (available abandoned bin) b)
-              → Acquired h sh bk (acquireAbandoned (suc k) p ms hd bin w)
+              → Acquired bin h sh bk (acquireAbandoned (suc k) p ms hd bin w)
           go (inr z) =
               rw (z .1 .is, ne-eqb (start p (z .0)) 0 (some-start p st B (z .0) (z .1 .popping .occupied .0)), blockAt-start p B (z .0) (z .1 .popping .occupied .0))
                 (take-available (z .0) (z .1))
           go (inl E) = rw (E .is) (unsw (pop-cases p st B w (S .lengths) (S .linked) (unswept abandoned bin) (unswept-low 8 bin (omega arith) low)))
             where
               unsw : Empty p st B w (S .lengths) (S .linked) (unswept abandoned bin) ⊎ ((b : ℕ) × Pop p st B w (S .lengths) (S .linked) (unswept abandoned bin) b)
-                  → Acquired h sh bk (unsweptPart k (pop p (unswept abandoned bin) w))
-              unsw (inl F) = rw (F .is) (plain 0 w h sh bk S (inl refl))
+                  → Acquired bin h sh bk (unsweptPart k (pop p (unswept abandoned bin) w))
+              unsw (inl F) = rw (F .is) (plain bin 0 w h sh bk S (inl refl))
               unsw (inr z) =
                   rw (z .1 .is, ne-eqb (start p (z .0)) 0 (some-start p st B (z .0) (z .1 .popping .occupied .0)), blockAt-start p B (z .0) (z .1 .popping .occupied .0))
                     (take-unswept (z .0) (z .1))
 
-    pub acquire : (k : ℕ) (w : Words) (h : List ℕ) (sh : List (List ℕ)) (bk : Book) → Searching w h sh bk → Acquired h sh bk (acquireAbandoned k p ms hd bin w)
+    pub acquire : (k : ℕ) (w : Words) (h : List ℕ) (sh : List (List ℕ)) (bk : Book) → Searching w h sh bk → Acquired bin h sh bk (acquireAbandoned k p ms hd bin w)
     unfolding acquireAbandoned Round
-    acquire zero w h sh bk S = plain 0 w h sh bk S (inl refl)
+    acquire zero w h sh bk S = plain bin 0 w h sh bk S (inl refl)
     acquire (suc k) w h sh bk S = next-round k (acquire k) w h sh bk S

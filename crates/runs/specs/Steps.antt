@@ -12,7 +12,7 @@ use Rattle.model.specs.Base.{if_then_else_, In, any, filter}
 use Rattle.model.specs.Params.{blockAt}
 use Rattle.model.specs.Events.{Event, initialised, swept, released, taken, eventHeap, eventsHeap}
 use Rattle.model.specs.Runs.{Cell, Book, frees, entered, bookEvent, bookEvents, unmarked, covers, staysHeld, Unchanged, byteAt, hits, LostExactly}
-use Rattle.laws.specs.Base.{filter-in, or-none-left, or-none-right}
+use Rattle.laws.specs.Base.{filter-in, or-none-left, or-none-right, not-both}
 use Rattle.laws.specs.Params.{Bounds}
 use Rattle.laws.specs.Memory as Mem
 use Rattle.laws.specs.Cells.{whole-from}
@@ -29,6 +29,12 @@ shadowEvent (taken a s) sh = sh
 unfoldable pub shadowEvents : List Event → List (List ℕ) → List (List ℕ)
 shadowEvents [] sh = sh
 shadowEvents (e ∷ es) sh = shadowEvents es (shadowEvent e sh)
+
+unfoldable pub isTaken : Event → Bool
+isTaken (initialised b chain) = false
+isTaken (swept b chain) = false
+isTaken (released b) = false
+isTaken (taken a s) = true
 
 -- ---- one event
 
@@ -56,24 +62,31 @@ module _ (p : Params) (B : Bounds p) (hd : ℕ) where
   unfolding bookEvent
   stays e bk c m s = enters e c _ (filter-in (λ (x : Cell). not (frees p e x)) c (bk .cells) m (ap not s))
 
-  -- ---- events in order
+  -- ---- events in order: those of a plan, which take no cell
 
   unfoldable pub EventsOk : List Event → List ℕ → Book → Type 0
   EventsOk [] h bk = Unit {0}
-  EventsOk (e ∷ es) h bk = (EventOk e h bk × EventsOk es (eventHeap p e h) (bookEvent p hd e bk))
+  EventsOk (e ∷ es) h bk = ((isTaken e ≡ false) × EventOk e h bk × EventsOk es (eventHeap p e h) (bookEvent p hd e bk))
 
   pub no-events : (h : List ℕ) (bk : Book) → EventsOk [] h bk
   unfolding EventsOk
   no-events h bk = tt
 
-  pub more-events : (e : Event) (es : List Event) (h : List ℕ) (bk : Book) → EventOk e h bk → EventsOk es (eventHeap p e h) (bookEvent p hd e bk) → EventsOk (e ∷ es) h bk
+  pub more-events : (e : Event) (es : List Event) (h : List ℕ) (bk : Book) → isTaken e ≡ false → EventOk e h bk → EventsOk es (eventHeap p e h) (bookEvent p hd e bk) → EventsOk (e ∷ es) h bk
   unfolding EventsOk
-  more-events e es h bk o r = (o, r)
+  more-events e es h bk q o r = (q, o, r)
 
   pub events-append : (es fs : List Event) (h : List ℕ) (bk : Book) → EventsOk es h bk → EventsOk fs (eventsHeap p es h) (bookEvents p hd es bk) → EventsOk (es ++ fs) h bk
   unfolding EventsOk eventsHeap bookEvents
   events-append [] fs h bk o r = r
-  events-append (e ∷ es) fs h bk o r = (o .0, events-append es fs (eventHeap p e h) (bookEvent p hd e bk) (o .1) r)
+  events-append (e ∷ es) fs h bk o r = (o .0, o .1, events-append es fs (eventHeap p e h) (bookEvent p hd e bk) (o .2) r)
+
+  -- none of them is the taking of a cell
+  pub none-taken : (es : List Event) (h : List ℕ) (bk : Book) → EventsOk es h bk → (a s : ℕ) → In (taken a s) es → ⊥
+  unfolding EventsOk In isTaken
+  none-taken [] h bk o a s m = m
+  none-taken (e ∷ es) h bk o a s (inl q) = not-both true refl (ap isTaken q ∙ o .0)
+  none-taken (e ∷ es) h bk o a s (inr m) = none-taken es (eventHeap p e h) (bookEvent p hd e bk) (o .2) a s m
 
   pub heap-append : (es fs : List Event) (h : List ℕ) → eventsHeap p (es ++ fs) h ≡ eventsHeap p fs (eventsHeap p es h)
   unfolding eventsHeap
@@ -90,17 +103,19 @@ module _ (p : Params) (B : Bounds p) (hd : ℕ) where
   shadow-append [] fs sh = refl
   shadow-append (e ∷ es) fs sh = shadow-append es fs (shadowEvent e sh)
 
-  -- the two clauses of demand 3 that speak of events
-  pub events-lost : (es : List Event) (h : List ℕ) (bk : Book) → EventsOk es h bk → LostExactly p hd es bk
-  unfolding EventsOk LostExactly
-  events-lost [] h bk o = tt
-  events-lost (e ∷ es) h bk o = (o .0 .lost, events-lost es (eventHeap p e h) (bookEvent p hd e bk) (o .1))
+  -- ---- the two clauses of demand 3 that speak of events: of a plan's events, and of these and the cell taken at the end
 
-  pub events-unchanged : (es : List Event) (h : List ℕ) (bk : Book) → EventsOk es h bk → Unchanged p bk es h (eventsHeap p es h)
-  unfolding EventsOk Unchanged eventsHeap staysHeld any
-  events-unchanged [] h bk o = λ c m s k v. refl
-  events-unchanged (e ∷ es) h bk o = λ c m s k v.
+  pub events-lost : (es fs : List Event) (h : List ℕ) (bk : Book) → EventsOk es h bk → LostExactly p hd fs (bookEvents p hd es bk) → LostExactly p hd (es ++ fs) bk
+  unfolding EventsOk LostExactly bookEvents
+  events-lost [] fs h bk o r = r
+  events-lost (e ∷ es) fs h bk o r = (o .1 .lost, events-lost es fs (eventHeap p e h) (bookEvent p hd e bk) (o .2) r)
+
+  pub events-unchanged : (es fs : List Event) (h : List ℕ) (bk : Book) → EventsOk es h bk
+      → Unchanged p (bookEvents p hd es bk) fs (eventsHeap p es h) (eventsHeap p fs (eventsHeap p es h)) → Unchanged p bk (es ++ fs) h (eventsHeap p fs (eventsHeap p es h))
+  unfolding EventsOk Unchanged eventsHeap bookEvents staysHeld any
+  events-unchanged [] fs h bk o r = r
+  events-unchanged (e ∷ es) fs h bk o r = λ c m s k v.
       let q = not-true _ s in
       let here : frees p e c ≡ false = or-none-left (frees p e c) _ q in
-      events-unchanged es (eventHeap p e h) (bookEvent p hd e bk) (o .1) c (stays e bk c m here) (ap not (or-none-right (frees p e c) _ q)) k v
-      ∙ o .0 .bytes c m here k v
+      events-unchanged es fs (eventHeap p e h) (bookEvent p hd e bk) (o .2) r c (stays e bk c m here) (ap not (or-none-right (frees p e c) _ q)) k v
+      ∙ o .1 .bytes c m here k v

@@ -1,5 +1,5 @@
 // Total access to what is lent: each call tests its index, so that nothing is required of a caller.
-pub mod states;
-pub mod tables;
 pub mod bytes;
 pub mod marks;
+pub mod states;
+pub mod tables;

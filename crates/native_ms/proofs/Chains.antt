@@ -1,0 +1,135 @@
+-- Loops that link a block's cells, one after the other: what is linked so far; and what a whole sweep or init makes of it.
+-- Leans on the laws of cells; assumes nothing.
+use Prim.Native.Nat.{ℕ, suc, _+_, _*_, _^_, _≤_, _<_}
+use mathlib.Core.Path.{_≡_, refl, sym, ap, _∙_}
+use mathlib.Core.Bool.{Bool, true, false}
+use mathlib.Core.Logic.{_⊎_, inl, inr}
+use mathlib.Core.List.{List, _∷_}
+use native.Mathlib.Nat.{div-zero, mul-le-mul-right, suc-mul, div-mul-le-self}
+use native.Mathlib.Omega.{arith}
+use lib.ListN.{length, getD, set}
+use borrow.Author.Tests.{ne-eqb, eq-eqb}
+use Rattle.model.specs.declared.Params.{Params}
+use Rattle.model.specs.Params.{goodParams, start}
+use Rattle.model.specs.Memory.{store}
+use Rattle.model.specs.Tables.{Words, setNext, setPrev, setFree, setSize, setList, setTls}
+use Rattle.model.specs.Block.{simple, cellCount, cellsDown, headOf, linkAll, keeps, initChain, initBlock, sweepChain, sweptWords, clearBlock}
+use Rattle.laws.specs.Params.{Bounds, good-bounds, start-out, start-end}
+use Rattle.laws.specs.Memory.{length-store}
+use Rattle.laws.specs.Cells.{cellsDown-kept, cellsDown-freed, tri}
+use Rattle.native_ms.specs.Block.{keptBy, Room, Linked, SweptBy, Swept, Initialised, Cleared}
+
+-- ---- counts and the choice of a sweep
+
+pub count-none : (p : Params) (s : ℕ) → s ≡ 0 → 0 ≡ cellCount p s
+unfolding cellCount
+count-none p s e = rw e (sym (div-zero (p .bytes)))
+
+pub simple-offsets : (p : Params) → p .offsets ≡ true → false ≡ simple p
+unfolding simple
+simple-offsets p e = rw e
+
+pub simple-sizes : (p : Params) → p .offsets ≡ false → (p .min ≡ p .max → ⊥) → false ≡ simple p
+unfolding simple
+simple-sizes p e n = rw (e, ne-eqb (p .min) (p .max) n)
+
+pub simple-unified : (p : Params) → p .offsets ≡ false → p .min ≡ p .max → p .unified ≡ simple p
+unfolding simple
+simple-unified p e m = rw (e, eq-eqb (p .min) (p .max) m)
+
+-- ---- room
+
+start-low : (p : Params) (b : ℕ) → Bounds p → start p b ≤ 2 ^ 47
+start-low p b g = go (tri b (p .blocks))
+  where
+    go : (b < p .blocks) ⊎ ((b ≡ p .blocks) ⊎ (p .blocks < b)) → start p b ≤ 2 ^ 47
+    go (inl l) = omega (arith, start-end p g b l, g .end-high)
+    go (inr (inl e)) = rw (start-out p b (omega arith)) (omega arith)
+    go (inr (inr l)) = rw (start-out p b (omega arith)) (omega arith)
+
+-- a block's cells have room
+pub block-room : (p : Params) (b s : ℕ) {n from : ℕ} → goodParams p ≡ true → n ≡ cellCount p s → from ≡ start p b → Room p from s n
+unfolding cellCount
+block-room p b s e en ef =
+    record { good = e; low = rw ef (start-low p b (good-bounds p e)); fits = rw en (div-mul-le-self (p .bytes) s) }
+
+-- the next of the cells ends in the block's room
+pub next-fits : (p : Params) (from s n k : ℕ) {cell : ℕ} → Room p from s n → k < n → cell ≡ from + k * s
+    → (cell + s ≤ 2 ^ 47 + 65536) × (s ≤ 65536)
+next-fits p from s n k r l e =
+    let g : Bounds p = good-bounds p (r .good) in
+    let step : k * s + s ≤ n * s = omega (arith, mul-le-mul-right {m = suc k} {n = n} s l, suc-mul k s) in
+    (omega (arith, r .low, r .fits, g .bytes-high), omega (arith, r .fits, g .bytes-high))
+
+-- ---- linked so far: k of the n cells were looked at, the next is at `cell`, and h is what the heap h₀ became
+
+pub record Linking (p : Params) (kept : ℕ → Bool) (from s n k : ℕ) (h₀ : List ℕ) (cell last : ℕ) (h : List ℕ) : Type 0 where
+  pub done : k ≤ n
+  pub at : cell ≡ from + k * s
+  pub same : length h ≡ length h₀
+  pub linked : Linked p (cellsDown kept from s k) h₀ last h
+
+pub linking-start : (p : Params) (kept : ℕ → Bool) (from s n : ℕ) (h : List ℕ) → Linking p kept from s n 0 h from 0 h
+unfolding cellsDown headOf linkAll
+linking-start p kept from s n h =
+    record { done = omega arith; at = omega arith; same = refl; linked = record { head = refl; heap = refl } }
+
+module _ (p : Params) (kept : ℕ → Bool) (from s n k : ℕ) (h₀ : List ℕ) (cell last : ℕ) (h : List ℕ)
+    (r : Linking p kept from s n k h₀ cell last h) (lt : k < n) where
+  pub linking-kept : kept cell ≡ true → Linking p kept from s n (k + 1) h₀ (cell + s) last h
+  linking-kept e =
+      let c : cellsDown kept from s k ≡ cellsDown kept from s (k + 1) = cellsDown-kept kept from s k (r .at) e in
+      record {
+        done = omega arith;
+        at = omega (arith, r .at);
+        same = r .same;
+        linked = record { head = r .linked .head ∙ ap headOf c; heap = r .linked .heap ∙ ap (λ (l : List ℕ). linkAll p l h₀) c };
+      }
+
+  pub linking-freed : {h₁ : List ℕ} → kept cell ≡ false → h₁ ≡ store p h cell last
+      → Linking p kept from s n (k + 1) h₀ (cell + s) cell h₁
+  unfolding headOf linkAll
+  linking-freed e st =
+      let c : (cell ∷ cellsDown kept from s k) ≡ cellsDown kept from s (k + 1) = cellsDown-freed kept from s k (r .at) e in
+      record {
+        done = omega arith;
+        at = omega (arith, r .at);
+        same = ap length st ∙ length-store p h cell last ∙ r .same;
+        linked = record {
+          head = ap headOf c;
+          heap = st ∙ (λ i. store p (r .linked .heap i) cell (r .linked .head i)) ∙ ap (λ (l : List ℕ). linkAll p l h₀) c;
+        };
+      }
+
+pub linking-end : (p : Params) (kept : ℕ → Bool) (from s n k : ℕ) (h₀ : List ℕ) (cell last : ℕ) (h : List ℕ)
+    → Linking p kept from s n k h₀ cell last h → n ≤ k → Linked p (cellsDown kept from s n) h₀ last h
+linking-end p kept from s n k h₀ cell last h r le =
+    let e : k ≡ n = omega (arith, r .done) in
+    rw (← e) (r .linked)
+
+-- ---- a whole sweep, and a whole init
+
+pub swept-by : (p : Params) (kept : ℕ → ℕ → Bool) (b : ℕ) {s n from r : ℕ} {t₁ : Words} {h₁ : List ℕ} (t : Words) (h : List ℕ)
+    → s ≡ getD (t .size) b 0 → n ≡ cellCount p s → from ≡ start p b → Linked p (cellsDown (kept s) from s n) h r h₁
+    → t₁ ≡ setFree b r t → SweptBy p kept b t h t₁ h₁
+swept-by p kept b t h es en ef l et =
+    record { words = rw (et, l .head, en, ef, es); heap = rw (l .heap, en, ef, es) }
+
+pub swept : (p : Params) (ms : List ℕ) (b : ℕ) (f : Bool) {t t₁ : Words} {h h₁ : List ℕ} → f ≡ simple p
+    → SweptBy p (keptBy f p ms) b t h t₁ h₁ → Swept p ms b t h t₁ h₁
+unfolding keptBy keeps sweptWords sweepChain
+swept p ms b f e r = record { words = rw e at (r .words); heap = rw e at (r .heap) }
+
+pub initialised : (p : Params) (b s tls : ℕ) {n from r : ℕ} {t₁ t₂ t₃ : Words} {h₁ : List ℕ} (t : Words) (h : List ℕ)
+    → n ≡ cellCount p s → from ≡ start p b → Linked p (cellsDown (λ a. false) from s n) h r h₁
+    → t₁ ≡ setFree b r t → t₂ ≡ setSize b s t₁ → t₃ ≡ setTls b tls t₂ → Initialised p b s tls t h t₃ h₁
+unfolding initBlock initChain
+initialised p b s tls t h en ef l e₁ e₂ e₃ =
+    record { words = rw (e₃, e₂, e₁, l .head, en, ef); heap = rw (l .heap, en, ef) }
+
+-- ---- release
+
+pub cleared : (b : ℕ) {t₁ t₂ t₃ t₄ t₅ t₆ : Words} {s₁ : List ℕ} (t : Words) (st : List ℕ) → t₁ ≡ setNext b 0 t → t₂ ≡ setPrev b 0 t₁
+    → t₃ ≡ setFree b 0 t₂ → t₄ ≡ setSize b 0 t₃ → t₅ ≡ setList b 0 t₄ → t₆ ≡ setTls b 0 t₅ → s₁ ≡ set st b 0 → Cleared b t st t₆ s₁
+unfolding clearBlock
+cleared b t st e₁ e₂ e₃ e₄ e₅ e₆ es = record { words = rw (e₆, e₅, e₄, e₃, e₂, e₁); states = es }

@@ -1,0 +1,62 @@
+-- `sound::any_released` meets its contract: from the last down, as the definition does.
+use mathlib.Core.Path.{_≡_, refl, sym, _∙_}
+use borrow.Author.Needs.{needs}
+use Rattle.model.specs.Tables.{view}
+use Rattle.model.specs.Base.{anyBelow}
+use borrow.Author.Count.{falls-down}
+use Rattle.model.specs.Global.{hasReleased}
+use Rattle.laws.specs.Below.{any-none, any-stop, any-step}
+use Rattle.native_ms.proofs.sound.any_released.Statement.{statement}
+use Rattle.native_ms.proofs.sound.any_released.Tie as tie
+
+abbrev Inv-loop : tie.InvT-loop
+Inv-loop w k₀ k = anyBelow k (hasReleased (view w)) ≡ anyBelow k₀ (hasReleased (view w))
+
+abbrev μ-loop : tie.MeasureT-loop
+μ-loop w k₀ k = k
+
+-- src/sound.rt:411:5
+loop-holds : tie.Need-loop-holds Inv-loop μ-loop
+loop-holds c = refl
+
+-- src/sound.rt:412:13
+sub-k : tie.Need-sub-k Inv-loop μ-loop
+sub-k c = search needs
+
+-- src/sound.rt:413:12
+has-released-requires : tie.Need-has-released-requires Inv-loop μ-loop
+has-released-requires c κs = search needs
+
+-- src/sound.rt:414:13
+--@ returns c = sym (sym (@loop .inv) ∙ any-stop _ _ (@loop-test .taken) (sym (@has-released .ensures) ∙ (@if1 .taken)))
+returns : tie.Need-returns Inv-loop μ-loop
+returns c = sym (sym (c .before .before .before .loop .inv) ∙ any-stop _ _ (c .before .before .loop-test .taken) (sym (c .before .has-released .ensures) ∙ (c .if1 .taken)))
+
+-- src/sound.rt:411:5
+--@ loop-less c = falls-down _ (@loop-test .taken)
+loop-less : tie.Need-loop-less Inv-loop μ-loop
+loop-less c = falls-down _ (c .before .before .loop-test .taken)
+
+-- src/sound.rt:411:5
+--@ loop-again c = any-step _ _ (@loop-test .taken) (sym (@has-released .ensures) ∙ (@if1 .left)) ∙ @loop .inv
+loop-again : tie.Need-loop-again Inv-loop μ-loop
+loop-again c = any-step _ _ (c .before .before .loop-test .taken) (sym (c .before .has-released .ensures) ∙ (c .if1 .left)) ∙ c .before .before .before .loop .inv
+
+-- src/sound.rt:407:1
+--@ returns-2 c = sym (any-none _ _ (@loop-test .left)) ∙ @loop .inv
+returns-2 : tie.Need-returns-2 Inv-loop μ-loop
+returns-2 c = sym (any-none _ _ (c .loop-test .left)) ∙ c .before .loop .inv
+
+pub any-released-spec : {M : Type 1} → statement M
+any-released-spec =
+    tie.close
+    (tie.spec
+    Inv-loop
+    μ-loop
+    loop-holds
+    sub-k
+    has-released-requires
+    returns
+    loop-less
+    loop-again
+    returns-2)

@@ -1,0 +1,51 @@
+-- What the steps on one block promise of words and heap, with a name for each part.
+use Prim.Native.Nat.{ℕ, _+_, _*_, _≤_, _^_}
+use mathlib.Core.Path.{_≡_}
+use mathlib.Core.Bool.{Bool, true}
+use mathlib.Core.List.{List}
+use lib.ListN.{getD, set}
+use Rattle.model.specs.declared.Params.{Params}
+use Rattle.model.specs.Base.{if_then_else_, anyBelow}
+use Rattle.model.specs.Params.{goodParams, start, plusLower}
+use Rattle.model.specs.Memory.{marked}
+use Rattle.model.specs.SizeClasses.{wordsIn}
+use Rattle.model.specs.Tables.{Words, setFree}
+use Rattle.model.specs.Block.{Unallocated, cellCount, cellsDown, headOf, linkAll, initChain, initBlock, sweepChain, sweptWords, clearBlock}
+
+-- whether the simple sweep, or else the brute-force one, keeps the cell of s bytes at a
+unfoldable pub keptBy : Bool → Params → List ℕ → ℕ → ℕ → Bool
+keptBy simple p ms s a =
+    if simple then marked p ms a else anyBelow (wordsIn s) (λ k. marked p ms (plusLower p (a + 8 * k)))
+
+-- n cells of s bytes from `from` on lie in one block's room below 2^47 and its bytes
+pub record Room (p : Params) (from s n : ℕ) : Type 0 where
+  pub good : goodParams p ≡ true
+  pub low : from ≤ 2 ^ 47
+  pub fits : n * s ≤ p .bytes
+
+-- the chain was linked in the heap h, which is h₁ now, and its head is r
+pub record Linked (p : Params) (chain h : List ℕ) (r : ℕ) (h₁ : List ℕ) : Type 0 where
+  pub head : r ≡ headOf chain
+  pub heap : h₁ ≡ linkAll p chain h
+
+-- the cells of b that `kept` does not keep, by the size in the words t
+abbrev pub freed : Params → (ℕ → ℕ → Bool) → ℕ → Words → List ℕ
+freed p kept b t = cellsDown (kept (getD (t .size) b 0)) (start p b) (getD (t .size) b 0) (cellCount p (getD (t .size) b 0))
+
+-- a sweep that keeps what `kept` says, of a cell size and a cell
+pub record SweptBy (p : Params) (kept : ℕ → ℕ → Bool) (b : ℕ) (t : Words) (h : List ℕ) (t₁ : Words) (h₁ : List ℕ) : Type 0 where
+  pub words : t₁ ≡ setFree b (headOf (freed p kept b t)) t
+  pub heap : h₁ ≡ linkAll p (freed p kept b t) h
+
+-- the sweep that the parameters choose
+pub record Swept (p : Params) (ms : List ℕ) (b : ℕ) (t : Words) (h : List ℕ) (t₁ : Words) (h₁ : List ℕ) : Type 0 where
+  pub words : t₁ ≡ sweptWords p ms b t
+  pub heap : h₁ ≡ linkAll p (sweepChain p ms b (getD (t .size) b 0)) h
+
+pub record Initialised (p : Params) (b s tls : ℕ) (t : Words) (h : List ℕ) (t₁ : Words) (h₁ : List ℕ) : Type 0 where
+  pub words : t₁ ≡ initBlock p b s tls t
+  pub heap : h₁ ≡ linkAll p (initChain p b s) h
+
+pub record Cleared (b : ℕ) (t : Words) (st : List ℕ) (t₁ : Words) (st₁ : List ℕ) : Type 0 where
+  pub words : t₁ ≡ clearBlock b t
+  pub states : st₁ ≡ set st b Unallocated

@@ -1,0 +1,85 @@
+-- Soundness as the code tests it: each block by itself; each list walked once, the walks sharing the count of blocks, so that
+-- all lists together take as many steps as there are lists and blocks; each holder, each part. `SoundLaws` says that this is 01's soundness.
+use Prim.Native.Nat.{ℕ, zero, suc}
+use mathlib.Core.Bool.{Bool, false, not, _&&_, _||_}
+use mathlib.Core.List.{List}
+use lib.Dec.{eqb, leb}
+use lib.ListN.{getD}
+use Rattle.model.specs.declared.Params.{Params}
+use Rattle.model.specs.Base.{if_then_else_, allBelow, sumBelow, flag}
+use Rattle.model.specs.Params.{blockAt, isStart, listWord, localSets}
+use Rattle.model.specs.Tables.{Words}
+use Rattle.model.specs.Global.{isBound, hasReleased}
+use Rattle.model.specs.Sound.{blockClear, sizeOk, linkOk, tlsOk, ownerEmpty, inGcEmpty, phaseKnown, releasedSome}
+use Rattle.native_ms.specs.declared.sound.Walked.{Walked}
+use Rattle.native_ms.specs.declared.sound.Walked.the-variants.{Bad, Left}
+
+-- ---- a block by itself
+
+abbrev pub inUse : ℕ → Bool
+inUse s = eqb s 255 || eqb s 254
+
+-- the list it names is one
+abbrev pub namesList : Words → ℕ → Bool
+namesList w b = leb 1 (getD (w .list) b 0) && leb (getD (w .list) b 0) 1470
+
+unfoldable pub blockFits : Params → Words → List ℕ → ℕ → Bool
+blockFits p w s b =
+    if eqb (getD s b 0) 0 then blockClear w b
+    else (inUse (getD s b 0) && namesList w b && sizeOk p w b && linkOk p w b (getD (w .free) b 0) && tlsOk w b)
+
+unfoldable pub unused : Params → List ℕ → ℕ
+unused p s = sumBelow (p .blocks) (λ b. flag (eqb (getD s b 0) 0))
+
+-- ---- walks
+
+-- the block at a stands on the list l behind the one at `before`
+unfoldable pub standsOn : Params → Words → List ℕ → ℕ → ℕ → ℕ → Bool
+standsOn p w s l before a =
+    isStart p a && not (eqb (getD s (blockAt p a) 0) 0) && eqb (getD (w .list) (blockAt p a) 0) (listWord l)
+    && eqb (getD (w .prev) (blockAt p a) 0) before
+
+-- the list l ends with the block at `before`
+unfoldable pub closed : Words → ℕ → ℕ → ℕ → Walked
+closed w l before k = if eqb (getD (w .last) l 0) before then Left k else Bad
+
+-- the list l from the address a on, with at most k blocks: how many of these are left
+unfoldable pub passFrom : ℕ → Params → Words → List ℕ → ℕ → ℕ → ℕ → Walked
+passFrom zero p w s l before a = if eqb a 0 then closed w l before zero else Bad
+passFrom (suc k) p w s l before a =
+    if eqb a 0 then closed w l before (suc k)
+    else (if standsOn p w s l before a then passFrom k p w s l a (getD (w .next) (blockAt p a) 0) else Bad)
+
+abbrev pub onLeft : Walked → (ℕ → Walked) → Walked
+onLeft Bad f = Bad
+onLeft (Left k) f = f k
+
+-- the lists below j, the last first
+unfoldable pub passes : ℕ → Params → Words → List ℕ → ℕ → Walked
+passes zero p w s left = Left left
+passes (suc j) p w s left = onLeft (passFrom left p w s j 0 (getD (w .first) j 0)) (λ x. passes j p w s x)
+
+abbrev pub leaves : ℕ → Walked → Bool
+leaves n Bad = false
+leaves n (Left x) = eqb x n
+
+-- the blocks not met are the Unallocated ones, by their number
+unfoldable pub listsFull : Params → Words → List ℕ → Bool
+listsFull p w s = leaves (unused p s) (passes 1470 p w s (p .blocks))
+
+-- ---- a holder, a part
+
+unfoldable pub holderFits : Words → ℕ → Bool
+holderFits w i =
+    leb (getD (w .bound) i 0) 1 && (isBound w (suc i) || ownerEmpty w (localSets (suc i)))
+    && (not (hasReleased w (suc i)) || ownerEmpty w (localSets (suc i)))
+
+unfoldable pub partFits : Words → ℕ → Bool
+partFits w part =
+    leb (getD (w .released) part 0) 1
+    && (not (hasReleased w part) || (eqb (w .phase) 2 && (eqb part 0 || isBound w part)))
+
+unfoldable pub soundWalk : Params → Words → List ℕ → Bool
+soundWalk p w s =
+    phaseKnown w && allBelow 9 (partFits w) && releasedSome w && allBelow 8 (holderFits w) && inGcEmpty w
+    && allBelow (p .blocks) (blockFits p w s) && listsFull p w s

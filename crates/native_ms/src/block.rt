@@ -1,0 +1,212 @@
+// A block: its cells, the two sweeps and the choice between them, init and release. Named after the Rust's block.rs, with
+// `init_block` of free_list_allocator.rs.
+use crate::address;
+use crate::memory;
+use model::Address;
+use model::Block;
+use model::Params;
+use words::states;
+use words::tables;
+ghost use mathlib.Core.Path.{_≡_};
+ghost use mathlib.Core.Bool.{true, false};
+ghost use Prim.Native.Nat.{_+_, _*_, _^_, _≤_};
+ghost use Rattle.model.specs.Base.{anyBelow};
+ghost use Rattle.model.specs.Params.{goodParams, lowerOk, biased, plusLower};
+ghost use Rattle.model.specs.Memory.{marked};
+ghost use Rattle.model.specs.SizeClasses.{wordsIn};
+ghost use Rattle.model.specs.Tables.{view};
+ghost use Rattle.model.specs.Block.{simple, cellCount, cellsDown};
+ghost use Rattle.native_ms.specs.Block.{keptBy, Room, Linked, SweptBy, Swept, Initialised, Cleared};
+
+// Block::is_unallocated and the like compare a state byte with these.
+pub(crate) const UNALLOCATED: u8 = 0;
+
+// L + 64, so that all else is unsigned.
+pub(crate) fn biased(l: i64) -> usize
+    requires { ⌜ lowerOk l ≡ true ⌝ }
+    ensures { λ r. ⌜ r ≡ biased l ⌝ }
+{
+    (l + 64) as usize
+}
+
+// A place by the address that it is marked for: a + L.
+fn plus_lower(p: Params, a: usize) -> Address
+    requires { ⌜ (goodParams p ≡ true) × (a ≤ 2 ^ 60) ⌝ }
+    ensures { λ r. ⌜ r .0 ≡ plusLower p a ⌝ }
+{
+    let v = a + biased(p.lower);
+    if v < 64 {
+        return Address(0);
+    }
+    Address(v - 64)
+}
+
+// Whether the simple sweep will do: a cell's address is that of its object.
+pub(crate) fn is_simple(p: Params) -> bool
+    ensures { λ r. ⌜ r ≡ simple p ⌝ }
+{
+    if p.offsets {
+        return false;
+    }
+    if p.min != p.max {
+        return false;
+    }
+    p.unified
+}
+
+// The brute-force reading of one cell: whether one of its places is marked, tried in ascending order.
+fn any_marked(p: Params, m: &[u8], cell: Address, s: usize) -> bool
+    requires { ⌜ (goodParams p ≡ true) × (cell .0 ≤ 2 ^ 50) × (s ≤ 65536) ⌝ }
+    ensures { λ r. ⌜ r ≡ anyBelow (wordsIn s) (λ k. marked p (now (m .entry)) (plusLower p (cell .0 + 8 * k))) ⌝ }
+{
+    let a = cell.0;
+    let n = (s + 7) / 8;
+    let mut word: usize = 0;
+    while word < n {
+        let place = plus_lower(p, a + 8 * word);
+        let found = memory::is_marked(p, m, place);
+        if found {
+            return true;
+        }
+        word = word + 1;
+    }
+    false
+}
+
+// Whether a sweep keeps the cell.
+fn cell_is_marked(p: Params, simple: bool, m: &[u8], cell: Address, s: usize) -> bool
+    requires { ⌜ (goodParams p ≡ true) × (cell .0 ≤ 2 ^ 50) × (s ≤ 65536) ⌝ }
+    ensures { λ r. ⌜ r ≡ keptBy simple p (now (m .entry)) s (cell .0) ⌝ }
+{
+    if simple {
+        return memory::is_marked(p, m, cell);
+    }
+    any_marked(p, m, cell, s)
+}
+
+// How many whole cells of s bytes a block has; the short tail is none.
+pub(crate) fn cell_count(p: Params, s: usize) -> usize
+    ensures { λ r. ⌜ r ≡ cellCount p s ⌝ }
+{
+    if s == 0 {
+        return 0;
+    }
+    p.bytes / s
+}
+
+// Links those of the n cells that the sweep finds unmarked, each to the one below it. The answer is the free head. The mark
+// is tested last in a turn, so that the turn's two ends never meet.
+fn link_unmarked(
+    p: Params,
+    simple: bool,
+    m: &[u8],
+    h: &mut [u8],
+    from: Address,
+    s: usize,
+    n: usize,
+) -> usize
+    requires { ⌜ Room p (from .0) s n ⌝ }
+    ensures { λ r. ⌜ Linked p (cellsDown (keptBy simple p (now (m .entry)) s) (from .0) s n) (now (h .entry)) r (now (h .exit)) ⌝ }
+{
+    let mut seen: usize = 0;
+    let mut next = from.0;
+    let mut last: usize = 0;
+    while seen < n {
+        let cell = next;
+        next = next + s;
+        seen = seen + 1;
+        let kept = cell_is_marked(p, simple, m, Address(cell), s);
+        if !kept {
+            memory::store(p, h, Address(cell), last);
+            last = cell;
+        }
+    }
+    last
+}
+
+// Links all n cells.
+fn link_cells(p: Params, h: &mut [u8], from: Address, s: usize, n: usize) -> usize
+    requires { ⌜ Room p (from .0) s n ⌝ }
+    ensures { λ r. ⌜ Linked p (cellsDown (λ a. false) (from .0) s n) (now (h .entry)) r (now (h .exit)) ⌝ }
+{
+    let mut k: usize = 0;
+    let mut cell = from.0;
+    let mut last: usize = 0;
+    while k < n {
+        memory::store(p, h, Address(cell), last);
+        last = cell;
+        cell = cell + s;
+        k = k + 1;
+    }
+    last
+}
+
+// Both sweeps: they differ in the reading of a cell's marks.
+fn sweep_by(p: Params, simple: bool, w: &mut [usize], m: &[u8], h: &mut [u8], b: Block)
+    requires { ⌜ goodParams p ≡ true ⌝ }
+    ensures { λ _. ⌜ SweptBy p (keptBy simple p (now (m .entry))) (b .0) (view (now (w .entry))) (now (h .entry)) (view (now (w .exit))) (now (h .exit)) ⌝ }
+{
+    let i = b.0;
+    let s = tables::size(w, i);
+    let n = cell_count(p, s);
+    let from = address::start(p, b);
+    let last = link_unmarked(p, simple, m, h, from, s, n);
+    tables::set_free(w, i, last);
+}
+
+// Frees each whole cell with no mark at its start.
+fn simple_sweep(p: Params, w: &mut [usize], m: &[u8], h: &mut [u8], b: Block)
+    requires { ⌜ goodParams p ≡ true ⌝ }
+    ensures { λ _. ⌜ SweptBy p (keptBy true p (now (m .entry))) (b .0) (view (now (w .entry))) (now (h .entry)) (view (now (w .exit))) (now (h .exit)) ⌝ }
+{
+    sweep_by(p, true, w, m, h, b);
+}
+
+// Frees each whole cell with no mark at any of its places.
+fn naive_brute_force_sweep(p: Params, w: &mut [usize], m: &[u8], h: &mut [u8], b: Block)
+    requires { ⌜ goodParams p ≡ true ⌝ }
+    ensures { λ _. ⌜ SweptBy p (keptBy false p (now (m .entry))) (b .0) (view (now (w .entry))) (now (h .entry)) (view (now (w .exit))) (now (h .exit)) ⌝ }
+{
+    sweep_by(p, false, w, m, h, b);
+}
+
+// The sweep that the parameters choose.
+pub(crate) fn sweep(p: Params, w: &mut [usize], m: &[u8], h: &mut [u8], b: Block)
+    requires { ⌜ goodParams p ≡ true ⌝ }
+    ensures { λ _. ⌜ Swept p (now (m .entry)) (b .0) (view (now (w .entry))) (now (h .entry)) (view (now (w .exit))) (now (h .exit)) ⌝ }
+{
+    let simple = is_simple(p);
+    if simple {
+        simple_sweep(p, w, m, h, b);
+        return;
+    }
+    naive_brute_force_sweep(p, w, m, h, b);
+}
+
+// Makes the block one of whole cells of s bytes, all free, for a holder.
+pub(crate) fn init_block(p: Params, w: &mut [usize], h: &mut [u8], b: Block, s: usize, tls: usize)
+    requires { ⌜ goodParams p ≡ true ⌝ }
+    ensures { λ _. ⌜ Initialised p (b .0) s tls (view (now (w .entry))) (now (h .entry)) (view (now (w .exit))) (now (h .exit)) ⌝ }
+{
+    let i = b.0;
+    let n = cell_count(p, s);
+    let from = address::start(p, b);
+    let last = link_cells(p, h, from, s, n);
+    tables::set_free(w, i, last);
+    tables::set_size(w, i, s);
+    tables::set_tls(w, i, tls);
+}
+
+// Release: all words of the block and its state are 0 again.
+pub(crate) fn clear_block(w: &mut [usize], st: &mut [u8], b: Block)
+    ensures { λ _. ⌜ Cleared (b .0) (view (now (w .entry))) (now (st .entry)) (view (now (w .exit))) (now (st .exit)) ⌝ }
+{
+    let i = b.0;
+    tables::set_next(w, i, 0);
+    tables::set_prev(w, i, 0);
+    tables::set_free(w, i, 0);
+    tables::set_size(w, i, 0);
+    tables::set_list(w, i, 0);
+    tables::set_tls(w, i, 0);
+    states::set_state(st, i, UNALLOCATED);
+}

@@ -1,0 +1,65 @@
+// Words, zeros and mark bits by address, over the lent heap and mark bytes. Total: an address below the heap is taken for
+// its first byte, as in the definitions.
+use crate::address;
+use model::Address;
+use model::Params;
+use words::bytes;
+use words::marks;
+ghost use mathlib.Core.Path.{_≡_};
+ghost use mathlib.Core.Bool.{true};
+ghost use Prim.Native.Nat.{_-_};
+ghost use Rattle.model.specs.Params.{goodParams};
+ghost use Rattle.model.specs.Memory.{load, store, zeroed, marked, setMark};
+
+// Where an address stands in the heap.
+fn offset(p: Params, a: Address) -> usize
+    ensures { λ r. ⌜ r ≡ a .0 - p .base ⌝ }
+{
+    let v = a.0;
+    let base = p.base;
+    if v < base {
+        return 0;
+    }
+    v - base
+}
+
+pub(crate) fn load(p: Params, h: &[u8], a: Address) -> usize
+    ensures { λ r. ⌜ r ≡ load p (now (h .entry)) (a .0) ⌝ }
+{
+    let i = offset(p, a);
+    bytes::load_word(h, i)
+}
+
+pub(crate) fn store(p: Params, h: &mut [u8], a: Address, v: usize)
+    ensures { λ _. ⌜ now (h .exit) ≡ store p (now (h .entry)) (a .0) v ⌝ }
+{
+    let i = offset(p, a);
+    bytes::store_word(h, i, v);
+}
+
+pub(crate) fn zero(p: Params, h: &mut [u8], a: Address, n: usize)
+    ensures { λ _. ⌜ now (h .exit) ≡ zeroed p (now (h .entry)) (a .0) n ⌝ }
+{
+    let i = offset(p, a);
+    bytes::zero(h, i, n);
+}
+
+// Whether a place is marked; one outside the heap is not.
+pub(crate) fn is_marked(p: Params, m: &[u8], place: Address) -> bool
+    requires { ⌜ goodParams p ≡ true ⌝ }
+    ensures { λ r. ⌜ r ≡ marked p (now (m .entry)) (place .0) ⌝ }
+{
+    let inside = address::in_heap(p, place);
+    if inside {
+        let i = offset(p, place);
+        return marks::test(m, i / 8);
+    }
+    false
+}
+
+pub(crate) fn set_mark(p: Params, m: &mut [u8], place: Address)
+    ensures { λ _. ⌜ now (m .exit) ≡ setMark p (now (m .entry)) (place .0) ⌝ }
+{
+    let i = offset(p, place);
+    marks::set_bit(m, i / 8);
+}

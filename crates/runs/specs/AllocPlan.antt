@@ -1,0 +1,310 @@
+-- Alloc's plan keeps the invariant of a run, and takes the first free cell of a block that waits for no sweep.
+use mathlib.Core.Path.{_≡_, refl, sym, ap, _∙_, subst}
+use mathlib.Core.Logic.{_≢_, _⊎_, inl, inr, ⊎-elim}
+use mathlib.Core.Bool.{Bool, true, false, not, _&&_, _||_}
+use mathlib.Core.List.{List, [], _∷_, _++_}
+use Prim.Native.Nat.{ℕ, zero, suc, _+_, _-_, _*_, _/_, _%_, _≤_, _<_}
+use native.Mathlib.Omega.{arith}
+use native.Mathlib.Nat.{le-div-iff-mul-le}
+use native.Mathlib.Decide.{ℕ-discrete}
+use lib.Dec.{eqb, ltb, leb}
+use lib.ListN.{length, getD, set, length-set}
+use lib.Seq.{getD-set-same, getD-set-other}
+use borrow.Author.Tests.{eqb-true, eqb-false, eq-eqb, ne-eqb, not-true, not-false, ltb-true, leb-true}
+use Rattle.model.specs.declared.Params.{Params}
+use Rattle.model.specs.declared.Offer.{Offer}
+use Rattle.model.specs.declared.Offer.the-variants.{Nothing, Fresh}
+use Rattle.model.specs.declared.Refusal.the-variants.{Exhausted}
+use Rattle.model.specs.Base.{if_then_else_, In}
+use Rattle.model.specs.Params.{start, blockAt, listWord, localSets, available, unswept, consumed}
+use Rattle.model.specs.Tables.{Words, Tables, tablesOf, withWords, setFree, setSize, setTls}
+use Rattle.model.specs.SizeClasses.{cellBytes, alignAllocation}
+use Rattle.model.specs.BlockList.{Popped, popped, push, pop}
+use Rattle.model.specs.Block.{Unmarked, headOf, linkAll, initChain, initBlock, cellsDown, cellCount}
+use Rattle.model.specs.Events.{Event, initialised, eventHeap, eventsHeap}
+use Rattle.model.specs.FreeListAllocator.{findFreeBlockWith, Found, found, andThen, recycleLocalBlocks, acquireAbandoned, Search, inFound, acquireFresh, findBlock}
+use Rattle.model.specs.Calls.{refused, Call, alloc, End, says, takes, Plan, goodOffer, takePlan}
+use Rattle.model.specs.Sound.{stateOf, sound, sizeOk, binNamed, listNamed}
+use Rattle.model.specs.Runs.{Cell, Book, bookEvent, bookEvents, bookAnswer, takerOf, entered, frees, hits}
+use Rattle.laws.specs.Base.{and-left, and-right, if-true, if-false, not-both}
+use Rattle.laws.specs.Params.{Bounds, blockAt-start}
+use Rattle.laws.specs.Classes.{cellBytes-least, cellBytes-words}
+use Rattle.laws.specs.Tables.{Sized, sized-same, kept-lengths, lengths}
+use Rattle.laws.specs.Memory as Mem
+use Rattle.laws.specs.Cells.{chainStands}
+use Rattle.runs.specs.Frame.{LinksOnly, links-refl, push-links, push-list, push-first}
+use Rattle.runs.specs.Links.{Occupied, Linked, some-start}
+use Rattle.runs.specs.SoundFacts.{SoundParts, sound-parts, BlockParts, block-parts, on-parts, sound-linked}
+use Rattle.runs.specs.Inv.{Held, Core, was-held, init-core, init-bytes}
+use Rattle.runs.specs.Steps.{shadowEvent, shadowEvents, isTaken, EventOk, EventsOk, no-events, more-events, events-append, heap-append, book-append, shadow-append, same-bytes}
+use Rattle.runs.specs.Search.{Settled, Idle, wordBin, available-settled, consumed-settled, unswept-unsettled, available-low, consumed-low, available-bin, consumed-bin, Searching, Ready, Skimmed, skim, Acquired, acquire, plain}
+use Rattle.runs.specs.Plans.{refusal-some, bookFor, Inv, Taking, EndOk, Planned, Serves, set-steady}
+
+-- no holder has an unswept list, so there is nothing to sweep there
+recycle-idle : (k : ℕ) (p : Params) (ms : List ℕ) (owner bin : ℕ) (w : Words) → getD (w .first) (unswept owner bin) 0 ≡ 0
+    → recycleLocalBlocks k p ms owner bin w ≡ found 0 w
+unfolding recycleLocalBlocks pop
+recycle-idle zero p ms owner bin w e = refl
+recycle-idle (suc k) p ms owner bin w e = rw (eq-eqb _ _ e)
+
+module _ (p : Params) (B : Bounds p) (t : Tables) (h : List ℕ) (sh : List (List ℕ)) (bk : Book) (I : Inv p B t h sh bk)
+  (good : sound p t ≡ true) (running : t .words .phase ≡ 0) (hd : ℕ) (lo : 1 ≤ hd) (hi : hd ≤ 8)
+  (bin : ℕ) (some : 1 ≤ bin) (low : bin < 49) (room : cellBytes p bin ≤ p .bytes) where
+  own : localSets hd ≡ 3 * (hd - 1)
+  unfolding localSets
+  own = refl
+
+  -- the search starts from sound tables
+  class-of : (b : ℕ) → Occupied p (t .states) b → (8 ≤ getD (t .words .size) b 0) × (getD (t .words .size) b 0 ≡ cellBytes p (wordBin (getD (t .words .list) b 0)))
+  unfolding sizeOk binNamed listNamed wordBin stateOf
+  class-of b ob =
+      let q = block-parts p t b (sound-parts p t good .blocks b (ob .0)) (ob .1) .size in
+      let e : getD (t .words .size) b 0 ≡ cellBytes p ((getD (t .words .list) b 0 - 1) % 49) = eqb-true _ _ (and-right (leb 1 ((getD (t .words .list) b 0 - 1) % 49)) _ q) in
+      (omega (arith, e, cellBytes-least p {bin = (getD (t .words .list) b 0 - 1) % 49} (omega arith)), e)
+
+  starting : Searching p B (t .states) (t .marks) hd (t .words) h sh bk
+  starting =
+      record {
+        linked = sound-linked p B t (I .sized .first) good;
+        lengths = I .sized;
+        core = I .core;
+        young = λ c m o. I .young c m o .1;
+        wide = λ b ob. class-of b ob .0;
+        class = λ b ob. class-of b ob .1;
+        idle = I .idle;
+        phase = running
+      }
+
+  -- ---- what the search ends with
+
+  -- a block with a first free cell, on the tables and the shadow after
+  pub record Cellful (t′ : Tables) (sh′ : List (List ℕ)) (a : ℕ) : Type 0 where
+    pub block : ℕ
+    pub inside : block < p .blocks
+    pub at : a ≡ start p block
+    pub occupied : getD (t′ .states) block 0 ≢ 0
+    pub settled : Settled (getD (t′ .words .list) block 0)
+    pub size : getD (t′ .words .size) block 0 ≡ cellBytes p bin
+    pub cell : ℕ
+    pub rest : List ℕ
+    pub chain : getD sh′ block [] ≡ cell ∷ rest
+
+  pub record Searched (s : Search) : Type 0 where
+    pub events : EventsOk p B hd (s .events) h bk
+    pub inv : Inv p B (s .tables) (eventsHeap p (s .events) h) (shadowEvents (s .events) sh) (bookEvents p hd (s .events) bk)
+    pub phase : s .tables .words .phase ≡ 0
+    pub result : (s .at ≡ 0) ⊎ Cellful (s .tables) (shadowEvents (s .events) sh) (s .at)
+
+  -- a chain from an address that is not 0 has a first cell
+  first-cell : (h : List ℕ) (a : ℕ) (l : List ℕ) → chainStands p h a l → a ≢ 0 → (x : ℕ) × (r : List ℕ) × (l ≡ x ∷ r)
+  unfolding chainStands
+  first-cell h a [] c ne = absurd (ne c)
+  first-cell h a (x ∷ r) c ne = (x, r, refl)
+
+  found-inv : (w : Words) (h′ : List ℕ) (sh′ : List (List ℕ)) (bk′ : Book) → Searching p B (t .states) (t .marks) hd w h′ sh′ bk′ → Inv p B (withWords w t) h′ sh′ bk′
+  found-inv w h′ sh′ bk′ S = record { core = S .core; sized = S .lengths; young = λ c m o. (S .phase, S .young c m o); idle = S .idle }
+
+  found-searched : (f : Found) → Acquired p B (t .states) (t .marks) hd bin h sh bk f → Searched (inFound f t)
+  found-searched f A =
+      record {
+        events = A .events;
+        inv = found-inv (f .words) _ _ _ (A .searching);
+        phase = A .searching .phase;
+        result = ⊎-elim inl (λ r. inr (ready r)) (A .result)
+      }
+    where
+      ready : Ready p B (t .states) (t .marks) hd bin (f .words) (f .at) → Cellful (withWords (f .words) t) (shadowEvents (f .events) sh) (f .at)
+      ready r =
+          let k = first-cell _ _ _ (A .searching .core .blocks (r .block) (r .occupied .0) .stands) (r .free) in
+          record {
+            block = r .block;
+            inside = r .occupied .0;
+            at = r .at;
+            occupied = r .occupied .1;
+            settled = r .settled;
+            size = r .size;
+            cell = k .0;
+            rest = k .1;
+            chain = k .2
+          }
+
+  -- ---- the offer
+
+  -- a class that fits has a cell
+  init-some : (b : ℕ) → (x : ℕ) × (r : List ℕ) × (initChain p b (cellBytes p bin) ≡ x ∷ r)
+  unfolding initChain cellCount cellsDown
+  init-some b = go (p .bytes / cellBytes p bin) (le-div-iff-mul-le {k = cellBytes p bin} {x = 1} {y = p .bytes} (omega (arith, cellBytes-least p {bin = bin} low)) .1 (omega arith))
+    where
+      go : (n : ℕ) → 1 ≤ n → (x : ℕ) × (r : List ℕ) × (cellsDown (λ a. false) (start p b) (cellBytes p bin) n ≡ x ∷ r)
+      go zero le = absurd (omega arith)
+      go (suc n) le = (start p b + n * cellBytes p bin, cellsDown (λ a. false) (start p b) (cellBytes p bin) n, refl)
+
+  module _ (b : ℕ) (lb : b < p .blocks) (none : getD (t .states) b 0 ≡ 0) (f : Found) (A : Acquired p B (t .states) (t .marks) hd bin h sh bk f) where
+    S : Searching p B (t .states) (t .marks) hd (f .words) (eventsHeap p (f .events) h) (shadowEvents (f .events) sh) (bookEvents p hd (f .events) bk)
+    S = A .searching
+
+    abbrev cell : ℕ
+    cell = cellBytes p bin
+
+    abbrev chain : List ℕ
+    chain = initChain p b (cellBytes p bin)
+
+    abbrev list : ℕ
+    list = available (localSets hd) bin
+
+    abbrev heap : List ℕ
+    heap = eventsHeap p (f .events) h
+
+    abbrev shadow : List (List ℕ)
+    shadow = shadowEvents (f .events) sh
+
+    abbrev book : Book
+    book = bookEvents p hd (f .events) bk
+
+    links : LinksOnly (f .words) (push p list b (f .words))
+    links = push-links p list b (f .words) (links-refl (f .words))
+
+    settled : Settled (listWord list)
+    settled = rw own (available-settled (hd - 1) bin (omega arith) low)
+
+    init-ok : EventOk p B hd (initialised b chain) heap book
+    unfolding eventHeap frees hits
+    init-ok =
+        record {
+          lost = λ c m. (refl, λ s. absurd (not-both true refl (sym s)));
+          bytes = λ c m out. same-bytes p B hd (f .words .size) (t .states) heap (linkAll p chain heap) c (S .core .held c m)
+            (init-bytes p B (f .words .free) (f .words .size) (t .states) (t .marks) heap shadow book (S .core) b lb chain none cell
+              (cellBytes-least p {bin = bin} low) (cellBytes-words p {bin = bin} low) refl hd c m)
+        }
+
+    init-inv : Inv p B (tablesOf (initBlock p b cell hd (push p list b (f .words))) (set (t .states) b Unmarked) (t .marks))
+        (linkAll p chain heap) (set shadow b chain) (bookEvent p hd (initialised b chain) book)
+    unfolding initBlock setTls setSize setFree entered
+    init-inv =
+        record {
+          core = rw (links .free, links .size)
+            (init-core p B (f .words .free) (f .words .size) (t .states) (t .marks) heap shadow book (S .core) b lb chain none cell
+              (cellBytes-least p {bin = bin} low) (cellBytes-words p {bin = bin} low) refl hd);
+          sized = sized-same (simp kept-lengths (links .lengths)) (S .lengths);
+          young = λ c m o.
+            (links .phase ∙ S .phase,
+              subst (λ (x : List ℕ). Settled (getD x (blockAt p (c .start)) 0)) (sym (push-list p list b (f .words)))
+                (set-steady p B (f .words .list) b (listWord list) (blockAt p (c .start)) settled
+                  (S .young c (was-held p B (f .words .free) (f .words .size) (t .states) (t .marks) heap shadow book (S .core) b lb chain hd (initialised b chain) (λ cs. refl) c m .0) o)));
+          idle = λ j n lj ln.
+            ap (λ (x : List ℕ). getD x (unswept (3 * j) n) 0) (push-first p list b (f .words))
+            ∙ getD-set-other (f .words .first) list (unswept (3 * j) n) (start p b) 0
+              (λ q. unswept-unsettled j n (omega arith) ln (subst (λ (x : ℕ). Settled (listWord x)) (sym q) settled))
+            ∙ S .idle j n lj ln
+        }
+
+    -- the events of the search and the init, as one row
+    rows-heap : eventsHeap p (f .events ++ (initialised b chain ∷ [])) h ≡ linkAll p chain heap
+    unfolding eventsHeap eventHeap
+    rows-heap = heap-append p B hd (f .events) (initialised b chain ∷ []) h
+
+    rows-shadow : shadowEvents (f .events ++ (initialised b chain ∷ [])) sh ≡ set shadow b chain
+    unfolding shadowEvents shadowEvent
+    rows-shadow = shadow-append p B hd (f .events) (initialised b chain ∷ []) sh
+
+    rows-book : bookEvents p hd (f .events ++ (initialised b chain ∷ [])) bk ≡ bookEvent p hd (initialised b chain) book
+    unfolding bookEvents
+    rows-book = book-append p B hd (f .events) (initialised b chain ∷ []) bk
+
+    fresh-cellful : Cellful (tablesOf (initBlock p b cell hd (push p list b (f .words))) (set (t .states) b Unmarked) (t .marks)) (set shadow b chain) (start p b)
+    unfolding initBlock setTls setSize setFree
+    fresh-cellful =
+        let k = init-some b in
+        record {
+          block = b;
+          inside = lb;
+          at = refl;
+          occupied = λ z. absurd (omega (arith, sym (getD-set-same (t .states) b Unmarked 0 (omega (arith, lb, I .core .states))) ∙ z));
+          settled = subst Settled
+            (sym (ap (λ (x : List ℕ). getD x b 0) (push-list p list b (f .words)) ∙ getD-set-same (f .words .list) b (listWord list) 0 (omega (arith, lb, S .lengths .list)))) settled;
+          size = getD-set-same (push p list b (f .words) .size) b cell 0 (omega (arith, lb, ap length (links .size), S .lengths .size));
+          cell = k .0;
+          rest = k .1;
+          chain = getD-set-same shadow b chain [] (omega (arith, lb, S .core .shadow)) ∙ k .2
+        }
+
+    fresh-searched : Searched (acquireFresh p hd bin (Fresh (record { 0 = b })) f t)
+    unfolding acquireFresh initBlock setTls setSize setFree isTaken
+    fresh-searched =
+        record {
+          events = events-append p B hd (f .events) (initialised b chain ∷ []) h bk (A .events)
+            (more-events p B hd (initialised b chain) [] heap book refl init-ok (no-events p B hd _ _));
+          inv = rw (rows-heap, rows-shadow, rows-book) init-inv;
+          phase = links .phase ∙ S .phase;
+          result = inr (rw rows-shadow fresh-cellful)
+        }
+
+  offered : (offer : Offer) → goodOffer p t offer ≡ true → (f : Found) → Acquired p B (t .states) (t .marks) hd bin h sh bk f → Searched (acquireFresh p hd bin offer f t)
+  unfolding acquireFresh goodOffer stateOf
+  offered Nothing fine f A = found-searched f A
+  offered (Fresh b) fine f A =
+      fresh-searched (b .0)
+        (ltb-true _ _ (and-left (ltb (b .0) (p .blocks)) (eqb (getD (t .states) (b .0) 0) 0) fine))
+        (eqb-true _ _ (and-right (ltb (b .0) (p .blocks)) (eqb (getD (t .states) (b .0) 0) 0) fine)) f A
+
+  -- ---- the whole search
+
+  pub find-searched : (offer : Offer) → goodOffer p t offer ≡ true → Searched (findBlock p hd bin offer t)
+  unfolding findBlock localSets
+  find-searched offer fine = go (G .result)
+    where
+      lav : available (localSets hd) bin < 1470
+      lav = rw own (available-low (hd - 1) bin (omega arith) low)
+      lco : consumed (localSets hd) bin < 1470
+      lco = rw own (consumed-low (hd - 1) bin (omega arith) low)
+      g : Popped
+      g = findFreeBlockWith (p .blocks) p (available (localSets hd) bin) (consumed (localSets hd) bin) (t .words)
+      G : Skimmed p B (t .states) (t .marks) hd bin h sh bk g
+      G = skim p B (t .states) (t .marks) hd (available (localSets hd) bin) (consumed (localSets hd) bin) lav lco
+            (rw own (available-settled (hd - 1) bin (omega arith) low)) (rw own (consumed-settled (hd - 1) bin (omega arith) low))
+            bin (rw own (available-bin (hd - 1) bin (omega arith) low)) (rw own (consumed-bin (hd - 1) bin (omega arith) low))
+            (p .blocks) (t .words) h sh bk starting
+      still : recycleLocalBlocks (p .blocks) p (t .marks) (localSets hd) bin (g .words) ≡ found 0 (g .words)
+      still = recycle-idle (p .blocks) p (t .marks) (localSets hd) bin (g .words) (rw own (G .searching .idle (hd - 1) bin (omega arith) low))
+      a : Found
+      a = acquireAbandoned (p .blocks) p (t .marks) hd bin (g .words)
+      A : Acquired p B (t .states) (t .marks) hd bin h sh bk a
+      A = acquire p B (t .states) (t .marks) hd bin (hd - 1) low (omega arith) own (p .blocks) (g .words) h sh bk (G .searching)
+      nonzero : (x : ℕ) (w : Words) (st : List ℕ) → Ready p B (t .states) (t .marks) hd bin w x → x ≢ 0
+      nonzero x w st r z = some-start p (t .states) B (r .block) (r .occupied .0) (sym (r .at) ∙ z)
+      last : (a .at ≡ 0) ⊎ Ready p B (t .states) (t .marks) hd bin (a .words) (a .at) → Searched (if eqb (a .at) 0 then acquireFresh p hd bin offer a t else inFound a t)
+      last (inl z) = rw (eq-eqb _ _ z) (offered offer fine a A)
+      last (inr r) = rw (ne-eqb _ _ (nonzero (a .at) (a .words) (t .states) r)) (found-searched a A)
+      go : (g .at ≡ 0) ⊎ Ready p B (t .states) (t .marks) hd bin (g .words) (g .at) → Searched (findBlock p hd bin offer t)
+      go (inr r) =
+          rw (ne-eqb _ _ (nonzero (g .at) (g .words) (t .states) r))
+            (found-searched (found (g .at) (g .words)) (plain p B (t .states) (t .marks) hd bin (g .at) (g .words) h sh bk (G .searching) (inr r)))
+      go (inl e) = rw (eq-eqb _ _ e, still) (last (A .result))
+
+  -- ---- the plan
+
+  pub alloc-planned : (size align offset : ℕ) (offer : Offer) → goodOffer p t offer ≡ true
+      → ((x : ℕ) → x % 8 ≡ 0 → alignAllocation x align offset + size ≤ x + cellBytes p bin)
+      → Planned p B t h sh bk (alloc hd size align offset offer) (takePlan p align offset (findBlock p hd bin offer t))
+  unfolding takePlan takerOf bookFor bookAnswer Serves EndOk
+  alloc-planned size align offset offer fine fits = go (S .result)
+    where
+      s : Search
+      s = findBlock p hd bin offer t
+      S : Searched s
+      S = find-searched offer fine
+      go : (s .at ≡ 0) ⊎ Cellful (s .tables) (shadowEvents (s .events) sh) (s .at) → Planned p B t h sh bk (alloc hd size align offset offer) (takePlan p align offset s)
+      go (inl e) =
+          rw (eq-eqb _ _ e) (record {
+            events = S .events;
+            inv = rw (refusal-some Exhausted) (S .inv);
+            end = tt;
+            serves = refusal-some Exhausted
+          })
+      go (inr k) =
+          rw (k .at, ne-eqb (start p (k .block)) 0 (some-start p (t .states) B (k .block) (k .inside)), blockAt-start p B (k .block) (k .inside)) (record {
+            events = S .events;
+            inv = S .inv;
+            end = record { inside = k .inside; occupied = k .occupied; settled = k .settled; running = S .phase; cell = k .cell; rest = k .rest; chain = k .chain };
+            serves = (refl, refl, λ x e. rw (k .size) (fits x e))
+          })

@@ -1,0 +1,318 @@
+-- Demand 3, as the model states it: every run follows the run over the shadow, which knows no heap, so two runs with the same
+-- calls agree; and each turn keeps what is held.
+use mathlib.Core.Path.{_≡_, refl, sym, ap, _∙_, subst}
+use mathlib.Core.Logic.{_≢_, _⊎_, inl, inr, ⊎-elim}
+use mathlib.Core.Bool.{Bool, true, false, not, _&&_}
+use mathlib.Core.List.{List, [], _∷_, _++_, map}
+use Prim.Native.Nat.{ℕ, zero, suc, _+_, _-_, _*_, _/_, _%_, _≤_, _<_}
+use native.Mathlib.Omega.{arith}
+use native.Mathlib.Decide.{ℕ-discrete}
+use lib.Dec.{eqb}
+use lib.ListN.{length, getD, set, length-set, replicate, length-replicate, getD-replicate}
+use lib.Seq.{getD-set-other}
+use borrow.Author.Tests.{eq-eqb, eqb-true}
+use Rattle.model.specs.declared.Params.{Params}
+use Rattle.model.specs.declared.Refusal.the-variants.{BadSetup}
+use Rattle.model.specs.Base.{if_then_else_, In, Pairwise, member}
+use Rattle.model.specs.Params.{goodParams, Lent, fits, wordCount, heapBytes, blockAt, unswept}
+use Rattle.model.specs.Memory.{marked, cleared}
+use Rattle.model.specs.Tables.{Words, Tables, tablesOf, view, flat}
+use Rattle.model.specs.Events.{Event, sweeps, releases}
+use Rattle.model.specs.Global.{freshWords, freshTables}
+use Rattle.model.specs.Calls.{Reply, answered, refusalNumber, Call, Step, step, Result, tablesIn, lentOf, resultFrom, badSetup, call, setUp, pages}
+use Rattle.model.specs.Runs.{Cell, Book, emptyBook, bookAfter, Write, written, Turn, State, foundBy, stepOf, resultOf, turned, begun, covers, Holds, HoldersWrite, Seen, seen, trace, TurnKeeps, RunKeeps, Alike, Demand3}
+use Rattle.laws.specs.Base.{and-left, and-right, bool-cases, if-true, if-false}
+use Rattle.laws.specs.Below.{and-both}
+use Rattle.laws.specs.Params.{Bounds}
+use Rattle.laws.specs.Tables.{Sized, view-flat, length-flat}
+use Rattle.laws.specs.Memory as Mem
+use Rattle.laws.specs.Marks.{marked-cleared}
+use Rattle.laws.specs.Cells.{Whole, whole-from, whole-apart, whole-blockAt, stands-frame, chainStands}
+use Rattle.runs.specs.Inv.{BlockInv, Held, Core}
+use Rattle.runs.specs.Plans.{Inv, refusal-some}
+use Rattle.runs.specs.Finish.{ShadowStep, StepOk, held-apart}
+use Rattle.runs.specs.Calls.{B, shadowStep, step-ok}
+
+-- ---- what holders write
+
+module _ (p : Params) (fine : goodParams p ≡ true) where
+  abbrev bounds : Bounds p
+  bounds = B p fine
+
+  -- one byte outside a word
+  off-word : (h : List ℕ) (i v j : ℕ) → (i < j) ⊎ (j + 8 ≤ i) → Mem.Same h (set h i v) j 8
+  off-word h i v j (inl lt) k lo hi = sym (getD-set-other h i k v 0 (λ e. omega (arith, e)))
+  off-word h i v j (inr le) k lo hi = sym (getD-set-other h i k v 0 (λ e. omega (arith, e)))
+
+  module _ (free size st ms h : List ℕ) (sh : List (List ℕ)) (bk : Book) (I : Core p free size st ms h sh bk) where
+    -- a byte of a held cell is in no free cell's link
+    write-word : (c : Cell) → In c (bk .cells) → (a : ℕ) → covers c a → (v d : ℕ) → d < p .blocks → (y : ℕ) → In y (getD sh d [])
+        → Mem.Same h (set h (a - p .base) v) (y - p .base) 8
+    unfolding covers
+    write-word c m a cov v d ld y k =
+        off-word h (a - p .base) v (y - p .base) (⊎-elim
+          (λ q. inr (omega (arith, q, cov .0, from-y, from-c, Y .word)))
+          (λ q. inl (omega (arith, q, cov .1, from-y, from-c)))
+          (whole-apart p d (getD size d 0) y (blockAt p (c .start)) (c .size) (c .start) ld (H .low) Y (H .whole)
+            (λ e. ap (λ (x : ℕ). getD size x 0) e ∙ sym (H .size)) apart))
+      where
+        H : Held p size st c
+        H = I .held c m
+        Y : Whole p d (getD size d 0) y
+        Y = I .blocks d ld .cells y k
+        from-y : p .base ≤ y
+        from-y = whole-from p bounds d _ y ld Y
+        from-c : p .base ≤ c .start
+        from-c = whole-from p bounds _ _ _ (H .low) (H .whole)
+        apart : y ≢ c .start
+        apart e =
+            let at : d ≡ blockAt p (c .start) = sym (whole-blockAt p bounds d _ y ld Y) ∙ ap (blockAt p) e in
+            I .off c m (subst (λ (x : ℕ). In x (getD sh (blockAt p (c .start)) [])) e (subst (λ (x : ℕ). In y (getD sh x [])) at k))
+
+    write-core : (w : Write) → Holds bk w → Core p free size st ms (set h (w .address - p .base) (w .byte)) sh bk
+    unfolding Holds
+    write-core w z =
+        record {
+          heap = length-set h _ _ ∙ I .heap;
+          free-length = I .free-length;
+          sizes = I .sizes;
+          states = I .states;
+          markings = I .markings;
+          shadow = I .shadow;
+          bytes = I .bytes;
+          words = I .words;
+          blocks = λ d ld.
+            record {
+              stands = stands-frame p h _ _ _ (λ y k. write-word (z .0) (z .1) (w .address) (z .3) (w .byte) d ld y k) (I .blocks d ld .stands);
+              cells = I .blocks d ld .cells;
+              desc = I .blocks d ld .desc
+            };
+          held = I .held;
+          off = I .off;
+          apart = I .apart;
+          marks = I .marks;
+          places = I .places
+        }
+
+  writes-core : (ws : List Write) (free size st ms h : List ℕ) (sh : List (List ℕ)) (bk : Book) → Core p free size st ms h sh bk
+      → ((w : Write) → In w ws → Holds bk w) → Core p free size st ms (written p ws h) sh bk
+  unfolding written In
+  writes-core [] free size st ms h sh bk I f = I
+  writes-core (w ∷ ws) free size st ms h sh bk I f =
+      writes-core ws free size st ms _ sh bk (write-core free size st ms h sh bk I w (f w (inl refl))) (λ x m. f x (inr m))
+
+  -- ---- a turn, on lent buffers that hold tables and a heap
+
+  abbrev stateOf : Tables → List ℕ → Book → State
+  stateOf t h bk = record { lent = lentOf t h; book = bk }
+
+  module _ (t : Tables) (h : List ℕ) (sh : List (List ℕ)) (bk : Book) (I : Inv p bounds t h sh bk) where
+    lent-fits : fits p (lentOf t h) ≡ true
+    unfolding fits wordCount
+    lent-fits =
+        and-both (and-both (and-both (and-both fine
+          (eq-eqb _ _ (length-flat (p .blocks) (t .words) (I .sized))))
+          (eq-eqb _ _ (I .core .states)))
+          (eq-eqb _ _ (I .core .markings)))
+          (eq-eqb _ _ (I .core .heap))
+
+    lent-tables : tablesIn (lentOf t h) ≡ t
+    lent-tables = ap (λ (w : Words). tablesOf w (t .states) (t .marks)) (view-flat (p .blocks) (t .words) (I .sized))
+
+    call-is : (c : Call) → call p (lentOf t h) c ≡ resultFrom (step p t h c)
+    unfolding call
+    call-is c = if-true (fits p (lentOf t h)) _ _ lent-fits ∙ ap (λ (x : Tables). resultFrom (step p x h c)) lent-tables
+
+  -- the run over the shadow
+  pub shadowSeen : ShadowStep → Seen
+  shadowSeen a =
+      record {
+        reply = a .reply;
+        swept = sweeps (a .events);
+        released = releases (a .events);
+        words = flat (a .tables .words);
+        states = a .tables .states;
+        marks = a .tables .marks
+      }
+
+  shadowTrace : Tables → List (List ℕ) → List Call → List Seen
+  shadowTrace t sh [] = []
+  shadowTrace t sh (c ∷ cs) =
+      let a : ShadowStep = shadowStep p t sh c in
+      shadowSeen a ∷ shadowTrace (a .tables) (a .shadow) cs
+
+  module _ (t : Tables) (h : List ℕ) (sh : List (List ℕ)) (bk : Book) (I : Inv p bounds t h sh bk) (u : Turn)
+    (honest : (w : Write) → In w (u .writes) → Holds bk w) where
+    abbrev g : List ℕ
+    g = written p (u .writes) h
+
+    J : Inv p bounds t g sh bk
+    J = record {
+        core = writes-core (u .writes) (t .words .free) (t .words .size) (t .states) (t .marks) h sh bk (I .core) honest;
+        sized = I .sized;
+        young = I .young;
+        idle = I .idle
+      }
+
+    s : Step
+    s = step p t g (u .call)
+
+    S : StepOk p bounds g bk (u .call) (step p t g (u .call)) (shadowStep p t sh (u .call))
+    S = step-ok p fine t g sh bk J (u .call)
+
+    step-of : stepOf p (stateOf t h bk) u ≡ step p t g (u .call)
+    unfolding stepOf foundBy
+    step-of = ap (λ (x : Tables). step p x g (u .call)) (lent-tables t h sh bk I)
+
+    result-of : resultOf p (stateOf t h bk) u ≡ resultFrom (step p t g (u .call))
+    unfolding resultOf foundBy
+    result-of = call-is t g sh bk J (u .call)
+
+    turn-of : turned p (stateOf t h bk) u
+        ≡ stateOf (step p t g (u .call) .tables) (step p t g (u .call) .heap) (bookAfter p (u .call) (step p t g (u .call)) bk)
+    unfolding turned
+    turn-of = λ i. record { lent = result-of i .lent; book = bookAfter p (u .call) (step-of i) bk }
+
+    turn-keeps : TurnKeeps p (stateOf t h bk) u
+    unfolding foundBy
+    turn-keeps =
+        record {
+          served = rw step-of (S .served);
+          zeroed = rw (step-of, result-of) (S .zeroed);
+          apart = rw turn-of (held-apart p bounds _ _ _ (S .inv .core .held) (S .inv .core .apart));
+          unchanged = rw (step-of, result-of) (S .unchanged);
+          lost = rw step-of (S .lost)
+        }
+
+    turn-seen : seen (resultOf p (stateOf t h bk) u) (stepOf p (stateOf t h bk) u .events) ≡ shadowSeen (shadowStep p t sh (u .call))
+    unfolding shadowSeen
+    turn-seen = rw (step-of, result-of) (λ i.
+        record {
+          reply = S .reply i;
+          swept = sweeps (S .events i);
+          released = releases (S .events i);
+          words = flat (S .tables i .words);
+          states = S .tables i .states;
+          marks = S .tables i .marks
+        })
+
+  -- ---- whole runs
+
+  follows : (us : List Turn) (t : Tables) (h : List ℕ) (sh : List (List ℕ)) (bk : Book) → Inv p bounds t h sh bk → HoldersWrite p (stateOf t h bk) us
+      → trace p (stateOf t h bk) us ≡ shadowTrace t sh (map (λ (u : Turn). u .call) us)
+  unfolding trace shadowTrace HoldersWrite
+  follows [] t h sh bk I H = refl
+  follows (u ∷ us) t h sh bk I H =
+      let g : List ℕ = written p (u .writes) h in
+      let c : Call = u .call in
+      let a : ShadowStep = shadowStep p t sh c in
+      let O : StepOk p bounds g bk c (step p t g c) a = S t h sh bk I u (H .0) in
+      let e = turn-of t h sh bk I u (H .0) in
+      let rest : trace p (turned p (stateOf t h bk) u) us ≡ shadowTrace (a .tables) (a .shadow) (map (λ (x : Turn). x .call) us) =
+            ap (λ (x : State). trace p x us) e
+            ∙ follows us (step p t g c .tables) (step p t g c .heap) (a .shadow) (bookAfter p c (step p t g c) bk) (O .inv) (subst (λ (x : State). HoldersWrite p x us) e (H .1))
+            ∙ ap (λ (x : Tables). shadowTrace x (a .shadow) (map (λ (x : Turn). x .call) us)) (O .tables) in
+      λ i. turn-seen t h sh bk I u (H .0) i ∷ rest i
+
+  keeps : (us : List Turn) (t : Tables) (h : List ℕ) (sh : List (List ℕ)) (bk : Book) → Inv p bounds t h sh bk → HoldersWrite p (stateOf t h bk) us
+      → RunKeeps p (stateOf t h bk) us
+  unfolding RunKeeps HoldersWrite
+  keeps [] t h sh bk I H = tt
+  keeps (u ∷ us) t h sh bk I H =
+      let g : List ℕ = written p (u .writes) h in
+      let c : Call = u .call in
+      let e = turn-of t h sh bk I u (H .0) in
+      (turn-keeps t h sh bk I u (H .0),
+        subst (λ (x : State). RunKeeps p x us) (sym e)
+          (keeps us (step p t g c .tables) (step p t g c .heap) (shadowStep p t sh c .shadow) (bookAfter p c (step p t g c) bk) (S t h sh bk I u (H .0) .inv)
+            (subst (λ (x : State). HoldersWrite p x us) e (H .1))))
+
+  -- ---- after set-up
+
+  fresh-inv : (h : List ℕ) → length h ≡ heapBytes p → Inv p bounds (freshTables p) h (replicate (p .blocks) []) emptyBook
+  unfolding freshTables freshWords In Pairwise member chainStands cleared
+  fresh-inv h len =
+      record {
+        core = record {
+          heap = len;
+          free-length = length-replicate (p .blocks) 0;
+          sizes = length-replicate (p .blocks) 0;
+          states = length-replicate (p .blocks) 0;
+          markings = length-replicate (heapBytes p / 64) 0;
+          shadow = length-replicate (p .blocks) [];
+          bytes = Mem.bytes-zeros (heapBytes p / 64);
+          words = λ b. ap (λ (x : ℕ). x % 8) (Mem.getD-zeros (p .blocks) b);
+          blocks = λ b lb. rw (Mem.getD-zeros (p .blocks) b, getD-replicate {A = List ℕ} (p .blocks) b [] [] lb)
+            (record { stands = refl; cells = λ x m. absurd m; desc = tt });
+          held = λ c m. absurd m;
+          off = λ c m. absurd m;
+          apart = tt;
+          marks = λ a e. unmarked a;
+          places = λ q m. absurd m
+        };
+        sized = record {
+          first = length-replicate {A = ℕ} 1470 0; last = length-replicate {A = ℕ} 1470 0; bound = refl; released = refl;
+          next = length-replicate (p .blocks) 0; prev = length-replicate (p .blocks) 0; free = length-replicate (p .blocks) 0;
+          size = length-replicate (p .blocks) 0; list = length-replicate (p .blocks) 0; tls = length-replicate (p .blocks) 0
+        };
+        young = λ c m. absurd m;
+        idle = λ j n lj ln. Mem.getD-zeros 1470 (unswept (3 * j) n)
+      }
+    where
+      unmarked : (a : ℕ) → marked p (replicate (heapBytes p / 64) 0) a ≡ false
+      unmarked a = subst (λ (k : ℕ). marked p (replicate k 0) a ≡ false) (length-replicate (heapBytes p / 64) 0) (marked-cleared p (replicate (heapBytes p / 64) 0) a)
+
+-- ---- the theorem
+
+-- set-up that isn't refused: fitting buffers, and the same tables whatever was lent
+ends-of-five : (a b c d e : Bool) → (a && b && c && d && e) ≡ true → (a ≡ true) × (e ≡ true)
+ends-of-five a b c d e h = (and-left a b (and-left (a && b) c (and-left (a && b && c) d (and-left (a && b && c && d) e h))), and-right (a && b && c && d) e h)
+
+fits-parts : (p : Params) (l : Lent) → fits p l ≡ true → (goodParams p ≡ true) × (length (l .heap) ≡ heapBytes p)
+unfolding fits
+fits-parts p l f =
+    let r = ends-of-five (goodParams p) (eqb (length (l .words)) (wordCount p)) (eqb (length (l .states)) (p .blocks))
+          (eqb (length (l .marks)) (heapBytes p / 64)) (eqb (length (l .heap)) (heapBytes p)) f in
+    (r .0, eqb-true _ _ (r .1))
+
+set-up-fits : (p : Params) (l : Lent) → setUp p l .reply ≡ answered [] → fits p l ≡ true
+unfolding setUp refusalNumber
+set-up-fits p l e = go (fits p l) refl
+  where
+    go : (b : Bool) → fits p l ≡ b → fits p l ≡ true
+    go true f = f
+    go false f = absurd (omega (arith, ap (λ (r : Reply). r .number) (sym (ap (λ (x : Result). x .reply) (if-false (fits p l) _ (badSetup l) f)) ∙ e)))
+
+set-up-is : (p : Params) (l : Lent) → fits p l ≡ true → setUp p l ≡ record { reply = answered []; lent = lentOf (freshTables p) (l .heap) }
+unfolding setUp
+set-up-is p l f = if-true (fits p l) _ _ f
+
+pub demand3 : Demand3
+unfolding Demand3 begun
+demand3 p l l′ us us′ e e′ H H′ same =
+    (record {
+      setUps = seen-same;
+      calls = calls-same;
+      pagesAtSetUp = λ firsts. ap (λ (x : Seen). pages p (x .words) firsts) seen-same;
+      pagesAfter = λ firsts. ap (map (λ (x : Seen). pages p (x .words) firsts)) calls-same
+    }, subst (λ (x : State). RunKeeps p x us) (sym (start-is l fit)) (keeps p fine us (freshTables p) (l .heap) (replicate (p .blocks) []) emptyBook (inv l fit) (held l fit us H)))
+  where
+    fit : fits p l ≡ true
+    fit = set-up-fits p l e
+    fit′ : fits p l′ ≡ true
+    fit′ = set-up-fits p l′ e′
+    fine : goodParams p ≡ true
+    fine = fits-parts p l fit .0
+    start-is : (l : Lent) → fits p l ≡ true → begun p l ≡ stateOf p fine (freshTables p) (l .heap) emptyBook
+    start-is l f = ap (λ (x : Result). record { lent = x .lent; book = emptyBook }) (set-up-is p l f)
+    inv : (l : Lent) → fits p l ≡ true → Inv p (bounds p fine) (freshTables p) (l .heap) (replicate (p .blocks) []) emptyBook
+    inv l f = fresh-inv p fine (l .heap) (fits-parts p l f .1)
+    held : (l : Lent) → fits p l ≡ true → (us : List Turn) → HoldersWrite p (begun p l) us → HoldersWrite p (stateOf p fine (freshTables p) (l .heap) emptyBook) us
+    held l f us H = subst (λ (x : State). HoldersWrite p x us) (start-is l f) H
+    run-is : (l : Lent) (f : fits p l ≡ true) (us : List Turn) → HoldersWrite p (begun p l) us
+        → trace p (begun p l) us ≡ shadowTrace p fine (freshTables p) (replicate (p .blocks) []) (map (λ (u : Turn). u .call) us)
+    run-is l f us H = ap (λ (x : State). trace p x us) (start-is l f) ∙ follows p fine us (freshTables p) (l .heap) (replicate (p .blocks) []) emptyBook (inv l f) (held l f us H)
+    calls-same : trace p (begun p l) us ≡ trace p (begun p l′) us′
+    calls-same = run-is l fit us H ∙ ap (shadowTrace p fine (freshTables p) (replicate (p .blocks) [])) same ∙ sym (run-is l′ fit′ us′ H′)
+    seen-same : seen (setUp p l) [] ≡ seen (setUp p l′) []
+    seen-same = ap (λ (x : Result). seen x []) (set-up-is p l fit) ∙ sym (ap (λ (x : Result). seen x []) (set-up-is p l′ fit′))
