@@ -11,13 +11,15 @@ use lib.ListN.{length, getD, set}
 use borrow.Author.Tests.{ne-eqb, eq-eqb}
 use Rattle.model.specs.declared.Params.{Params}
 use Rattle.model.specs.Params.{goodParams, start}
-use Rattle.model.specs.Memory.{store}
+use Rattle.model.specs.Memory.{load, store, zeroed}
 use Rattle.model.specs.Tables.{Words, setNext, setPrev, setFree, setSize, setList, setTls}
+use Rattle.model.specs.Sound.{linkOk}
 use Rattle.model.specs.Block.{simple, cellCount, cellsDown, headOf, linkAll, keeps, initChain, initBlock, sweepChain, sweptWords, clearBlock}
 use Rattle.laws.specs.Params.{Bounds, good-bounds, start-out, start-end}
 use Rattle.laws.specs.Memory.{length-store}
 use Rattle.laws.specs.Cells.{cellsDown-kept, cellsDown-freed, tri}
-use Rattle.native_ms.specs.Block.{keptBy, Room, Linked, SweptBy, Swept, Initialised, Cleared}
+use Rattle.native_ms.specs.Block.{keptBy, Room, Linked, SweptBy, Swept, Initialised, Cleared, took, takeFree}
+use Rattle.native_ms.specs.declared.block.Taken.the-variants.{BadLink, Cell}
 
 -- ---- counts and the choice of a sweep
 
@@ -133,3 +135,16 @@ pub cleared : (b : ℕ) {t₁ t₂ t₃ t₄ t₅ t₆ : Words} {s₁ : List ℕ
     → t₃ ≡ setFree b 0 t₂ → t₄ ≡ setSize b 0 t₃ → t₅ ≡ setList b 0 t₄ → t₆ ≡ setTls b 0 t₅ → s₁ ≡ set st b 0 → Cleared b t st t₆ s₁
 unfolding clearBlock
 cleared b t st e₁ e₂ e₃ e₄ e₅ e₆ es = record { words = rw (e₆, e₅, e₄, e₃, e₂, e₁); states = es }
+
+-- ---- taking a cell
+
+module _ (p : Params) (b : ℕ) {cell s link : ℕ} {ok : Bool} (t : Words) (h : List ℕ) (ec : cell ≡ getD (t .free) b 0)
+    (es : s ≡ getD (t .size) b 0) (el : link ≡ load p h cell) (eo : ok ≡ linkOk p t b link) where
+  pub take-bad : ok ≡ false → took BadLink t h ≡ takeFree p b t h
+  unfolding takeFree
+  take-bad e = rw (← ec, ← el, ← eo, e)
+
+  pub take-good : {t₁ : Words} {h₁ : List ℕ} → ok ≡ true → t₁ ≡ setFree b link t → h₁ ≡ zeroed p h cell s
+      → took (Cell (record { 0 = cell }) s) t₁ h₁ ≡ takeFree p b t h
+  unfolding takeFree
+  take-good e et eh = rw (← ec, ← es, ← el, ← eo, e, et, eh)

@@ -7,10 +7,13 @@ use lib.ListN.{getD, set}
 use Rattle.model.specs.declared.Params.{Params}
 use Rattle.model.specs.Base.{if_then_else_, anyBelow}
 use Rattle.model.specs.Params.{goodParams, start, plusLower}
-use Rattle.model.specs.Memory.{marked}
+use Rattle.model.specs.Memory.{load, zeroed, marked}
 use Rattle.model.specs.SizeClasses.{wordsIn}
 use Rattle.model.specs.Tables.{Words, setFree}
+use Rattle.model.specs.Sound.{linkOk}
 use Rattle.model.specs.Block.{Unallocated, cellCount, cellsDown, headOf, linkAll, initChain, initBlock, sweepChain, sweptWords, clearBlock}
+use Rattle.native_ms.specs.declared.block.Taken.{Taken}
+use Rattle.native_ms.specs.declared.block.Taken.the-variants.{BadLink, Cell}
 
 -- whether the simple sweep, or else the brute-force one, keeps the cell of s bytes at a
 unfoldable pub keptBy : Bool → Params → List ℕ → ℕ → ℕ → Bool
@@ -49,3 +52,23 @@ pub record Initialised (p : Params) (b s tls : ℕ) (t : Words) (h : List ℕ) (
 pub record Cleared (b : ℕ) (t : Words) (st : List ℕ) (t₁ : Words) (st₁ : List ℕ) : Type 0 where
   pub words : t₁ ≡ clearBlock b t
   pub states : st₁ ≡ set st b Unallocated
+
+-- ---- taking a cell
+
+-- what it answers, and words and heap after it
+pub record TakenOut : Type 0 where
+  pub answer : Taken
+  pub words : Words
+  pub heap : List ℕ
+
+abbrev pub took : Taken → Words → List ℕ → TakenOut
+took r t h = record { answer = r; words = t; heap = h }
+
+-- The cell at the free head of the block b, as in `takeCell`: its link is read before it is zeroed, and a bad link leaves all
+unfoldable pub takeFree : Params → ℕ → Words → List ℕ → TakenOut
+takeFree p b t h =
+    let cell : ℕ = getD (t .free) b 0 in
+    let size : ℕ = getD (t .size) b 0 in
+    if linkOk p t b (load p h cell)
+    then took (Cell (record { 0 = cell }) size) (setFree b (load p h cell) t) (zeroed p h cell size)
+    else took BadLink t h

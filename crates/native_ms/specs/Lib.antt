@@ -4,3 +4,4 @@ pub mod Counted
 pub mod SoundWalk
 pub mod SoundLaws
 pub mod SoundTests
+pub mod Promise

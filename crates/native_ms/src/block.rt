@@ -2,6 +2,7 @@
 // `init_block` of free_list_allocator.rs.
 use crate::address;
 use crate::memory;
+use crate::sound;
 use model::Address;
 use model::Block;
 use model::Params;
@@ -16,10 +17,16 @@ ghost use Rattle.model.specs.Memory.{marked};
 ghost use Rattle.model.specs.SizeClasses.{wordsIn};
 ghost use Rattle.model.specs.Tables.{view};
 ghost use Rattle.model.specs.Block.{simple, cellCount, cellsDown};
-ghost use Rattle.native_ms.specs.Block.{keptBy, Room, Linked, SweptBy, Swept, Initialised, Cleared};
+ghost use Rattle.native_ms.specs.Block.{keptBy, Room, Linked, SweptBy, Swept, Initialised, Cleared, took, takeFree};
 
 // Block::is_unallocated and the like compare a state byte with these.
 pub(crate) const UNALLOCATED: u8 = 0;
+
+// The answer of the taking of a cell.
+pub(crate) enum Taken {
+    BadLink,
+    Cell { at: Address, size: usize },
+}
 
 // L + 64, so that all else is unsigned.
 pub(crate) fn biased(l: i64) -> usize
@@ -209,4 +216,25 @@ pub(crate) fn clear_block(w: &mut [usize], st: &mut [u8], b: Block)
     tables::set_list(w, i, 0);
     tables::set_tls(w, i, 0);
     states::set_state(st, i, UNALLOCATED);
+}
+
+// Takes the cell at the block's free head. Its link is read before the whole cell is zeroed: the link lies in it.
+pub(crate) fn block_alloc(p: Params, w: &mut [usize], h: &mut [u8], b: Block) -> Taken
+    requires { ⌜ goodParams p ≡ true ⌝ }
+    ensures { λ r. ⌜ took r (view (now (w .exit))) (now (h .exit)) ≡ takeFree p (b .0) (view (now (w .entry))) (now (h .entry)) ⌝ }
+{
+    let i = b.0;
+    let cell = tables::free(w, i);
+    let s = tables::size(w, i);
+    let link = memory::load(p, h, Address(cell));
+    let ok = sound::link_ok(p, w, b, Address(link));
+    if !ok {
+        return Taken::BadLink;
+    }
+    tables::set_free(w, i, link);
+    memory::zero(p, h, Address(cell), s);
+    Taken::Cell {
+        at: Address(cell),
+        size: s,
+    }
 }
