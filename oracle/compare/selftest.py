@@ -15,8 +15,9 @@ import generate
 import reference as ref
 
 HERE = Path(__file__).resolve()
-SEEDS = 12          # scripts tried for each mutant
-CALLS = 1500
+SEEDS = 40          # scripts tried for each mutant
+CALLS = 500
+ARENA = 1 << 17     # small heaps, for speed
 MOST_LINES = 40     # a shrunk script is no longer
 
 
@@ -357,7 +358,7 @@ def find(name, mode):
     command = '%s %s --mutant %s' % (sys.executable, HERE, name)
     drivers = ['reference', command]
     for seed in range(1, SEEDS + 1):
-        maker = generate.Maker(seed, mode).script(CALLS)
+        maker = generate.Maker(seed, mode, ARENA).script(CALLS)
         runs = [compare.Run(maker.answers),
                 compare.run_driver(command, maker.lines)]
         at = compare.first_difference(runs, maker.lines, mode)

@@ -161,7 +161,7 @@ seen r es =
       released = releases es;
       words = r .lent .words;
       states = r .lent .states;
-      marks = r .lent .marks
+      marks = r .lent .marks;
     }
 
 unfoldable pub trace : Params → State → List Turn → List Seen
@@ -187,7 +187,7 @@ Served (destroy h) s = Unit {0}
 Served (alloc h size align offset offer) s =
     s .reply .number ≡ 0
     → (a : ℕ) × (n : ℕ) × In (taken a n) (s .events) × (getD (s .reply .values) 0 0 ≡ alignAllocation a align offset)
-      × (getD (s .reply .values) 1 0 ≡ n) × (alignAllocation a align offset + size ≤ a + n)
+    × (getD (s .reply .values) 1 0 ≡ n) × (alignAllocation a align offset + size ≤ a + n)
 Served prepare s = Unit {0}
 Served (mark place b) s = Unit {0}
 Served (release h) s = Unit {0}

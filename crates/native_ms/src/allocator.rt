@@ -7,15 +7,15 @@ ghost use Prim.Native.Nat.{_^_, _<_, _≤_};
 ghost use Rattle.model.specs.Params.{goodParams};
 ghost use Rattle.model.specs.SizeClasses.{raised, alignAllocation};
 ghost use Rattle.model.specs.Calls.{goodRequest};
-ghost use Rattle.native_ms.specs.Raised.{raisedTo};
+ghost use Rattle.native_ms.specs.Raised.{raisedTo, shiftedTo};
 
 // A size raised by `get_maximum_aligned_size`, if a block can hold it. A sum past 2^64 is no size.
-pub(crate) enum Raised {
+pub enum Raised {
     Fits(usize),
     TooBig,
 }
 
-pub(crate) fn get_maximum_aligned_size(p: Params, size: usize, align: usize) -> Raised
+pub fn get_maximum_aligned_size(p: Params, size: usize, align: usize) -> Raised
     ensures { λ r. ⌜ r ≡ raisedTo p size align ⌝ }
 {
     let min = p.min;
@@ -34,10 +34,34 @@ pub(crate) fn get_maximum_aligned_size(p: Params, size: usize, align: usize) -> 
 
 // The least address from region on that is a multiple of align once offset is added.
 pub(crate) fn align_allocation(region: usize, align: usize, offset: usize) -> usize
-    requires { ⌜ (0 < align) × (align ≤ 64) × (region < 2 ^ 48) × (offset ≤ 65536) ⌝ }
+    requires { ⌜ (0 < align) × (align ≤ 64) × (region < 2 ^ 47) × (offset ≤ 65536) ⌝ }
     ensures { λ r. ⌜ r ≡ alignAllocation region align offset ⌝ }
 {
     region + (align - (region + offset) % align) % align
+}
+
+// An address that `align_allocation` shifts, on any numbers: off where a request can't be so.
+pub enum Shifted {
+    At(usize),
+    Off,
+}
+
+pub fn shift_address(region: usize, align: usize, offset: usize) -> Shifted
+    ensures { λ r. ⌜ r ≡ shiftedTo region align offset ⌝ }
+{
+    if align < 1 {
+        return Shifted::Off;
+    }
+    if 64 < align {
+        return Shifted::Off;
+    }
+    if 140737488355328 <= region {
+        return Shifted::Off;
+    }
+    if 65536 < offset {
+        return Shifted::Off;
+    }
+    Shifted::At(align_allocation(region, align, offset))
 }
 
 // Whether size, align and offset may be asked for.

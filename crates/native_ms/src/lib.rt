@@ -1,9 +1,9 @@
 // The native mark-sweep space, as in the Rust's files.
 mod address;
-mod params;
-pub mod size_class;
-mod allocator;
+pub mod allocator;
+mod block;
 pub mod block_list;
 mod memory;
-mod block;
+mod params;
+pub mod size_class;
 mod sound;

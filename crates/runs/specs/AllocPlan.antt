@@ -48,8 +48,8 @@ recycle-idle zero p ms owner bin w e = refl
 recycle-idle (suc k) p ms owner bin w e = rw (eq-eqb _ _ e)
 
 module _ (p : Params) (B : Bounds p) (t : Tables) (h : List ℕ) (sh : List (List ℕ)) (bk : Book) (I : Inv p B t h sh bk)
-  (good : sound p t ≡ true) (running : t .words .phase ≡ 0) (hd : ℕ) (lo : 1 ≤ hd) (hi : hd ≤ 8)
-  (bin : ℕ) (some : 1 ≤ bin) (low : bin < 49) (room : cellBytes p bin ≤ p .bytes) where
+    (good : sound p t ≡ true) (running : t .words .phase ≡ 0) (hd : ℕ) (lo : 1 ≤ hd) (hi : hd ≤ 8)
+    (bin : ℕ) (some : 1 ≤ bin) (low : bin < 49) (room : cellBytes p bin ≤ p .bytes) where
   own : localSets hd ≡ 3 * (hd - 1)
   unfolding localSets
   own = refl
@@ -72,7 +72,7 @@ module _ (p : Params) (B : Bounds p) (t : Tables) (h : List ℕ) (sh : List (Lis
         wide = λ b ob. class-of b ob .0;
         class = λ b ob. class-of b ob .1;
         idle = I .idle;
-        phase = running
+        phase = running;
       }
 
   -- ---- what the search ends with
@@ -110,7 +110,7 @@ module _ (p : Params) (B : Bounds p) (t : Tables) (h : List ℕ) (sh : List (Lis
         events = A .events;
         inv = found-inv (f .words) _ _ _ (A .searching);
         phase = A .searching .phase;
-        result = ⊎-elim inl (λ r. inr (ready r)) (A .result)
+        result = ⊎-elim inl (λ r. inr (ready r)) (A .result);
       }
     where
       ready : Ready p B (t .states) (t .marks) hd bin (f .words) (f .at) → Cellful (withWords (f .words) t) (shadowEvents (f .events) sh) (f .at)
@@ -125,7 +125,7 @@ module _ (p : Params) (B : Bounds p) (t : Tables) (h : List ℕ) (sh : List (Lis
             size = r .size;
             cell = k .0;
             rest = k .1;
-            chain = k .2
+            chain = k .2;
           }
 
   -- ---- the offer
@@ -173,8 +173,8 @@ module _ (p : Params) (B : Bounds p) (t : Tables) (h : List ℕ) (sh : List (Lis
         record {
           lost = λ c m. (refl, λ s. absurd (not-both true refl (sym s)));
           bytes = λ c m out. same-bytes p B hd (f .words .size) (t .states) heap (linkAll p chain heap) c (S .core .held c m)
-            (init-bytes p B (f .words .free) (f .words .size) (t .states) (t .marks) heap shadow book (S .core) b lb chain none cell
-              (cellBytes-least p {bin = bin} low) (cellBytes-words p {bin = bin} low) refl hd c m)
+              (init-bytes p B (f .words .free) (f .words .size) (t .states) (t .marks) heap shadow book (S .core) b lb chain none cell
+              (cellBytes-least p {bin = bin} low) (cellBytes-words p {bin = bin} low) refl hd c m);
         }
 
     init-inv : Inv p B (tablesOf (initBlock p b cell hd (push p list b (f .words))) (set (t .states) b Unmarked) (t .marks))
@@ -183,19 +183,20 @@ module _ (p : Params) (B : Bounds p) (t : Tables) (h : List ℕ) (sh : List (Lis
     init-inv =
         record {
           core = rw (links .free, links .size)
-            (init-core p B (f .words .free) (f .words .size) (t .states) (t .marks) heap shadow book (S .core) b lb chain none cell
+              (init-core p B (f .words .free) (f .words .size) (t .states) (t .marks) heap shadow book (S .core) b lb chain none cell
               (cellBytes-least p {bin = bin} low) (cellBytes-words p {bin = bin} low) refl hd);
           sized = sized-same (simp kept-lengths (links .lengths)) (S .lengths);
-          young = λ c m o.
-            (links .phase ∙ S .phase,
-              subst (λ (x : List ℕ). Settled (getD x (blockAt p (c .start)) 0)) (sym (push-list p list b (f .words)))
+          young = λ c m o. (
+            links .phase ∙ S .phase,
+            subst (λ (x : List ℕ). Settled (getD x (blockAt p (c .start)) 0)) (sym (push-list p list b (f .words)))
                 (set-steady p B (f .words .list) b (listWord list) (blockAt p (c .start)) settled
-                  (S .young c (was-held p B (f .words .free) (f .words .size) (t .states) (t .marks) heap shadow book (S .core) b lb chain hd (initialised b chain) (λ cs. refl) c m .0) o)));
+                (S .young c (was-held p B (f .words .free) (f .words .size) (t .states) (t .marks) heap shadow book (S .core) b lb chain hd (initialised b chain) (λ cs. refl) c m .0) o)),
+          );
           idle = λ j n lj ln.
-            ap (λ (x : List ℕ). getD x (unswept (3 * j) n) 0) (push-first p list b (f .words))
-            ∙ getD-set-other (f .words .first) list (unswept (3 * j) n) (start p b) 0
+              ap (λ (x : List ℕ). getD x (unswept (3 * j) n) 0) (push-first p list b (f .words))
+              ∙ getD-set-other (f .words .first) list (unswept (3 * j) n) (start p b) 0
               (λ q. unswept-unsettled j n (omega arith) ln (subst (λ (x : ℕ). Settled (listWord x)) (sym q) settled))
-            ∙ S .idle j n lj ln
+              ∙ S .idle j n lj ln;
         }
 
     -- the events of the search and the init, as one row
@@ -221,11 +222,11 @@ module _ (p : Params) (B : Bounds p) (t : Tables) (h : List ℕ) (sh : List (Lis
           at = refl;
           occupied = λ z. absurd (omega (arith, sym (getD-set-same (t .states) b Unmarked 0 (omega (arith, lb, I .core .states))) ∙ z));
           settled = subst Settled
-            (sym (ap (λ (x : List ℕ). getD x b 0) (push-list p list b (f .words)) ∙ getD-set-same (f .words .list) b (listWord list) 0 (omega (arith, lb, S .lengths .list)))) settled;
+              (sym (ap (λ (x : List ℕ). getD x b 0) (push-list p list b (f .words)) ∙ getD-set-same (f .words .list) b (listWord list) 0 (omega (arith, lb, S .lengths .list)))) settled;
           size = getD-set-same (push p list b (f .words) .size) b cell 0 (omega (arith, lb, ap length (links .size), S .lengths .size));
           cell = k .0;
           rest = k .1;
-          chain = getD-set-same shadow b chain [] (omega (arith, lb, S .core .shadow)) ∙ k .2
+          chain = getD-set-same shadow b chain [] (omega (arith, lb, S .core .shadow)) ∙ k .2;
         }
 
     fresh-searched : Searched (acquireFresh p hd bin (Fresh (record { 0 = b })) f t)
@@ -233,10 +234,10 @@ module _ (p : Params) (B : Bounds p) (t : Tables) (h : List ℕ) (sh : List (Lis
     fresh-searched =
         record {
           events = events-append p B hd (f .events) (initialised b chain ∷ []) h bk (A .events)
-            (more-events p B hd (initialised b chain) [] heap book refl init-ok (no-events p B hd _ _));
+              (more-events p B hd (initialised b chain) [] heap book refl init-ok (no-events p B hd _ _));
           inv = rw (rows-heap, rows-shadow, rows-book) init-inv;
           phase = links .phase ∙ S .phase;
-          result = inr (rw rows-shadow fresh-cellful)
+          result = inr (rw rows-shadow fresh-cellful);
         }
 
   offered : (offer : Offer) → goodOffer p t offer ≡ true → (f : Found) → Acquired p B (t .states) (t .marks) hd bin h sh bk f → Searched (acquireFresh p hd bin offer f t)
@@ -244,8 +245,8 @@ module _ (p : Params) (B : Bounds p) (t : Tables) (h : List ℕ) (sh : List (Lis
   offered Nothing fine f A = found-searched f A
   offered (Fresh b) fine f A =
       fresh-searched (b .0)
-        (ltb-true _ _ (and-left (ltb (b .0) (p .blocks)) (eqb (getD (t .states) (b .0) 0) 0) fine))
-        (eqb-true _ _ (and-right (ltb (b .0) (p .blocks)) (eqb (getD (t .states) (b .0) 0) 0) fine)) f A
+      (ltb-true _ _ (and-left (ltb (b .0) (p .blocks)) (eqb (getD (t .states) (b .0) 0) 0) fine))
+      (eqb-true _ _ (and-right (ltb (b .0) (p .blocks)) (eqb (getD (t .states) (b .0) 0) 0) fine)) f A
 
   -- ---- the whole search
 
@@ -255,30 +256,39 @@ module _ (p : Params) (B : Bounds p) (t : Tables) (h : List ℕ) (sh : List (Lis
     where
       lav : available (localSets hd) bin < 1470
       lav = rw own (available-low (hd - 1) bin (omega arith) low)
+
       lco : consumed (localSets hd) bin < 1470
       lco = rw own (consumed-low (hd - 1) bin (omega arith) low)
+
       g : Popped
       g = findFreeBlockWith (p .blocks) p (available (localSets hd) bin) (consumed (localSets hd) bin) (t .words)
+
       G : Skimmed p B (t .states) (t .marks) hd bin h sh bk g
       G = skim p B (t .states) (t .marks) hd (available (localSets hd) bin) (consumed (localSets hd) bin) lav lco
-            (rw own (available-settled (hd - 1) bin (omega arith) low)) (rw own (consumed-settled (hd - 1) bin (omega arith) low))
-            bin (rw own (available-bin (hd - 1) bin (omega arith) low)) (rw own (consumed-bin (hd - 1) bin (omega arith) low))
-            (p .blocks) (t .words) h sh bk starting
+          (rw own (available-settled (hd - 1) bin (omega arith) low)) (rw own (consumed-settled (hd - 1) bin (omega arith) low))
+          bin (rw own (available-bin (hd - 1) bin (omega arith) low)) (rw own (consumed-bin (hd - 1) bin (omega arith) low))
+          (p .blocks) (t .words) h sh bk starting
+
       still : recycleLocalBlocks (p .blocks) p (t .marks) (localSets hd) bin (g .words) ≡ found 0 (g .words)
       still = recycle-idle (p .blocks) p (t .marks) (localSets hd) bin (g .words) (rw own (G .searching .idle (hd - 1) bin (omega arith) low))
+
       a : Found
       a = acquireAbandoned (p .blocks) p (t .marks) hd bin (g .words)
+
       A : Acquired p B (t .states) (t .marks) hd bin h sh bk a
       A = acquire p B (t .states) (t .marks) hd bin (hd - 1) low (omega arith) own (p .blocks) (g .words) h sh bk (G .searching)
+
       nonzero : (x : ℕ) (w : Words) (st : List ℕ) → Ready p B (t .states) (t .marks) hd bin w x → x ≢ 0
       nonzero x w st r z = some-start p (t .states) B (r .block) (r .occupied .0) (sym (r .at) ∙ z)
+
       last : (a .at ≡ 0) ⊎ Ready p B (t .states) (t .marks) hd bin (a .words) (a .at) → Searched (if eqb (a .at) 0 then acquireFresh p hd bin offer a t else inFound a t)
       last (inl z) = rw (eq-eqb _ _ z) (offered offer fine a A)
       last (inr r) = rw (ne-eqb _ _ (nonzero (a .at) (a .words) (t .states) r)) (found-searched a A)
+
       go : (g .at ≡ 0) ⊎ Ready p B (t .states) (t .marks) hd bin (g .words) (g .at) → Searched (findBlock p hd bin offer t)
       go (inr r) =
           rw (ne-eqb _ _ (nonzero (g .at) (g .words) (t .states) r))
-            (found-searched (found (g .at) (g .words)) (plain p B (t .states) (t .marks) hd bin (g .at) (g .words) h sh bk (G .searching) (inr r)))
+          (found-searched (found (g .at) (g .words)) (plain p B (t .states) (t .marks) hd bin (g .at) (g .words) h sh bk (G .searching) (inr r)))
       go (inl e) = rw (eq-eqb _ _ e, still) (last (A .result))
 
   -- ---- the plan
@@ -291,20 +301,22 @@ module _ (p : Params) (B : Bounds p) (t : Tables) (h : List ℕ) (sh : List (Lis
     where
       s : Search
       s = findBlock p hd bin offer t
+
       S : Searched s
       S = find-searched offer fine
+
       go : (s .at ≡ 0) ⊎ Cellful (s .tables) (shadowEvents (s .events) sh) (s .at) → Planned p B t h sh bk (alloc hd size align offset offer) (takePlan p align offset s)
       go (inl e) =
           rw (eq-eqb _ _ e) (record {
             events = S .events;
             inv = rw (refusal-some Exhausted) (S .inv);
             end = tt;
-            serves = refusal-some Exhausted
+            serves = refusal-some Exhausted;
           })
       go (inr k) =
           rw (k .at, ne-eqb (start p (k .block)) 0 (some-start p (t .states) B (k .block) (k .inside)), blockAt-start p B (k .block) (k .inside)) (record {
             events = S .events;
             inv = S .inv;
             end = record { inside = k .inside; occupied = k .occupied; settled = k .settled; running = S .phase; cell = k .cell; rest = k .rest; chain = k .chain };
-            serves = (refl, refl, λ x e. rw (k .size) (fits x e))
+            serves = (refl, refl, λ x e. rw (k .size) (fits x e));
           })

@@ -56,16 +56,17 @@ module _ (p : Params) (fine : goodParams p ≡ true) where
     unfolding planAlloc
     planned-alloc d size align offset offer s =
         if-cases P _ (λ e. refuse WrongPhase) (λ run. if-cases P _ (λ e. refuse BadHolder) (λ bound. if-cases P _ (λ e. refuse BadRequest) (λ ask. if-cases P _ (λ e. refuse TooBig) (λ small. if-cases P _ (λ e. refuse BadOffer) (λ offered.
-          let g : Good p = good p fine in
-          let r = bound-range (t .words) d (not-false _ bound) in
-          let q = request p size align offset (not-false _ ask) in
-          let f = fits-raised p size align small in
-          let k : Chosen p (raised p size align) = chosen p (raised p size align) (omega (arith, f, g .bytes-to)) in
-          alloc-planned p B t h sh bk I s (running run) d (r .0) (r .1) (binOf p (raised p size align)) (k .from) (omega (arith, k .to))
-            (cell-in-block p g (raised p size align) f) size align offset offer (not-false _ offered) (object-in-cell p g q small))))))
+        let g : Good p = good p fine in
+        let r = bound-range (t .words) d (not-false _ bound) in
+        let q = request p size align offset (not-false _ ask) in
+        let f = fits-raised p size align small in
+        let k : Chosen p (raised p size align) = chosen p (raised p size align) (omega (arith, f, g .bytes-to)) in
+        alloc-planned p B t h sh bk I s (running run) d (r .0) (r .1) (binOf p (raised p size align)) (k .from) (omega (arith, k .to))
+        (cell-in-block p g (raised p size align) f) size align offset offer (not-false _ offered) (object-in-cell p g q small))))))
       where
         P : Plan → Type 0
         P q = Planned p B t h sh bk (alloc d size align offset offer) q
+
         refuse : (r : Refusal) → Planned p B t h sh bk (alloc d size align offset offer) (refuses t r)
         refuse r = refuses-planned p B t h sh bk I (alloc d size align offset offer) r
 
@@ -73,28 +74,28 @@ module _ (p : Params) (fine : goodParams p ≡ true) where
     unfolding planSound
     planned-sound (bind d) s =
         if-cases (λ q. Planned p B t h sh bk (bind d) q) (not (eqb (t .words .phase) 0)) (λ e. refuses-planned p B t h sh bk I (bind d) WrongPhase)
-          (λ run. if-cases (λ q. Planned p B t h sh bk (bind d) q) (not (isHolder d) || isBound (t .words) d) (λ e. refuses-planned p B t h sh bk I (bind d) BadHolder)
-            (λ e. bind-planned p B t h sh bk I d))
+        (λ run. if-cases (λ q. Planned p B t h sh bk (bind d) q) (not (isHolder d) || isBound (t .words) d) (λ e. refuses-planned p B t h sh bk I (bind d) BadHolder)
+        (λ e. bind-planned p B t h sh bk I d))
     planned-sound (destroy d) s =
         if-cases (λ q. Planned p B t h sh bk (destroy d) q) (not (eqb (t .words .phase) 0)) (λ e. refuses-planned p B t h sh bk I (destroy d) WrongPhase)
-          (λ run. if-cases (λ q. Planned p B t h sh bk (destroy d) q) (not (isBound (t .words) d)) (λ e. refuses-planned p B t h sh bk I (destroy d) BadHolder)
-            (λ e. let r = bound-range (t .words) d (not-false _ e) in destroy-planned p B t h sh bk I d (r .0) (r .1)))
+        (λ run. if-cases (λ q. Planned p B t h sh bk (destroy d) q) (not (isBound (t .words) d)) (λ e. refuses-planned p B t h sh bk I (destroy d) BadHolder)
+        (λ e. let r = bound-range (t .words) d (not-false _ e) in destroy-planned p B t h sh bk I d (r .0) (r .1)))
     planned-sound (alloc d size align offset offer) s = planned-alloc d size align offset offer s
     planned-sound prepare s =
         if-cases (λ q. Planned p B t h sh bk prepare q) (not (eqb (t .words .phase) 0)) (λ e. refuses-planned p B t h sh bk I prepare WrongPhase)
-          (λ run. prepare-planned p B t h sh bk I)
+        (λ run. prepare-planned p B t h sh bk I)
     planned-sound (mark place b) s =
         if-cases (λ q. Planned p B t h sh bk (mark place b) q) (not (eqb (t .words .phase) 1)) (λ e. refuses-planned p B t h sh bk I (mark place b) WrongPhase)
-          (λ run. if-cases (λ q. Planned p B t h sh bk (mark place b) q) (not (goodObject p t place b)) (λ e. refuses-planned p B t h sh bk I (mark place b) BadObject)
-            (λ e. mark-planned p B t h sh bk I place b (not-false _ e)))
+        (λ run. if-cases (λ q. Planned p B t h sh bk (mark place b) q) (not (goodObject p t place b)) (λ e. refuses-planned p B t h sh bk I (mark place b) BadObject)
+        (λ e. mark-planned p B t h sh bk I place b (not-false _ e)))
     planned-sound (release d) s =
         if-cases (λ q. Planned p B t h sh bk (release d) q) (not (mayRelease (t .words)) || (isHolder d && hasReleased (t .words) d)) (λ e. refuses-planned p B t h sh bk I (release d) WrongPhase)
-          (λ f. if-cases (λ q. Planned p B t h sh bk (release d) q) (not (isBound (t .words) d)) (λ e. refuses-planned p B t h sh bk I (release d) BadHolder)
-            (λ e. let r = bound-range (t .words) d (not-false _ e) in
-              release-planned p B t h sh bk I (not-false _ (or-none-left (not (mayRelease (t .words))) _ f)) d (r .0) (r .1)))
+        (λ f. if-cases (λ q. Planned p B t h sh bk (release d) q) (not (isBound (t .words) d)) (λ e. refuses-planned p B t h sh bk I (release d) BadHolder)
+        (λ e. let r = bound-range (t .words) d (not-false _ e) in
+        release-planned p B t h sh bk I (not-false _ (or-none-left (not (mayRelease (t .words))) _ f)) d (r .0) (r .1)))
     planned-sound sharedRelease s =
         if-cases (λ q. Planned p B t h sh bk sharedRelease q) (not (mayRelease (t .words)) || hasReleased (t .words) 0) (λ e. refuses-planned p B t h sh bk I sharedRelease WrongPhase)
-          (λ f. shared-planned p B t h sh bk I (not-false _ (or-none-left (not (mayRelease (t .words))) _ f)))
+        (λ f. shared-planned p B t h sh bk I (not-false _ (or-none-left (not (mayRelease (t .words))) _ f)))
 
     planned : (c : Call) → Planned p B t h sh bk c (plan p t c)
     unfolding plan
@@ -109,12 +110,14 @@ module _ (p : Params) (fine : goodParams p ≡ true) where
           → Taking p B t′ (shadowEvents es sh) b
           → ((x : ℕ) → x % 8 ≡ 0 → alignAllocation x align offset + size ≤ x + getD (t′ .words .size) b 0)
           → StepOk p B h bk (alloc d size align offset offer) (finish p t′ es (eventsHeap p es h) (takes b align offset fresh))
-              (shadowFinish t′ es (shadowEvents es sh) (takes b align offset fresh))
+          (shadowFinish t′ es (shadowEvents es sh) (takes b align offset fresh))
       unfolding takerOf taken-step
       alloc-end d size align offset offer b fresh o J k fits =
-          rw (step-is p B t h sh bk (alloc d size align offset offer) t′ es b align offset fresh (k .cell) (k .rest) o J (k .inside) (k .occupied) (k .settled) (k .running) (k .chain),
-              shadow-is p B t h sh bk (alloc d size align offset offer) t′ es b align offset fresh (k .cell) (k .rest) o J (k .inside) (k .occupied) (k .settled) (k .running) (k .chain))
-            (taken-ok p B t h sh bk d size align offset offer t′ es b fresh (k .cell) (k .rest) o J (k .inside) (k .occupied) (k .settled) (k .running) (k .chain) fits)
+          rw (
+            step-is p B t h sh bk (alloc d size align offset offer) t′ es b align offset fresh (k .cell) (k .rest) o J (k .inside) (k .occupied) (k .settled) (k .running) (k .chain),
+            shadow-is p B t h sh bk (alloc d size align offset offer) t′ es b align offset fresh (k .cell) (k .rest) o J (k .inside) (k .occupied) (k .settled) (k .running) (k .chain),
+          )
+          (taken-ok p B t h sh bk d size align offset offer t′ es b fresh (k .cell) (k .rest) o J (k .inside) (k .occupied) (k .settled) (k .running) (k .chain) fits)
 
       end-ok : (c : Call) (e : End) → EventsOk p B (takerOf c) es h bk
           → Inv p B t′ (eventsHeap p es h) (shadowEvents es sh) (bookFor c e (bookEvents p (takerOf c) es bk))

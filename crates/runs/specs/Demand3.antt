@@ -51,19 +51,23 @@ module _ (p : Params) (fine : goodParams p ≡ true) where
     unfolding covers
     write-word c m a cov v d ld y k =
         off-word h (a - p .base) v (y - p .base) (⊎-elim
-          (λ q. inr (omega (arith, q, cov .0, from-y, from-c, Y .word)))
-          (λ q. inl (omega (arith, q, cov .1, from-y, from-c)))
-          (whole-apart p d (getD size d 0) y (blockAt p (c .start)) (c .size) (c .start) ld (H .low) Y (H .whole)
-            (λ e. ap (λ (x : ℕ). getD size x 0) e ∙ sym (H .size)) apart))
+        (λ q. inr (omega (arith, q, cov .0, from-y, from-c, Y .word)))
+        (λ q. inl (omega (arith, q, cov .1, from-y, from-c)))
+        (whole-apart p d (getD size d 0) y (blockAt p (c .start)) (c .size) (c .start) ld (H .low) Y (H .whole)
+        (λ e. ap (λ (x : ℕ). getD size x 0) e ∙ sym (H .size)) apart))
       where
         H : Held p size st c
         H = I .held c m
+
         Y : Whole p d (getD size d 0) y
         Y = I .blocks d ld .cells y k
+
         from-y : p .base ≤ y
         from-y = whole-from p bounds d _ y ld Y
+
         from-c : p .base ≤ c .start
         from-c = whole-from p bounds _ _ _ (H .low) (H .whole)
+
         apart : y ≢ c .start
         apart e =
             let at : d ≡ blockAt p (c .start) = sym (whole-blockAt p bounds d _ y ld Y) ∙ ap (blockAt p) e in
@@ -82,16 +86,16 @@ module _ (p : Params) (fine : goodParams p ≡ true) where
           bytes = I .bytes;
           words = I .words;
           blocks = λ d ld.
-            record {
-              stands = stands-frame p h _ _ _ (λ y k. write-word (z .0) (z .1) (w .address) (z .3) (w .byte) d ld y k) (I .blocks d ld .stands);
-              cells = I .blocks d ld .cells;
-              desc = I .blocks d ld .desc
-            };
+              record {
+                stands = stands-frame p h _ _ _ (λ y k. write-word (z .0) (z .1) (w .address) (z .3) (w .byte) d ld y k) (I .blocks d ld .stands);
+                cells = I .blocks d ld .cells;
+                desc = I .blocks d ld .desc;
+              };
           held = I .held;
           off = I .off;
           apart = I .apart;
           marks = I .marks;
-          places = I .places
+          places = I .places;
         }
 
   writes-core : (ws : List Write) (free size st ms h : List ℕ) (sh : List (List ℕ)) (bk : Book) → Core p free size st ms h sh bk
@@ -111,10 +115,10 @@ module _ (p : Params) (fine : goodParams p ≡ true) where
     unfolding fits wordCount
     lent-fits =
         and-both (and-both (and-both (and-both fine
-          (eq-eqb _ _ (length-flat (p .blocks) (t .words) (I .sized))))
-          (eq-eqb _ _ (I .core .states)))
-          (eq-eqb _ _ (I .core .markings)))
-          (eq-eqb _ _ (I .core .heap))
+        (eq-eqb _ _ (length-flat (p .blocks) (t .words) (I .sized))))
+        (eq-eqb _ _ (I .core .states)))
+        (eq-eqb _ _ (I .core .markings)))
+        (eq-eqb _ _ (I .core .heap))
 
     lent-tables : tablesIn (lentOf t h) ≡ t
     lent-tables = ap (λ (w : Words). tablesOf w (t .states) (t .marks)) (view-flat (p .blocks) (t .words) (I .sized))
@@ -132,7 +136,7 @@ module _ (p : Params) (fine : goodParams p ≡ true) where
         released = releases (a .events);
         words = flat (a .tables .words);
         states = a .tables .states;
-        marks = a .tables .marks
+        marks = a .tables .marks;
       }
 
   shadowTrace : Tables → List (List ℕ) → List Call → List Seen
@@ -142,17 +146,17 @@ module _ (p : Params) (fine : goodParams p ≡ true) where
       shadowSeen a ∷ shadowTrace (a .tables) (a .shadow) cs
 
   module _ (t : Tables) (h : List ℕ) (sh : List (List ℕ)) (bk : Book) (I : Inv p bounds t h sh bk) (u : Turn)
-    (honest : (w : Write) → In w (u .writes) → Holds bk w) where
+      (honest : (w : Write) → In w (u .writes) → Holds bk w) where
     abbrev g : List ℕ
     g = written p (u .writes) h
 
     J : Inv p bounds t g sh bk
     J = record {
-        core = writes-core (u .writes) (t .words .free) (t .words .size) (t .states) (t .marks) h sh bk (I .core) honest;
-        sized = I .sized;
-        young = I .young;
-        idle = I .idle
-      }
+      core = writes-core (u .writes) (t .words .free) (t .words .size) (t .states) (t .marks) h sh bk (I .core) honest;
+      sized = I .sized;
+      young = I .young;
+      idle = I .idle;
+    }
 
     s : Step
     s = step p t g (u .call)
@@ -181,7 +185,7 @@ module _ (p : Params) (fine : goodParams p ≡ true) where
           zeroed = rw (step-of, result-of) (S .zeroed);
           apart = rw turn-of (held-apart p bounds _ _ _ (S .inv .core .held) (S .inv .core .apart));
           unchanged = rw (step-of, result-of) (S .unchanged);
-          lost = rw step-of (S .lost)
+          lost = rw step-of (S .lost);
         }
 
     turn-seen : seen (resultOf p (stateOf t h bk) u) (stepOf p (stateOf t h bk) u .events) ≡ shadowSeen (shadowStep p t sh (u .call))
@@ -193,7 +197,7 @@ module _ (p : Params) (fine : goodParams p ≡ true) where
           released = releases (S .events i);
           words = flat (S .tables i .words);
           states = S .tables i .states;
-          marks = S .tables i .marks
+          marks = S .tables i .marks;
         })
 
   -- ---- whole runs
@@ -209,9 +213,9 @@ module _ (p : Params) (fine : goodParams p ≡ true) where
       let O : StepOk p bounds g bk c (step p t g c) a = S t h sh bk I u (H .0) in
       let e = turn-of t h sh bk I u (H .0) in
       let rest : trace p (turned p (stateOf t h bk) u) us ≡ shadowTrace (a .tables) (a .shadow) (map (λ (x : Turn). x .call) us) =
-            ap (λ (x : State). trace p x us) e
-            ∙ follows us (step p t g c .tables) (step p t g c .heap) (a .shadow) (bookAfter p c (step p t g c) bk) (O .inv) (subst (λ (x : State). HoldersWrite p x us) e (H .1))
-            ∙ ap (λ (x : Tables). shadowTrace x (a .shadow) (map (λ (x : Turn). x .call) us)) (O .tables) in
+      ap (λ (x : State). trace p x us) e
+      ∙ follows us (step p t g c .tables) (step p t g c .heap) (a .shadow) (bookAfter p c (step p t g c) bk) (O .inv) (subst (λ (x : State). HoldersWrite p x us) e (H .1))
+      ∙ ap (λ (x : Tables). shadowTrace x (a .shadow) (map (λ (x : Turn). x .call) us)) (O .tables) in
       λ i. turn-seen t h sh bk I u (H .0) i ∷ rest i
 
   keeps : (us : List Turn) (t : Tables) (h : List ℕ) (sh : List (List ℕ)) (bk : Book) → Inv p bounds t h sh bk → HoldersWrite p (stateOf t h bk) us
@@ -221,11 +225,12 @@ module _ (p : Params) (fine : goodParams p ≡ true) where
   keeps (u ∷ us) t h sh bk I H =
       let g : List ℕ = written p (u .writes) h in
       let c : Call = u .call in
-      let e = turn-of t h sh bk I u (H .0) in
-      (turn-keeps t h sh bk I u (H .0),
+      let e = turn-of t h sh bk I u (H .0) in (
+        turn-keeps t h sh bk I u (H .0),
         subst (λ (x : State). RunKeeps p x us) (sym e)
-          (keeps us (step p t g c .tables) (step p t g c .heap) (shadowStep p t sh c .shadow) (bookAfter p c (step p t g c) bk) (S t h sh bk I u (H .0) .inv)
-            (subst (λ (x : State). HoldersWrite p x us) e (H .1))))
+            (keeps us (step p t g c .tables) (step p t g c .heap) (shadowStep p t sh c .shadow) (bookAfter p c (step p t g c) bk) (S t h sh bk I u (H .0) .inv)
+            (subst (λ (x : State). HoldersWrite p x us) e (H .1))),
+      )
 
   -- ---- after set-up
 
@@ -243,20 +248,27 @@ module _ (p : Params) (fine : goodParams p ≡ true) where
           bytes = Mem.bytes-zeros (heapBytes p / 64);
           words = λ b. ap (λ (x : ℕ). x % 8) (Mem.getD-zeros (p .blocks) b);
           blocks = λ b lb. rw (Mem.getD-zeros (p .blocks) b, getD-replicate {A = List ℕ} (p .blocks) b [] [] lb)
-            (record { stands = refl; cells = λ x m. absurd m; desc = tt });
+              (record { stands = refl; cells = λ x m. absurd m; desc = tt });
           held = λ c m. absurd m;
           off = λ c m. absurd m;
           apart = tt;
           marks = λ a e. unmarked a;
-          places = λ q m. absurd m
+          places = λ q m. absurd m;
         };
         sized = record {
-          first = length-replicate {A = ℕ} 1470 0; last = length-replicate {A = ℕ} 1470 0; bound = refl; released = refl;
-          next = length-replicate (p .blocks) 0; prev = length-replicate (p .blocks) 0; free = length-replicate (p .blocks) 0;
-          size = length-replicate (p .blocks) 0; list = length-replicate (p .blocks) 0; tls = length-replicate (p .blocks) 0
+          first = length-replicate {A = ℕ} 1470 0;
+          last = length-replicate {A = ℕ} 1470 0;
+          bound = refl;
+          released = refl;
+          next = length-replicate (p .blocks) 0;
+          prev = length-replicate (p .blocks) 0;
+          free = length-replicate (p .blocks) 0;
+          size = length-replicate (p .blocks) 0;
+          list = length-replicate (p .blocks) 0;
+          tls = length-replicate (p .blocks) 0;
         };
         young = λ c m. absurd m;
-        idle = λ j n lj ln. Mem.getD-zeros 1470 (unswept (3 * j) n)
+        idle = λ j n lj ln. Mem.getD-zeros 1470 (unswept (3 * j) n);
       }
     where
       unmarked : (a : ℕ) → marked p (replicate (heapBytes p / 64) 0) a ≡ false
@@ -272,7 +284,7 @@ fits-parts : (p : Params) (l : Lent) → fits p l ≡ true → (goodParams p ≡
 unfolding fits
 fits-parts p l f =
     let r = ends-of-five (goodParams p) (eqb (length (l .words)) (wordCount p)) (eqb (length (l .states)) (p .blocks))
-          (eqb (length (l .marks)) (heapBytes p / 64)) (eqb (length (l .heap)) (heapBytes p)) f in
+    (eqb (length (l .marks)) (heapBytes p / 64)) (eqb (length (l .heap)) (heapBytes p)) f in
     (r .0, eqb-true _ _ (r .1))
 
 set-up-fits : (p : Params) (l : Lent) → setUp p l .reply ≡ answered [] → fits p l ≡ true
@@ -289,30 +301,40 @@ set-up-is p l f = if-true (fits p l) _ _ f
 
 pub demand3 : Demand3
 unfolding Demand3 begun
-demand3 p l l′ us us′ e e′ H H′ same =
-    (record {
-      setUps = seen-same;
-      calls = calls-same;
-      pagesAtSetUp = λ firsts. ap (λ (x : Seen). pages p (x .words) firsts) seen-same;
-      pagesAfter = λ firsts. ap (map (λ (x : Seen). pages p (x .words) firsts)) calls-same
-    }, subst (λ (x : State). RunKeeps p x us) (sym (start-is l fit)) (keeps p fine us (freshTables p) (l .heap) (replicate (p .blocks) []) emptyBook (inv l fit) (held l fit us H)))
+demand3 p l l′ us us′ e e′ H H′ same = (
+  record {
+    setUps = seen-same;
+    calls = calls-same;
+    pagesAtSetUp = λ firsts. ap (λ (x : Seen). pages p (x .words) firsts) seen-same;
+    pagesAfter = λ firsts. ap (map (λ (x : Seen). pages p (x .words) firsts)) calls-same;
+  },
+  subst (λ (x : State). RunKeeps p x us) (sym (start-is l fit)) (keeps p fine us (freshTables p) (l .heap) (replicate (p .blocks) []) emptyBook (inv l fit) (held l fit us H)),
+)
   where
     fit : fits p l ≡ true
     fit = set-up-fits p l e
+
     fit′ : fits p l′ ≡ true
     fit′ = set-up-fits p l′ e′
+
     fine : goodParams p ≡ true
     fine = fits-parts p l fit .0
+
     start-is : (l : Lent) → fits p l ≡ true → begun p l ≡ stateOf p fine (freshTables p) (l .heap) emptyBook
     start-is l f = ap (λ (x : Result). record { lent = x .lent; book = emptyBook }) (set-up-is p l f)
+
     inv : (l : Lent) → fits p l ≡ true → Inv p (bounds p fine) (freshTables p) (l .heap) (replicate (p .blocks) []) emptyBook
     inv l f = fresh-inv p fine (l .heap) (fits-parts p l f .1)
+
     held : (l : Lent) → fits p l ≡ true → (us : List Turn) → HoldersWrite p (begun p l) us → HoldersWrite p (stateOf p fine (freshTables p) (l .heap) emptyBook) us
     held l f us H = subst (λ (x : State). HoldersWrite p x us) (start-is l f) H
+
     run-is : (l : Lent) (f : fits p l ≡ true) (us : List Turn) → HoldersWrite p (begun p l) us
         → trace p (begun p l) us ≡ shadowTrace p fine (freshTables p) (replicate (p .blocks) []) (map (λ (u : Turn). u .call) us)
     run-is l f us H = ap (λ (x : State). trace p x us) (start-is l f) ∙ follows p fine us (freshTables p) (l .heap) (replicate (p .blocks) []) emptyBook (inv l f) (held l f us H)
+
     calls-same : trace p (begun p l) us ≡ trace p (begun p l′) us′
     calls-same = run-is l fit us H ∙ ap (shadowTrace p fine (freshTables p) (replicate (p .blocks) [])) same ∙ sym (run-is l′ fit′ us′ H′)
+
     seen-same : seen (setUp p l) [] ≡ seen (setUp p l′) []
     seen-same = ap (λ (x : Result). seen x []) (set-up-is p l fit) ∙ sym (ap (λ (x : Result). seen x []) (set-up-is p l′ fit′))

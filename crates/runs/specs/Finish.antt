@@ -51,7 +51,7 @@ shadowTake t es sh b align offset fresh =
       reply = answered (alignAllocation cell align offset ∷ size ∷ flag fresh ∷ sweeps es ∷ []);
       tables = withWords (setFree b (headOf (tail (getD sh b []))) (t .words)) t;
       events = es ++ (taken cell size ∷ []);
-      shadow = set sh b (tail (getD sh b []))
+      shadow = set sh b (tail (getD sh b []));
     }
 
 unfoldable pub shadowFinish : Tables → List Event → List (List ℕ) → End → ShadowStep
@@ -93,12 +93,14 @@ module _ (p : Params) (B : Bounds p) where
   pub held-apart : (size st : List ℕ) (cs : List Cell) → ((c : Cell) → In c cs → Held p size st c) → Pairwise (λ c d. c .start ≢ d .start) cs → Pairwise Apart cs
   unfolding Pairwise In Apart covers
   held-apart size st [] held a = tt
-  held-apart size st (c ∷ cs) held a =
-      ((λ d m k u v. both d m k u v (whole-apart p _ _ _ _ _ _ (held c (inl refl) .low) (held d (inr m) .low) (held c (inl refl) .whole) (held d (inr m) .whole) (sizes d m) (a .0 d m))),
-        held-apart size st cs (λ d m. held d (inr m)) (a .1))
+  held-apart size st (c ∷ cs) held a = (
+    (λ d m k u v. both d m k u v (whole-apart p _ _ _ _ _ _ (held c (inl refl) .low) (held d (inr m) .low) (held c (inl refl) .whole) (held d (inr m) .whole) (sizes d m) (a .0 d m))),
+    held-apart size st cs (λ d m. held d (inr m)) (a .1),
+  )
     where
       sizes : (d : Cell) → In d cs → blockAt p (c .start) ≡ blockAt p (d .start) → c .size ≡ d .size
       sizes d m e = held c (inl refl) .size ∙ ap (λ (x : ℕ). getD size x 0) e ∙ sym (held d (inr m) .size)
+
       both : (d : Cell) → In d cs → (k : ℕ) → (c .start ≤ k) × (k < c .start + c .size) → (d .start ≤ k) × (k < d .start + d .size)
           → Mem.Apart (c .start) (c .size) (d .start) (d .size) → ⊥
       both d m k u v (inl x) = omega (arith, u .1, v .0, x)
@@ -119,8 +121,8 @@ module _ (p : Params) (B : Bounds p) where
           served = said-served c serves;
           zeroed = λ a s m. absurd (none-taken p B (takerOf c) es h bk o a s m);
           unchanged = subst (λ (x : List Event). Unchanged p bk x h (eventsHeap p es h)) (append-nil es)
-            (events-unchanged p B (takerOf c) es [] h bk o (λ d m v k w. refl));
-          lost = subst (λ (x : List Event). LostExactly p (takerOf c) x bk) (append-nil es) (events-lost p B (takerOf c) es [] h bk o tt)
+              (events-unchanged p B (takerOf c) es [] h bk o (λ d m v k w. refl));
+          lost = subst (λ (x : List Event). LostExactly p (takerOf c) x bk) (append-nil es) (events-lost p B (takerOf c) es [] h bk o tt);
         }
       where
         said-served : (c : Call) → Serves c (t′ .words) (says r) → Served c (finish p t′ es (eventsHeap p es h) (says r))
@@ -134,9 +136,9 @@ module _ (p : Params) (B : Bounds p) where
 
     -- a cell is taken: only an alloc ends so
     module _ (t′ : Tables) (es : List Event) (b align offset : ℕ) (fresh : Bool) (x : ℕ) (l : List ℕ) (o : EventsOk p B (takerOf c) es h bk)
-      (I : Inv p B t′ (eventsHeap p es h) (shadowEvents es sh) (bookEvents p (takerOf c) es bk))
-      (lb : b < p .blocks) (occ : getD (t′ .states) b 0 ≢ 0) (settled : Settled (getD (t′ .words .list) b 0)) (running : t′ .words .phase ≡ 0)
-      (top : getD (shadowEvents es sh) b [] ≡ x ∷ l) where
+        (I : Inv p B t′ (eventsHeap p es h) (shadowEvents es sh) (bookEvents p (takerOf c) es bk))
+        (lb : b < p .blocks) (occ : getD (t′ .states) b 0 ≢ 0) (settled : Settled (getD (t′ .words .list) b 0)) (running : t′ .words .phase ≡ 0)
+        (top : getD (shadowEvents es sh) b [] ≡ x ∷ l) where
       abbrev H : List ℕ
       H = eventsHeap p es h
 
@@ -171,7 +173,7 @@ module _ (p : Params) (B : Bounds p) where
       link-good : linkOk p (t′ .words) b (load p H (getD (t′ .words .free) b 0)) ≡ true
       link-good =
           rw (head-is, link-is)
-            (good-link l (rest-cell p B (t′ .words .free) (t′ .words .size) (t′ .states) (t′ .marks) H (shadowEvents es sh) bk′ C b lb occ x l top (takerOf c)))
+          (good-link l (rest-cell p B (t′ .words .free) (t′ .words .size) (t′ .states) (t′ .marks) H (shadowEvents es sh) bk′ C b lb occ x l top (takerOf c)))
 
       -- the step, with the link read
       unfoldable pub taken-step : Step
@@ -180,7 +182,7 @@ module _ (p : Params) (B : Bounds p) where
             reply = answered (alignAllocation x align offset ∷ size ∷ flag fresh ∷ sweeps es ∷ []);
             tables = withWords (setFree b (headOf l) (t′ .words)) t′;
             heap = zeroed p H x size;
-            events = es ++ (taken x size ∷ [])
+            events = es ++ (taken x size ∷ []);
           }
 
       pub step-is : finish p t′ es H (takes b align offset fresh) ≡ taken-step
@@ -194,11 +196,11 @@ module _ (p : Params) (B : Bounds p) where
 
   -- of an alloc by d, for this size, align and offset
   module _ (t : Tables) (h : List ℕ) (sh : List (List ℕ)) (bk : Book) (d asked align offset : ℕ) (offer : Offer)
-    (t′ : Tables) (es : List Event) (b : ℕ) (fresh : Bool) (x : ℕ) (l : List ℕ) (o : EventsOk p B d es h bk)
-    (I : Inv p B t′ (eventsHeap p es h) (shadowEvents es sh) (bookEvents p d es bk))
-    (lb : b < p .blocks) (occ : getD (t′ .states) b 0 ≢ 0) (settled : Settled (getD (t′ .words .list) b 0)) (running : t′ .words .phase ≡ 0)
-    (top : getD (shadowEvents es sh) b [] ≡ x ∷ l)
-    (fits : (y : ℕ) → y % 8 ≡ 0 → alignAllocation y align offset + asked ≤ y + getD (t′ .words .size) b 0) where
+      (t′ : Tables) (es : List Event) (b : ℕ) (fresh : Bool) (x : ℕ) (l : List ℕ) (o : EventsOk p B d es h bk)
+      (I : Inv p B t′ (eventsHeap p es h) (shadowEvents es sh) (bookEvents p d es bk))
+      (lb : b < p .blocks) (occ : getD (t′ .states) b 0 ≢ 0) (settled : Settled (getD (t′ .words .list) b 0)) (running : t′ .words .phase ≡ 0)
+      (top : getD (shadowEvents es sh) b [] ≡ x ∷ l)
+      (fits : (y : ℕ) → y % 8 ≡ 0 → alignAllocation y align offset + asked ≤ y + getD (t′ .words .size) b 0) where
     abbrev c : Call
     c = alloc d asked align offset offer
 
@@ -213,11 +215,11 @@ module _ (p : Params) (B : Bounds p) where
 
     abbrev s : Step
     s = record {
-        reply = answered (alignAllocation x align offset ∷ n ∷ flag fresh ∷ sweeps es ∷ []);
-        tables = withWords (setFree b (headOf l) (t′ .words)) t′;
-        heap = zeroed p G x n;
-        events = es ++ (taken x n ∷ [])
-      }
+      reply = answered (alignAllocation x align offset ∷ n ∷ flag fresh ∷ sweeps es ∷ []);
+      tables = withWords (setFree b (headOf l) (t′ .words)) t′;
+      heap = zeroed p G x n;
+      events = es ++ (taken x n ∷ []);
+    }
 
     first : Whole p b n x
     first = first-whole p B (t′ .words .free) (t′ .words .size) (t′ .states) (t′ .marks) G (shadowEvents es sh) held (I .core) b lb occ x l top d
@@ -235,9 +237,9 @@ module _ (p : Params) (B : Bounds p) where
           core = take-core p B (t′ .words .free) (t′ .words .size) (t′ .states) (t′ .marks) G (shadowEvents es sh) held (I .core) b lb occ x l top d;
           sized = sized-same (simp kept-lengths) (I .sized);
           young = λ e m q. ⊎-elim
-            (λ z. (running, subst (λ (y : ℕ). Settled (getD (t′ .words .list) y 0)) (sym (ap (λ (y : Cell). blockAt p (y .start)) z ∙ whole-blockAt p B b n x lb first)) settled))
-            (λ z. I .young e z q) m;
-          idle = I .idle
+              (λ z. (running, subst (λ (y : ℕ). Settled (getD (t′ .words .list) y 0)) (sym (ap (λ (y : Cell). blockAt p (y .start)) z ∙ whole-blockAt p B b n x lb first)) settled))
+              (λ z. I .young e z q) m;
+          idle = I .idle;
         })
 
     zero-bytes : Zeroed p (s .events) (s .heap)
@@ -248,11 +250,13 @@ module _ (p : Params) (B : Bounds p) where
         (in-append (taken a z) es (taken x n ∷ []) m)
       where
         clean : (a z : ℕ) → a ≡ x → z ≡ n → (p .base ≤ a) × (a + z ≤ heapEnd p) × ((k : ℕ) → a ≤ k → k < a + z → byteAt p (zeroed p G x n) k ≡ 0)
-        clean a z e f =
-            (omega (arith, e, whole-from p B b n x lb first), omega (arith, e, f, whole-to p B b n x lb first),
-              λ k lo hi.
-                let i : k - p .base ≡ (x - p .base) + (k - x) = omega (arith, e, lo, whole-from p B b n x lb first) in
-                ap (λ (y : ℕ). getD (zeroed p G x n) y 0) i ∙ Mem.zeroed-in p G x n (k - x) (omega (arith, e, f, lo, hi)))
+        clean a z e f = (
+          omega (arith, e, whole-from p B b n x lb first),
+          omega (arith, e, f, whole-to p B b n x lb first),
+          λ k lo hi.
+              let i : k - p .base ≡ (x - p .base) + (k - x) = omega (arith, e, lo, whole-from p B b n x lb first) in
+              ap (λ (y : ℕ). getD (zeroed p G x n) y 0) i ∙ Mem.zeroed-in p G x n (k - x) (omega (arith, e, f, lo, hi)),
+        )
 
     pub taken-ok : StepOk h bk c s (record { reply = s .reply; tables = s .tables; events = s .events; shadow = set (shadowEvents es sh) b l })
     unfolding Served takerOf Unchanged LostExactly eventsHeap eventHeap frees hits In
@@ -265,7 +269,7 @@ module _ (p : Params) (B : Bounds p) where
           served = λ z. (x, n, in-append-right (taken x n) es (taken x n ∷ []) (inl refl), refl, refl, fits x (whole-eight p B b n x lb (I .core .words b) first));
           zeroed = zero-bytes;
           unchanged = events-unchanged p B d es (taken x n ∷ []) h bk o
-            (λ e m q k v. same-bytes p B d (t′ .words .size) (t′ .states) G (zeroed p G x n) e (I .core .held e m)
+              (λ e m q k v. same-bytes p B d (t′ .words .size) (t′ .states) G (zeroed p G x n) e (I .core .held e m)
               (take-bytes p B (t′ .words .free) (t′ .words .size) (t′ .states) (t′ .marks) G (shadowEvents es sh) held (I .core) b lb occ x l top d e m) k v);
-          lost = events-lost p B d es (taken x n ∷ []) h bk o ((λ e m. (refl, λ q. absurd (not-both true refl (sym q)))), tt)
+          lost = events-lost p B d es (taken x n ∷ []) h bk o ((λ e m. (refl, λ q. absurd (not-both true refl (sym q)))), tt);
         }

@@ -39,7 +39,7 @@ links-trans a b =
       free = b .free ∙ a .free;
       size = b .size ∙ a .size;
       tls = b .tls ∙ a .tls;
-      lengths = b .lengths ∙ a .lengths
+      lengths = b .lengths ∙ a .lengths;
     }
 
 -- one link or list word stored
@@ -53,7 +53,7 @@ first-links {t} {u} i v a =
       free = a .free;
       size = a .size;
       tls = a .tls;
-      lengths = lengths-setFirst i v u ∙ a .lengths
+      lengths = lengths-setFirst i v u ∙ a .lengths;
     }
 
 pub last-links : {t u : Words} (i v : ℕ) → LinksOnly t u → LinksOnly t (setLast i v u)
@@ -66,7 +66,7 @@ last-links {t} {u} i v a =
       free = a .free;
       size = a .size;
       tls = a .tls;
-      lengths = lengths-setLast i v u ∙ a .lengths
+      lengths = lengths-setLast i v u ∙ a .lengths;
     }
 
 pub next-links : {t u : Words} (i v : ℕ) → LinksOnly t u → LinksOnly t (setNext i v u)
@@ -79,7 +79,7 @@ next-links {t} {u} i v a =
       free = a .free;
       size = a .size;
       tls = a .tls;
-      lengths = lengths-setNext i v u ∙ a .lengths
+      lengths = lengths-setNext i v u ∙ a .lengths;
     }
 
 pub prev-links : {t u : Words} (i v : ℕ) → LinksOnly t u → LinksOnly t (setPrev i v u)
@@ -92,7 +92,7 @@ prev-links {t} {u} i v a =
       free = a .free;
       size = a .size;
       tls = a .tls;
-      lengths = lengths-setPrev i v u ∙ a .lengths
+      lengths = lengths-setPrev i v u ∙ a .lengths;
     }
 
 pub list-links : {t u : Words} (i v : ℕ) → LinksOnly t u → LinksOnly t (setList i v u)
@@ -105,7 +105,7 @@ list-links {t} {u} i v a =
       free = a .free;
       size = a .size;
       tls = a .tls;
-      lengths = lengths-setList i v u ∙ a .lengths
+      lengths = lengths-setList i v u ∙ a .lengths;
     }
 
 -- either way of a test
@@ -124,15 +124,15 @@ module _ (p : Params) where
   unfolding push pushOnly pushAhead
   push-links l b t a =
       if-links (eqb (getD (t .first) l 0) 0)
-        (list-links _ _ (last-links _ _ (first-links _ _ (prev-links _ _ (next-links _ _ a)))))
-        (list-links _ _ (first-links _ _ (prev-links _ _ (prev-links _ _ (next-links _ _ a)))))
+      (list-links _ _ (last-links _ _ (first-links _ _ (prev-links _ _ (next-links _ _ a)))))
+      (list-links _ _ (first-links _ _ (prev-links _ _ (prev-links _ _ (next-links _ _ a)))))
 
   popAt-links : {t₀ : Words} (l h : ℕ) (t : Words) → LinksOnly t₀ t → LinksOnly t₀ (popAt p l h t)
   unfolding popAt popOnly popAhead
   popAt-links l h t a =
       if-links (eqb (getD (t .next) h 0) 0)
-        (prev-links _ _ (next-links _ _ (last-links _ _ (first-links _ _ a))))
-        (prev-links _ _ (next-links _ _ (list-links _ _ (prev-links _ _ (first-links _ _ a)))))
+      (prev-links _ _ (next-links _ _ (last-links _ _ (first-links _ _ a))))
+      (prev-links _ _ (next-links _ _ (list-links _ _ (prev-links _ _ (first-links _ _ a)))))
 
   pub pop-links : {t₀ : Words} (l : ℕ) (t : Words) → LinksOnly t₀ t → LinksOnly t₀ (pop p l t .words)
   unfolding pop
@@ -143,10 +143,10 @@ module _ (p : Params) where
   unfolding remove removeBetween
   remove-links l b t a =
       if-links (eqb (getD (t .prev) b 0) 0)
-        (if-links (eqb (getD (t .next) b 0) 0) (last-links _ _ (first-links _ _ a))
-          (list-links _ _ (first-links _ _ (prev-links _ _ a))))
-        (if-links (eqb (getD (t .next) b 0) 0) (list-links _ _ (last-links _ _ (next-links _ _ a)))
-          (prev-links _ _ (next-links _ _ a)))
+      (if-links (eqb (getD (t .next) b 0) 0) (last-links _ _ (first-links _ _ a))
+      (list-links _ _ (first-links _ _ (prev-links _ _ a))))
+      (if-links (eqb (getD (t .next) b 0) 0) (list-links _ _ (last-links _ _ (next-links _ _ a)))
+      (prev-links _ _ (next-links _ _ a)))
 
   relabel-links : {t₀ : Words} (k l a : ℕ) (t : Words) → LinksOnly t₀ t → LinksOnly t₀ (relabel k p l a t)
   unfolding relabel
@@ -157,13 +157,13 @@ module _ (p : Params) where
   unfolding link
   link-links l o t a =
       if-links (eqb (getD (t .first) l 0) 0) (last-links _ _ (first-links _ _ a))
-        (last-links _ _ (prev-links _ _ (next-links _ _ a)))
+      (last-links _ _ (prev-links _ _ (next-links _ _ a)))
 
   pub append-links : {t₀ : Words} (l o : ℕ) (t : Words) → LinksOnly t₀ t → LinksOnly t₀ (append p l o t)
   unfolding append
   append-links l o t a =
       if-links (eqb (getD (t .first) o 0) 0) a
-        (last-links _ _ (first-links _ _ (relabel-links (p .blocks) l _ _ (link-links l o t a))))
+      (last-links _ _ (first-links _ _ (relabel-links (p .blocks) l _ _ (link-links l o t a))))
 
 -- what holds at the start and after each round holds at the end
 pub each-keeps :
@@ -207,9 +207,11 @@ module _ (p : Params) where
     where
       B : ℕ
       B = blockAt p (getD (t .first) l 0)
+
       two : (c : Bool) → FirstsBut l l t (if c then popOnly l B t else popAhead p l B (getD (t .next) B 0) t)
       two true = λ m f g. getD-set-other (t .first) l m _ 0 f
       two false = λ m f g. getD-set-other (t .first) l m _ 0 f
+
       one : (c : Bool) → FirstsBut l l t ((if c then popped 0 t else popped (getD (t .first) l 0) (popAt p l B t)) .words)
       one true = λ m f g. refl
       one false = two (eqb (getD (t .next) B 0) 0)
@@ -218,8 +220,8 @@ module _ (p : Params) where
   unfolding FirstsBut remove removeBetween setFirst setLast setNext setPrev setList
   remove-first l b t =
       if-first l l t (eqb (getD (t .prev) b 0) 0) _ _
-        (if-first l l t (eqb (getD (t .next) b 0) 0) _ _ (λ m f g. getD-set-other (t .first) l m _ 0 f) (λ m f g. getD-set-other (t .first) l m _ 0 f))
-        (if-first l l t (eqb (getD (t .next) b 0) 0) _ _ (λ m f g. refl) (λ m f g. refl))
+      (if-first l l t (eqb (getD (t .next) b 0) 0) _ _ (λ m f g. getD-set-other (t .first) l m _ 0 f) (λ m f g. getD-set-other (t .first) l m _ 0 f))
+      (if-first l l t (eqb (getD (t .next) b 0) 0) _ _ (λ m f g. refl) (λ m f g. refl))
 
   relabel-first : (k l a : ℕ) (t : Words) → relabel k p l a t .first ≡ t .first
   unfolding relabel setList
@@ -238,7 +240,7 @@ module _ (p : Params) where
   unfolding append setFirst setLast FirstsBut
   append-first l o t =
       if-first l o t (eqb (getD (t .first) o 0) 0) _ _ (λ m f g. refl)
-        (λ m f g. getD-set-other (R .first) o m 0 0 g ∙ ap (λ (x : List ℕ). getD x m 0) (relabel-first (p .blocks) l (getD (t .first) o 0) (link p l o t)) ∙ link-first l o t m f g)
+      (λ m f g. getD-set-other (R .first) o m 0 0 g ∙ ap (λ (x : List ℕ). getD x m 0) (relabel-first (p .blocks) l (getD (t .first) o 0) (link p l o t)) ∙ link-first l o t m f g)
     where
       R : Words
       R = relabel (p .blocks) p l (getD (t .first) o 0) (link p l o t)
@@ -250,10 +252,12 @@ module _ (p : Params) where
     where
       R : Words
       R = relabel (p .blocks) p l (getD (t .first) o 0) (link p l o t)
+
       room : (c : Bool) → o < length ((if c then setLast l (getD (t .last) o 0) (setFirst l (getD (t .first) o 0) t)
           else setLast l (getD (t .last) o 0) (setPrev (blockAt p (getD (t .first) o 0)) (getD (t .last) l 0) (setNext (blockAt p (getD (t .last) l 0)) (getD (t .first) o 0) t))) .first)
       room true = subst (λ (x : ℕ). o < x) (sym (length-set (t .first) l (getD (t .first) o 0))) low
       room false = low
+
       go : Dec (getD (t .first) o 0 ≡ 0) → getD (append p l o t .first) o 0 ≡ 0
       go (yes e) = rw (eq-eqb _ _ e) e
       go (no f) = rw (ne-eqb _ _ f) (getD-set-same (R .first) o 0 0 (subst (λ (x : List ℕ). o < length x) (sym (relabel-first (p .blocks) l (getD (t .first) o 0) (link p l o t))) (room (eqb (getD (t .first) l 0) 0))))

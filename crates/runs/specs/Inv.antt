@@ -46,7 +46,7 @@ set-two l m i v dx u dy d hl hm P same other = go (ℕ-discrete d i)
     go : Dec (d ≡ i) → P (getD (set l i v) d dx) (getD (set m i u) d dy)
     go (yes e) =
         subst (λ (z : ℕ). P (getD (set l i v) z dx) (getD (set m i u) z dy)) (sym e)
-          (rw (getD-set-same l i v dx hl, getD-set-same m i u dy hm) (same e))
+        (rw (getD-set-same l i v dx hl, getD-set-same m i u dy hm) (same e))
     go (no f) = rw (getD-set-other l i d v dx f, getD-set-other m i d u dy f) (other f)
 
 module _ (p : Params) where
@@ -90,11 +90,11 @@ module _ (p : Params) (B : Bounds p) where
 
   -- first words, and whole ranges, of two cells that are not one
   module _ (b s x b′ s′ y : ℕ) (lb : b < p .blocks) (lb′ : b′ < p .blocks) (X : Whole p b s x) (Y : Whole p b′ s′ y)
-    (same : b ≡ b′ → s ≡ s′) (ne : x ≢ y) where
+      (same : b ≡ b′ → s ≡ s′) (ne : x ≢ y) where
     cells-apart : Mem.Apart (x - p .base) s (y - p .base) s′
     cells-apart =
         Mem.apart-places (p .base) x s y s′ (whole-from p B b s x lb X) (whole-from p B b′ s′ y lb′ Y)
-          (whole-apart p b s x b′ s′ y lb lb′ X Y same ne)
+        (whole-apart p b s x b′ s′ y lb lb′ X Y same ne)
 
     word-apart : Mem.Apart (x - p .base) 8 (y - p .base) s′
     word-apart = Mem.apart-in _ _ _ _ _ _ _ _ cells-apart (omega arith) (omega (arith, X .word)) (omega arith) (omega arith)
@@ -125,7 +125,7 @@ module _ (p : Params) (B : Bounds p) where
   -- ---- a block's chain is built anew: a sweep, or an init with another size and state
 
   module _ (free size st ms h : List ℕ) (sh : List (List ℕ)) (bk : Book) (I : Core p free size st ms h sh bk)
-    (b : ℕ) (lb : b < p .blocks) (chain : List ℕ) where
+      (b : ℕ) (lb : b < p .blocks) (chain : List ℕ) where
     -- the cells of another block, or of the new chain, stand in the heap after linking
     module _ (s : ℕ) (cells : (x : ℕ) → In x chain → Whole p b s x) (desc : Desc 8 chain) where
       -- the new chain
@@ -134,7 +134,7 @@ module _ (p : Params) (B : Bounds p) where
           record {
             stands = stands-linkAll p chain h (whole-placed p h b s chain B (I .heap) lb cells) desc;
             cells = cells;
-            desc = desc
+            desc = desc;
           }
 
       -- another block's
@@ -143,12 +143,12 @@ module _ (p : Params) (B : Bounds p) where
           let K = I .blocks d ld in
           record {
             stands = stands-frame p h (linkAll p chain h) (getD free d 0) (getD sh d [])
-              (λ y m. same-linkAll p chain h (y - p .base) 8
+                (λ y m. same-linkAll p chain h (y - p .base) 8
                 (λ x k. words-apart b s x d (getD size d 0) y lb ld (cells x k) (K .cells y m) (λ e. absurd (ne (sym e)))
-                  (λ e. ne (sym (whole-blockAt p B d (getD size d 0) y ld (K .cells y m)) ∙ ap (blockAt p) (sym e) ∙ whole-blockAt p B b s x lb (cells x k)))))
-              (K .stands);
+                (λ e. ne (sym (whole-blockAt p B d (getD size d 0) y ld (K .cells y m)) ∙ ap (blockAt p) (sym e) ∙ whole-blockAt p B b s x lb (cells x k)))))
+                (K .stands);
             cells = K .cells;
-            desc = K .desc
+            desc = K .desc;
           }
 
       -- the bytes of a held cell that is not on the new chain
@@ -156,8 +156,8 @@ module _ (p : Params) (B : Bounds p) where
           → Mem.Same h (linkAll p chain h) (c .start - p .base) (c .size)
       kept-bytes c H same out =
           same-linkAll p chain h (c .start - p .base) (c .size)
-            (λ x k. word-apart b s x (blockAt p (c .start)) (c .size) (c .start) lb (H .low) (cells x k) (H .whole)
-              (λ e. sym (same (sym e))) (λ e. out (subst (λ (z : ℕ). In z chain) e k)))
+          (λ x k. word-apart b s x (blockAt p (c .start)) (c .size) (c .start) lb (H .low) (cells x k) (H .whole)
+          (λ e. sym (same (sym e))) (λ e. out (subst (λ (z : ℕ). In z chain) e k)))
 
     -- the mark bits and the book's places keep the same cells
     pub keeps-same : (s a : ℕ) → a % 8 ≡ 0 → 64 ≤ a → keeps p (marked p ms) s a ≡ keeps p (λ (x : ℕ). member x (bk .places)) s a
@@ -210,18 +210,20 @@ module _ (p : Params) (B : Bounds p) where
             off = off-of;
             apart = still-apart hd (swept b chain) (λ cs. refl);
             marks = I .marks;
-            places = I .places
+            places = I .places;
           }
         where
           was : (c : Cell) → In c (bookEvent p hd (swept b chain) bk .cells) → In c (bk .cells) × (member (c .start) chain ≡ false)
           was = was-held hd (swept b chain) (λ cs. refl)
+
           block-of : (d : ℕ) → d < p .blocks → BlockInv p (linkAll p chain h) d (getD (set free b (headOf chain)) d 0) (getD size d 0) (getD (set sh b chain) d [])
           block-of d ld =
               set-two free sh b (headOf chain) 0 chain [] d (omega (arith, I .free-length)) (omega (arith, I .shadow))
-                (λ x y. BlockInv p (linkAll p chain h) d x (getD size d 0) y)
-                (λ e. subst (λ (x : ℕ). BlockInv p (linkAll p chain h) x (headOf chain) (getD size x 0) chain) (sym e)
-                  (new-block (getD size b 0) (λ x m. swept-cell x m .0) swept-desc))
-                (λ e. other-chain (getD size b 0) (λ x m. swept-cell x m .0) swept-desc d ld e)
+              (λ x y. BlockInv p (linkAll p chain h) d x (getD size d 0) y)
+              (λ e. subst (λ (x : ℕ). BlockInv p (linkAll p chain h) x (headOf chain) (getD size x 0) chain) (sym e)
+              (new-block (getD size b 0) (λ x m. swept-cell x m .0) swept-desc))
+              (λ e. other-chain (getD size b 0) (λ x m. swept-cell x m .0) swept-desc d ld e)
+
           off-of : (c : Cell) → In c (bookEvent p hd (swept b chain) bk .cells) → In (c .start) (getD (set sh b chain) (blockAt p (c .start)) []) → ⊥
           off-of c m k = ⊎-elim
               (λ e. not-both _ (in-member (c .start) chain (subst (In (c .start)) (e .1) k)) (was c m .1))
@@ -233,8 +235,8 @@ module _ (p : Params) (B : Bounds p) where
       unfolding frees
       sweep-bytes c m out =
           kept-bytes (getD size b 0) (λ x k. swept-cell x k .0) swept-desc c (I .held c m)
-            (λ e. I .held c m .size ∙ ap (λ (z : ℕ). getD size z 0) e)
-            (λ k. not-both _ (in-member (c .start) chain k) out)
+          (λ e. I .held c m .size ∙ ap (λ (z : ℕ). getD size z 0) e)
+          (λ k. not-both _ (in-member (c .start) chain k) out)
 
       -- a sweep free-length the held cells of its block that are unmarked, and no other
       pub sweep-frees : (c : Cell) → In c (bk .cells) → frees p (swept b chain) c ≡ (hits p (swept b chain) c && unmarked p bk c)
@@ -243,25 +245,26 @@ module _ (p : Params) (B : Bounds p) where
         where
           H : Held p size st c
           H = I .held c m
+
           go : Dec (blockAt p (c .start) ≡ b) → member (c .start) chain ≡ (eqb (blockAt p (c .start)) b && not (keeps p (λ a. member a (bk .places)) (c .size) (c .start)))
           go (yes e) =
               let z : c .size ≡ getD size b 0 = H .size ∙ ap (λ (x : ℕ). getD size x 0) e in
               let W : Whole p b (getD size b 0) (c .start) =
-                    subst (λ (x : ℕ). Whole p b x (c .start)) z (subst (λ (x : ℕ). Whole p x (c .size) (c .start)) e (H .whole)) in
+              subst (λ (x : ℕ). Whole p b x (c .start)) z (subst (λ (x : ℕ). Whole p x (c .size) (c .start)) e (H .whole)) in
               let k : keeps p (marked p ms) (getD size b 0) (c .start) ≡ keeps p (λ (x : ℕ). member x (bk .places)) (c .size) (c .start) =
-                    keeps-same (getD size b 0) (c .start) (whole-eight b (getD size b 0) (c .start) lb (I .words b) W)
-                      (omega (arith, whole-from p B b (getD size b 0) (c .start) lb W, B .base-low))
-                    ∙ ap (λ (x : ℕ). keeps p (λ (y : ℕ). member y (bk .places)) x (c .start)) (sym z) in
+              keeps-same (getD size b 0) (c .start) (whole-eight b (getD size b 0) (c .start) lb (I .words b) W)
+              (omega (arith, whole-from p B b (getD size b 0) (c .start) lb W, B .base-low))
+              ∙ ap (λ (x : ℕ). keeps p (λ (y : ℕ). member y (bk .places)) x (c .start)) (sym z) in
               rw (eq-eqb _ _ e) (same-test _ _
-                (λ m′. ap not (sym k ∙ swept-cell (c .start) (member-in _ _ m′) .1))
-                (λ n. in-member _ _ (subst (In (c .start)) (sym is)
-                  (chain-in p (keeps p (marked p ms) (getD size b 0)) b (getD size b 0) (c .start) W (k ∙ not-true _ n)))))
+              (λ m′. ap not (sym k ∙ swept-cell (c .start) (member-in _ _ m′) .1))
+              (λ n. in-member _ _ (subst (In (c .start)) (sym is)
+              (chain-in p (keeps p (marked p ms) (getD size b 0)) b (getD size b 0) (c .start) W (k ∙ not-true _ n)))))
           go (no f) = rw (ne-eqb _ _ f) (same-test _ _ (λ k. absurd (f (whole-blockAt p B b (getD size b 0) (c .start) lb (swept-cell (c .start) (member-in _ _ k) .0)))) (λ k. absurd (not-both _ k refl)))
 
     -- ---- an init: the block was Unallocated, so no cell of it is held and it has no place
 
     module _ (none : getD st b 0 ≡ 0) (s : ℕ) (word : 8 ≤ s) (whole : s % 8 ≡ 0)
-      (is : chain ≡ initChain p b s) (hd : ℕ) where
+        (is : chain ≡ initChain p b s) (hd : ℕ) where
       init-cell : (x : ℕ) → In x chain → Whole p b s x
       unfolding initChain
       init-cell x m = in-chain p (λ a. false) b s x word (subst (In x) is m) .0
@@ -290,20 +293,23 @@ module _ (p : Params) (B : Bounds p) where
             off = off-of;
             apart = still-apart hd (initialised b chain) (λ cs. refl);
             marks = I .marks;
-            places = λ q m. place-of q (I .places q m)
+            places = λ q m. place-of q (I .places q m);
           }
         where
           was : (c : Cell) → In c (bookEvent p hd (initialised b chain) bk .cells) → In c (bk .cells) × (false ≡ false)
           was = was-held hd (initialised b chain) (λ cs. refl)
+
           word-of : (d : ℕ) → getD (set size b s) d 0 % 8 ≡ 0
           word-of d = ⊎-elim (λ e. rw (e .1) whole) (λ e. rw (e .1) (I .words d)) (set-cases size b s 0 d (omega (arith, I .sizes)))
+
           block-of : (d : ℕ) → d < p .blocks → BlockInv p (linkAll p chain h) d (getD (set free b (headOf chain)) d 0) (getD (set size b s) d 0) (getD (set sh b chain) d [])
           block-of d ld =
               set-two free sh b (headOf chain) 0 chain [] d (omega (arith, I .free-length)) (omega (arith, I .shadow))
-                (λ x y. BlockInv p (linkAll p chain h) d x (getD (set size b s) d 0) y)
-                (λ e. subst (λ (x : ℕ). BlockInv p (linkAll p chain h) x (headOf chain) (getD (set size b s) x 0) chain) (sym e)
-                  (rw (getD-set-same size b s 0 (omega (arith, I .sizes))) (new-block s init-cell init-desc)))
-                (λ e. rw (getD-set-other size b d s 0 e) (other-chain s init-cell init-desc d ld e))
+              (λ x y. BlockInv p (linkAll p chain h) d x (getD (set size b s) d 0) y)
+              (λ e. subst (λ (x : ℕ). BlockInv p (linkAll p chain h) x (headOf chain) (getD (set size b s) x 0) chain) (sym e)
+              (rw (getD-set-same size b s 0 (omega (arith, I .sizes))) (new-block s init-cell init-desc)))
+              (λ e. rw (getD-set-other size b d s 0 e) (other-chain s init-cell init-desc d ld e))
+
           held-of : (c : Cell) → In c (bk .cells) → Held p (set size b s) (set st b 255) c
           held-of c m =
               let H = I .held c m in
@@ -311,27 +317,29 @@ module _ (p : Params) (B : Bounds p) where
                 low = H .low;
                 occupied = rw (getD-set-other st b (blockAt p (c .start)) 255 0 (not-here c m)) (H .occupied);
                 whole = H .whole;
-                size = H .size ∙ sym (getD-set-other size b (blockAt p (c .start)) s 0 (not-here c m))
+                size = H .size ∙ sym (getD-set-other size b (blockAt p (c .start)) s 0 (not-here c m));
               }
+
           off-of : (c : Cell) → In c (bookEvent p hd (initialised b chain) bk .cells) → In (c .start) (getD (set sh b chain) (blockAt p (c .start)) []) → ⊥
           off-of c m k = I .off c (was c m .0) (rw (getD-set-other sh b (blockAt p (c .start)) chain [] (not-here c (was c m .0))) at k)
+
           place-of : (q : ℕ) → Placed p st q → Placed p (set st b 255) q
           place-of q P =
               record {
                 inside = P .inside;
                 whole = P .whole;
-                state = getD-set-other st b _ 255 0 (λ e. absurd (omega (arith, P .state, ap (λ (x : ℕ). getD st x 0) e ∙ none))) ∙ P .state
+                state = getD-set-other st b _ 255 0 (λ e. absurd (omega (arith, P .state, ap (λ (x : ℕ). getD st x 0) e ∙ none))) ∙ P .state;
               }
 
       pub init-bytes : (c : Cell) → In c (bk .cells) → Mem.Same h (linkAll p chain h) (c .start - p .base) (c .size)
       init-bytes c m =
           kept-bytes s init-cell init-desc c (I .held c m) (λ e. absurd (not-here c m e))
-            (λ k. not-here c m (whole-blockAt p B b s (c .start) lb (init-cell (c .start) k)))
+          (λ k. not-here c m (whole-blockAt p B b s (c .start) lb (init-cell (c .start) k)))
 
   -- ---- a release: the block was Unmarked, so it has no place and none of its cells is marked
 
   module _ (free size st ms h : List ℕ) (sh : List (List ℕ)) (bk : Book) (I : Core p free size st ms h sh bk)
-    (b : ℕ) (un : getD st b 0 ≡ 255) (hd : ℕ) where
+      (b : ℕ) (un : getD st b 0 ≡ 255) (hd : ℕ) where
     pub in-range : b < p .blocks
     in-range = go (decLt b (p .blocks))
       where
@@ -356,19 +364,22 @@ module _ (p : Params) (B : Bounds p) where
           off = off-of;
           apart = still-apart free size st ms h sh bk I b in-range [] hd (released b) (λ cs. refl);
           marks = I .marks;
-          places = λ q m. place-of q (I .places q m)
+          places = λ q m. place-of q (I .places q m);
         }
       where
         was : (c : Cell) → In c (bookEvent p hd (released b) bk .cells) → In c (bk .cells) × (eqb (blockAt p (c .start)) b ≡ false)
         was = was-held free size st ms h sh bk I b in-range [] hd (released b) (λ cs. refl)
+
         word-of : (d : ℕ) → getD (set size b 0) d 0 % 8 ≡ 0
         word-of d = ⊎-elim (λ e. rw (e .1)) (λ e. rw (e .1) (I .words d)) (set-cases size b 0 0 d (omega (arith, I .sizes, in-range)))
+
         block-of : (d : ℕ) → d < p .blocks → BlockInv p h d (getD (set free b 0) d 0) (getD (set size b 0) d 0) (getD (set sh b []) d [])
         block-of d ld =
             set-two free sh b 0 0 [] [] d (omega (arith, I .free-length, in-range)) (omega (arith, I .shadow, in-range))
-              (λ x y. BlockInv p h d x (getD (set size b 0) d 0) y)
-              (λ e. record { stands = refl; cells = λ x m. absurd m; desc = tt })
-              (λ e. rw (getD-set-other size b d 0 0 e) (I .blocks d ld))
+            (λ x y. BlockInv p h d x (getD (set size b 0) d 0) y)
+            (λ e. record { stands = refl; cells = λ x m. absurd m; desc = tt })
+            (λ e. rw (getD-set-other size b d 0 0 e) (I .blocks d ld))
+
         held-of : (c : Cell) → In c (bk .cells) → blockAt p (c .start) ≢ b → Held p (set size b 0) (set st b 0) c
         held-of c m ne =
             let H = I .held c m in
@@ -376,16 +387,18 @@ module _ (p : Params) (B : Bounds p) where
               low = H .low;
               occupied = rw (getD-set-other st b (blockAt p (c .start)) 0 0 ne) (H .occupied);
               whole = H .whole;
-              size = H .size ∙ sym (getD-set-other size b (blockAt p (c .start)) 0 0 ne)
+              size = H .size ∙ sym (getD-set-other size b (blockAt p (c .start)) 0 0 ne);
             }
+
         off-of : (c : Cell) → In c (bookEvent p hd (released b) bk .cells) → In (c .start) (getD (set sh b []) (blockAt p (c .start)) []) → ⊥
         off-of c m k = I .off c (was c m .0) (rw (getD-set-other sh b (blockAt p (c .start)) [] [] (eqb-false _ _ (was c m .1))) at k)
+
         place-of : (q : ℕ) → Placed p st q → Placed p (set st b 0) q
         place-of q P =
             record {
               inside = P .inside;
               whole = P .whole;
-              state = getD-set-other st b _ 0 0 (λ e. absurd (omega (arith, P .state, ap (λ (x : ℕ). getD st x 0) e ∙ un))) ∙ P .state
+              state = getD-set-other st b _ 0 0 (λ e. absurd (omega (arith, P .state, ap (λ (x : ℕ). getD st x 0) e ∙ un))) ∙ P .state;
             }
 
     -- a place keeps cells of Marked blocks only
@@ -403,14 +416,19 @@ module _ (p : Params) (B : Bounds p) where
       where
         H : Held p size st c
         H = I .held c m
+
         low : 64 ≤ c .start
         low = omega (arith, whole-from p B _ _ _ (H .low) (H .whole), B .base-low)
+
         none : (q : ℕ) → (In q (bk .places) → ⊥) → member q (bk .places) ≡ false
         none q f = same-test _ _ (λ k. absurd (f (member-in q _ k))) (λ k. absurd (not-both _ k refl))
+
         still : simple p ≡ true → c .start ≡ plusLower p (c .start)
         still s = let u = B .lower-unified (and-right (not (p .offsets) && eqb (p .min) (p .max)) (p .unified) s) in omega (arith, u)
+
         inside : (k : ℕ) → k < wordsIn (c .size) → blockAt p (c .start + 8 * k) ≡ b
         inside k l = whole-block p B _ _ _ (H .low) (H .whole) (8 * k) (omega (arith, l)) ∙ e
+
         go : (t : Bool) → simple p ≡ t
             → (if t then member (c .start) (bk .places) else anyBelow (wordsIn (c .size)) (λ k. member (plusLower p (c .start + 8 * k)) (bk .places))) ≡ false
         go true s = none (c .start) (λ i. no-place (c .start) (c .start) e low (still s) i)
@@ -419,7 +437,7 @@ module _ (p : Params) (B : Bounds p) where
   -- ---- the first cell of a block's chain is taken
 
   module _ (free size st ms h : List ℕ) (sh : List (List ℕ)) (bk : Book) (I : Core p free size st ms h sh bk)
-    (b : ℕ) (lb : b < p .blocks) (occ : getD st b 0 ≢ 0) (x : ℕ) (l : List ℕ) (top : getD sh b [] ≡ x ∷ l) (hd : ℕ) where
+      (b : ℕ) (lb : b < p .blocks) (occ : getD st b 0 ≢ 0) (x : ℕ) (l : List ℕ) (top : getD sh b [] ≡ x ∷ l) (hd : ℕ) where
     here : BlockInv p h b (getD free b 0) (getD size b 0) (x ∷ l)
     here = subst (λ (c : List ℕ). BlockInv p h b (getD free b 0) (getD size b 0) c) top (I .blocks b lb)
 
@@ -455,14 +473,14 @@ module _ (p : Params) (B : Bounds p) where
     take-bytes c m =
         let H = I .held c m in
         Mem.same-zeroed p h x (getD size b 0) (c .start - p .base) (c .size)
-          (cells-apart b (getD size b 0) x (blockAt p (c .start)) (c .size) (c .start) lb (H .low) first-whole (H .whole)
-            (λ e. ap (λ (d : ℕ). getD size d 0) e ∙ sym (H .size)) (not-held c m))
+        (cells-apart b (getD size b 0) x (blockAt p (c .start)) (c .size) (c .start) lb (H .low) first-whole (H .whole)
+        (λ e. ap (λ (d : ℕ). getD size d 0) e ∙ sym (H .size)) (not-held c m))
 
     -- chains of other cells stay
     zero-word : (d : ℕ) → d < p .blocks → (y : ℕ) → Whole p d (getD size d 0) y → x ≢ y → Mem.Same h (zeroed p h x (getD size b 0)) (y - p .base) 8
     zero-word d ld y Y ne =
         Mem.same-zeroed p h x (getD size b 0) (y - p .base) 8
-          (wide-apart b (getD size b 0) x d (getD size d 0) y lb ld first-whole Y (λ e. ap (λ (z : ℕ). getD size z 0) e) ne)
+        (wide-apart b (getD size b 0) x d (getD size d 0) y lb ld first-whole Y (λ e. ap (λ (z : ℕ). getD size z 0) e) ne)
 
     -- the new cell
     abbrev pub new : Cell
@@ -486,50 +504,55 @@ module _ (p : Params) (B : Bounds p) where
           off = off-of;
           apart = ((λ c m. not-held c m), I .apart);
           marks = I .marks;
-          places = I .places
+          places = I .places;
         }
       where
         H : List ℕ
         H = zeroed p h x (getD size b 0)
+
         block-of : (d : ℕ) → d < p .blocks → BlockInv p H d (getD (set free b (headOf l)) d 0) (getD size d 0) (getD (set sh b l) d [])
         block-of d ld =
             set-two free sh b (headOf l) 0 l [] d (omega (arith, I .free-length)) (omega (arith, I .shadow))
-              (λ u v. BlockInv p H d u (getD size d 0) v)
-              (λ e. subst (λ (z : ℕ). BlockInv p H z (headOf l) (getD size z 0) l) (sym e)
-                (record {
-                  stands = stands-frame p h H (headOf l) l (λ y m. zero-word b lb y (rest-cell y m) (rest-other y m))
-                    (subst (λ (v : ℕ). chainStands p h v l) first-link (here .stands .1));
-                  cells = rest-cell;
-                  desc = here .desc .1
-                }))
-              (λ e.
-                let K = I .blocks d ld in
-                record {
-                  stands = stands-frame p h H (getD free d 0) (getD sh d [])
-                    (λ y m. zero-word d ld y (K .cells y m)
-                      (λ q. e (sym (whole-blockAt p B d _ y ld (K .cells y m)) ∙ ap (blockAt p) (sym q) ∙ whole-blockAt p B b _ x lb first-whole)))
-                    (K .stands);
-                  cells = K .cells;
-                  desc = K .desc
-                })
+            (λ u v. BlockInv p H d u (getD size d 0) v)
+            (λ e. subst (λ (z : ℕ). BlockInv p H z (headOf l) (getD size z 0) l) (sym e)
+            (record {
+              stands = stands-frame p h H (headOf l) l (λ y m. zero-word b lb y (rest-cell y m) (rest-other y m))
+                  (subst (λ (v : ℕ). chainStands p h v l) first-link (here .stands .1));
+              cells = rest-cell;
+              desc = here .desc .1;
+            }))
+            (λ e.
+            let K = I .blocks d ld in
+            record {
+              stands = stands-frame p h H (getD free d 0) (getD sh d [])
+                  (λ y m. zero-word d ld y (K .cells y m)
+                  (λ q. e (sym (whole-blockAt p B d _ y ld (K .cells y m)) ∙ ap (blockAt p) (sym q) ∙ whole-blockAt p B b _ x lb first-whole)))
+                  (K .stands);
+              cells = K .cells;
+              desc = K .desc;
+            })
+
         at : blockAt p x ≡ b
         at = whole-blockAt p B b _ x lb first-whole
+
         held-of : (c : Cell) → (c ≡ new) ⊎ In c (bk .cells) → Held p size st c
         held-of c (inl e) = subst (Held p size st) (sym e)
             (record {
               low = subst (λ (z : ℕ). z < p .blocks) (sym at) lb;
               occupied = subst (λ (z : ℕ). getD st z 0 ≢ 0) (sym at) occ;
               whole = subst (λ (z : ℕ). Whole p z (getD size b 0) x) (sym at) first-whole;
-              size = ap (λ (z : ℕ). getD size z 0) (sym at)
+              size = ap (λ (z : ℕ). getD size z 0) (sym at);
             })
         held-of c (inr m) = I .held c m
+
         -- what is on a chain now was on it before, and is not x
         shorter : (d y : ℕ) → In y (getD (set sh b l) d []) → In y (getD sh d []) × ((d ≡ b) → x ≢ y)
         shorter d y m = ⊎-elim
             (λ e. let m′ : In y l = subst (In y) (e .1) m in
-              (subst (In y) (sym (ap (λ (z : ℕ). getD sh z []) (e .0) ∙ top)) (inr m′), λ q. rest-other y m′))
+            (subst (In y) (sym (ap (λ (z : ℕ). getD sh z []) (e .0) ∙ top)) (inr m′), λ q. rest-other y m′))
             (λ e. (subst (In y) (e .1) m, λ q. absurd (e .0 q)))
             (set-cases sh b l [] d (omega (arith, I .shadow)))
+
         off-of : (c : Cell) → (c ≡ new) ⊎ In c (bk .cells) → In (c .start) (getD (set sh b l) (blockAt p (c .start)) []) → ⊥
         off-of c (inl e) k =
             shorter (blockAt p (c .start)) (c .start) k .1 (ap (λ (z : Cell). blockAt p (z .start)) e ∙ at) (ap (λ (z : Cell). z .start) (sym e))

@@ -66,7 +66,7 @@ module _ (p : Params) (st : List ℕ) where
     -- ---- pop: b is the first block of l
 
     module _ (l b : ℕ) (ob : Occupied b) (lb : getD (w .list) b 0 ≡ listWord l) (pb : getD (w .prev) b 0 ≡ 0)
-      (fb : getD (w .first) l 0 ≡ start p b) (low : l < 1470) where
+        (fb : getD (w .first) l 0 ≡ start p b) (low : l < 1470) where
       -- only the list's first leads to b
       only-first : (m : ℕ) → getD (w .first) m 0 ≡ start p b → m ≡ l
       only-first m e = ⊎-elim
@@ -85,30 +85,42 @@ module _ (p : Params) (st : List ℕ) where
       popOnly-linked e =
           record {
             firsts = λ m. first-of m (ℕ-discrete m l);
-            nexts = λ x ox. next-of x ox (ℕ-discrete x b)
+            nexts = λ x ox. next-of x ox (ℕ-discrete x b);
           }
         where
           prev-is : (z q : ℕ) → getD (w .prev) z 0 ≡ q → z ≢ b → getD (set (w .prev) b 0) z 0 ≡ q
           prev-is z q h ne = set-off (w .prev) b 0 z ne ∙ h
+
           first-of : (m : ℕ) → Dec (m ≡ l) → Link (popOnly l b w) (listWord m) 0 (getD (set (w .first) l 0) m 0)
           first-of m (yes y) = inl (ap (λ (z : ℕ). getD (set (w .first) l 0) z 0) y ∙ set-at (w .first) l 0 (omega (arith, len .first)))
           first-of m (no f) = ⊎-elim
               (λ z. inl (set-off (w .first) l 0 m f ∙ z))
-              (λ z. inr (z .0, z .1, set-off (w .first) l 0 m f ∙ z .2, z .3,
-                set-keeps (w .prev) b 0 (z .0) 0 refl (z .4) (omega (arith, len .prev, ob .0))))
+              (λ z. inr (
+                z .0,
+                z .1,
+                set-off (w .first) l 0 m f ∙ z .2,
+                z .3,
+                set-keeps (w .prev) b 0 (z .0) 0 refl (z .4) (omega (arith, len .prev, ob .0)),
+              ))
               (K .firsts m)
+
           next-of : (x : ℕ) → Occupied x → Dec (x ≡ b) → Link (popOnly l b w) (getD (w .list) x 0) (start p x) (getD (set (w .next) b 0) x 0)
           next-of x ox (yes y) = inl (ap (λ (z : ℕ). getD (set (w .next) b 0) z 0) y ∙ set-at (w .next) b 0 (omega (arith, len .next, ob .0)))
           next-of x ox (no f) = ⊎-elim
               (λ z. inl (set-off (w .next) b 0 x f ∙ z))
-              (λ z. inr (z .0, z .1, set-off (w .next) b 0 x f ∙ z .2, z .3,
+              (λ z. inr (
+                z .0,
+                z .1,
+                set-off (w .next) b 0 x f ∙ z .2,
+                z .3,
                 prev-is (z .0) (start p x) (z .4)
-                  (λ y. some-start B x (ox .0) (sym (z .4) ∙ ap (λ (c : ℕ). getD (w .prev) c 0) y ∙ pb))))
+                    (λ y. some-start B x (ox .0) (sym (z .4) ∙ ap (λ (c : ℕ). getD (w .prev) c 0) y ∙ pb)),
+              ))
               (K .nexts x ox)
 
       -- the block y follows b
       module _ (y : ℕ) (oy : Occupied y) (ny : getD (w .next) b 0 ≡ start p y)
-        (ly : getD (w .list) y 0 ≡ getD (w .list) b 0) (py : getD (w .prev) y 0 ≡ start p b) where
+          (ly : getD (w .list) y 0 ≡ getD (w .list) b 0) (py : getD (w .prev) y 0 ≡ start p b) where
         list-same : (z : ℕ) → getD (set (w .list) y (listWord l)) z 0 ≡ getD (w .list) z 0
         list-same z = go (ℕ-discrete z y)
           where
@@ -127,8 +139,8 @@ module _ (p : Params) (st : List ℕ) where
         unfolding prevs
         prev-zero z e =
             set-keeps (set (w .prev) y 0) b 0 z 0 refl
-              (set-keeps (w .prev) y 0 z 0 refl e (omega (arith, len .prev, oy .0)))
-              (omega (arith, length-set (w .prev) y 0, len .prev, ob .0))
+            (set-keeps (w .prev) y 0 z 0 refl e (omega (arith, len .prev, oy .0)))
+            (omega (arith, length-set (w .prev) y 0, len .prev, ob .0))
 
         prev-off : (z : ℕ) → z ≢ y → z ≢ b → getD prevs z 0 ≡ getD (w .prev) z 0
         unfolding prevs
@@ -138,36 +150,46 @@ module _ (p : Params) (st : List ℕ) where
         unfolding prevs
         prev-y =
             set-keeps (set (w .prev) y 0) b 0 y 0 refl (set-at (w .prev) y 0 (omega (arith, len .prev, oy .0)))
-              (omega (arith, length-set (w .prev) y 0, len .prev, ob .0))
+            (omega (arith, length-set (w .prev) y 0, len .prev, ob .0))
 
         popAhead-linked : Linked (popAhead p l b (start p y) w)
         unfolding popAhead setFirst setList setNext setPrev prevs
         popAhead-linked =
             rw (blockAt-start p B y (oy .0)) (record {
               firsts = λ m. first-of m (ℕ-discrete m l);
-              nexts = λ x ox. next-of x ox (ℕ-discrete x b)
+              nexts = λ x ox. next-of x ox (ℕ-discrete x b);
             })
           where
             W : Words
             W = setPrev b 0 (setNext b 0 (setList y (listWord l) (setPrev y 0 (setFirst l (start p y) w))))
+
             first-of : (m : ℕ) → Dec (m ≡ l) → Link W (listWord m) 0 (getD (set (w .first) l (start p y)) m 0)
-            first-of m (yes e) = inr (y, oy,
-                ap (λ (z : ℕ). getD (set (w .first) l (start p y)) z 0) e ∙ set-at (w .first) l (start p y) (omega (arith, len .first)),
-                list-same y ∙ ly ∙ lb ∙ ap listWord (sym e),
-                prev-y)
+            first-of m (yes e) = inr (
+              y,
+              oy,
+              ap (λ (z : ℕ). getD (set (w .first) l (start p y)) z 0) e ∙ set-at (w .first) l (start p y) (omega (arith, len .first)),
+              list-same y ∙ ly ∙ lb ∙ ap listWord (sym e),
+              prev-y,
+            )
             first-of m (no f) = ⊎-elim
                 (λ z. inl (set-off (w .first) l (start p y) m f ∙ z))
                 (λ z. inr (z .0, z .1, set-off (w .first) l (start p y) m f ∙ z .2, list-same (z .0) ∙ z .3, prev-zero (z .0) (z .4)))
                 (K .firsts m)
+
             next-of : (x : ℕ) → Occupied x → Dec (x ≡ b) → Link W (getD (set (w .list) y (listWord l)) x 0) (start p x) (getD (set (w .next) b 0) x 0)
             next-of x ox (yes e) = inl (ap (λ (z : ℕ). getD (set (w .next) b 0) z 0) e ∙ set-at (w .next) b 0 (omega (arith, len .next, ob .0)))
             next-of x ox (no f) = ⊎-elim
                 (λ z. inl (set-off (w .next) b 0 x f ∙ z))
-                (λ z. inr (z .0, z .1, set-off (w .next) b 0 x f ∙ z .2, list-same (z .0) ∙ z .3 ∙ sym (list-same x),
+                (λ z. inr (
+                  z .0,
+                  z .1,
+                  set-off (w .next) b 0 x f ∙ z .2,
+                  list-same (z .0) ∙ z .3 ∙ sym (list-same x),
                   prev-off (z .0)
-                    (λ e. f (start-same p B x b (ox .0) (ob .0) (sym (z .4) ∙ ap (λ (c : ℕ). getD (w .prev) c 0) e ∙ py)))
-                    (λ e. some-start B x (ox .0) (sym (z .4) ∙ ap (λ (c : ℕ). getD (w .prev) c 0) e ∙ pb))
-                  ∙ z .4))
+                      (λ e. f (start-same p B x b (ox .0) (ob .0) (sym (z .4) ∙ ap (λ (c : ℕ). getD (w .prev) c 0) e ∙ py)))
+                      (λ e. some-start B x (ox .0) (sym (z .4) ∙ ap (λ (c : ℕ). getD (w .prev) c 0) e ∙ pb))
+                      ∙ z .4,
+                ))
                 (K .nexts x ox)
 
         popAhead-loose : Loose (popAhead p l b (start p y) w) b
@@ -175,17 +197,18 @@ module _ (p : Params) (st : List ℕ) where
         popAhead-loose =
             rw (blockAt-start p B y (oy .0)) (record {
               firsts = λ m. first-of m (ℕ-discrete m l);
-              nexts = λ x ox. next-of x ox (ℕ-discrete x b)
+              nexts = λ x ox. next-of x ox (ℕ-discrete x b);
             })
           where
             first-of : (m : ℕ) → Dec (m ≡ l) → getD (set (w .first) l (start p y)) m 0 ≢ start p b
             first-of m (yes e) q =
                 some-start B b (ob .0)
-                  (sym py ∙ ap (λ (c : ℕ). getD (w .prev) c 0)
-                    (start-same p B y b (oy .0) (ob .0)
-                      (sym (ap (λ (z : ℕ). getD (set (w .first) l (start p y)) z 0) e ∙ set-at (w .first) l (start p y) (omega (arith, len .first))) ∙ q))
-                  ∙ pb)
+                (sym py ∙ ap (λ (c : ℕ). getD (w .prev) c 0)
+                (start-same p B y b (oy .0) (ob .0)
+                (sym (ap (λ (z : ℕ). getD (set (w .first) l (start p y)) z 0) e ∙ set-at (w .first) l (start p y) (omega (arith, len .first))) ∙ q))
+                ∙ pb)
             first-of m (no f) q = f (only-first m (sym (set-off (w .first) l (start p y) m f) ∙ q))
+
             next-of : (x : ℕ) → Occupied x → Dec (x ≡ b) → getD (set (w .next) b 0) x 0 ≢ start p b
             next-of x ox (yes e) q =
                 some-start B b (ob .0) (sym q ∙ ap (λ (z : ℕ). getD (set (w .next) b 0) z 0) e ∙ set-at (w .next) b 0 (omega (arith, len .next, ob .0)))
@@ -196,19 +219,19 @@ module _ (p : Params) (st : List ℕ) where
       popOnly-loose =
           record {
             firsts = λ m. first-of m (ℕ-discrete m l);
-            nexts = λ x ox. next-of x ox (ℕ-discrete x b)
+            nexts = λ x ox. next-of x ox (ℕ-discrete x b);
           }
         where
           first-of : (m : ℕ) → Dec (m ≡ l) → getD (set (w .first) l 0) m 0 ≢ start p b
           first-of m (yes e) q =
               some-start B b (ob .0) (sym q ∙ ap (λ (z : ℕ). getD (set (w .first) l 0) z 0) e ∙ set-at (w .first) l 0 (omega (arith, len .first)))
           first-of m (no f) q = f (only-first m (sym (set-off (w .first) l 0 m f) ∙ q))
+
           next-of : (x : ℕ) → Occupied x → Dec (x ≡ b) → getD (set (w .next) b 0) x 0 ≢ start p b
           next-of x ox (yes e) q =
               some-start B b (ob .0) (sym q ∙ ap (λ (z : ℕ). getD (set (w .next) b 0) z 0) e ∙ set-at (w .next) b 0 (omega (arith, len .next, ob .0)))
           next-of x ox (no f) q = no-next x ox (sym (set-off (w .next) b 0 x f) ∙ q)
-
-      -- ---- pop, whole
+          -- ---- pop, whole
 
     -- what is known after b was taken off the list l, leaving w′
     pub record Popping (l : ℕ) (b : ℕ) (w′ : Words) : Type 0 where
@@ -252,7 +275,7 @@ module _ (p : Params) (st : List ℕ) where
       pub popping : Popping l b words
 
     module _ (l b : ℕ) (low : l < 1470) (ob : Occupied b) (fb : getD (w .first) l 0 ≡ start p b)
-      (lb : getD (w .list) b 0 ≡ listWord l) (pb : getD (w .prev) b 0 ≡ 0) where
+        (lb : getD (w .list) b 0 ≡ listWord l) (pb : getD (w .prev) b 0 ≡ 0) where
       first-is : pop p l w ≡ popped (start p b) (popAt p l b w)
       unfolding pop
       first-is =
@@ -273,14 +296,14 @@ module _ (p : Params) (st : List ℕ) where
               linked = popOnly-linked l b ob lb pb fb low z;
               loose = popOnly-loose l b ob lb pb fb low;
               lists = popOnly-lists l b;
-              lengths = popOnly-lengths l b
-            }
+              lengths = popOnly-lengths l b;
+            };
           })
           (λ z. record {
             first = fb;
             words = popAhead p l b (start p (z .0)) w;
             is = first-is
-              ∙ ap (λ (x : Words). popped (start p b) x)
+                ∙ ap (λ (x : Words). popped (start p b) x)
                 (if-false (eqb (getD (w .next) b 0) 0) _ _ (ne-eqb _ _ (λ e. some-start B (z .0) (z .1 .0) (sym (z .2) ∙ e)))
                 ∙ ap (λ (a : ℕ). popAhead p l b a w) (z .2));
             popping = record {
@@ -289,8 +312,8 @@ module _ (p : Params) (st : List ℕ) where
               linked = popAhead-linked l b ob lb pb fb low (z .0) (z .1) (z .2) (z .3) (z .4);
               loose = popAhead-loose l b ob lb pb fb low (z .0) (z .1) (z .2) (z .3) (z .4);
               lists = popAhead-lists l b (z .0) lb (z .1 .0) (z .3);
-              lengths = popAhead-lengths l b (start p (z .0))
-            }
+              lengths = popAhead-lengths l b (start p (z .0));
+            };
           })
           (K .nexts b ob)
 
@@ -351,34 +374,47 @@ module _ (p : Params) (st : List ℕ) where
             linked = record { firsts = λ m. first-of m (ℕ-discrete m c); nexts = λ x ox. next-of x ox (ℕ-discrete x b) };
             word = list-b;
             others = list-off;
-            lengths = pushOnly-lengths
+            lengths = pushOnly-lengths;
           }
         where
           W : Words
           W = pushOnly p c b w
+
           first-of : (m : ℕ) → Dec (m ≡ c) → Link W (listWord m) 0 (getD (set (w .first) c (start p b)) m 0)
-          first-of m (yes e) = inr (b, ob,
-              ap (λ (z : ℕ). getD (set (w .first) c (start p b)) z 0) e ∙ firsts-at,
-              list-b ∙ ap listWord (sym e),
-              set-at (w .prev) b 0 (omega (arith, len .prev, ob .0)))
+          first-of m (yes e) = inr (
+            b,
+            ob,
+            ap (λ (z : ℕ). getD (set (w .first) c (start p b)) z 0) e ∙ firsts-at,
+            list-b ∙ ap listWord (sym e),
+            set-at (w .prev) b 0 (omega (arith, len .prev, ob .0)),
+          )
           first-of m (no f) = ⊎-elim
               (λ z. inl (set-off (w .first) c (start p b) m f ∙ z))
-              (λ z. inr (z .0, z .1, set-off (w .first) c (start p b) m f ∙ z .2,
+              (λ z. inr (
+                z .0,
+                z .1,
+                set-off (w .first) c (start p b) m f ∙ z .2,
                 list-off (z .0) (not-first m (z .0) (z .2)) ∙ z .3,
-                set-off (w .prev) b 0 (z .0) (not-first m (z .0) (z .2)) ∙ z .4))
+                set-off (w .prev) b 0 (z .0) (not-first m (z .0) (z .2)) ∙ z .4,
+              ))
               (K .firsts m)
+
           next-of : (x : ℕ) → Occupied x → Dec (x ≡ b) → Link W (getD lists x 0) (start p x) (getD (set (w .next) b 0) x 0)
           next-of x ox (yes e) = inl (ap (λ (z : ℕ). getD (set (w .next) b 0) z 0) e ∙ set-at (w .next) b 0 (omega (arith, len .next, ob .0)))
           next-of x ox (no f) = ⊎-elim
               (λ z. inl (set-off (w .next) b 0 x f ∙ z))
-              (λ z. inr (z .0, z .1, set-off (w .next) b 0 x f ∙ z .2,
+              (λ z. inr (
+                z .0,
+                z .1,
+                set-off (w .next) b 0 x f ∙ z .2,
                 list-off (z .0) (not-next x (z .0) ox (z .2)) ∙ z .3 ∙ sym (list-off x f),
-                set-off (w .prev) b 0 (z .0) (not-next x (z .0) ox (z .2)) ∙ z .4))
+                set-off (w .prev) b 0 (z .0) (not-next x (z .0) ox (z .2)) ∙ z .4,
+              ))
               (K .nexts x ox)
 
       -- before the head y
       module _ (y : ℕ) (oy : Occupied y) (fy : getD (w .first) c 0 ≡ start p y) (ly : getD (w .list) y 0 ≡ listWord c)
-        (py : getD (w .prev) y 0 ≡ 0) where
+          (py : getD (w .prev) y 0 ≡ 0) where
         -- the new prevs
         heads : List ℕ
         heads = set (set (w .prev) y (start p b)) b 0
@@ -407,36 +443,52 @@ module _ (p : Params) (st : List ℕ) where
               linked = record { firsts = λ m. first-of m (ℕ-discrete m c); nexts = λ x ox. next-of x ox (ℕ-discrete x b) };
               word = list-b;
               others = list-off;
-              lengths = pushAhead-lengths y
+              lengths = pushAhead-lengths y;
             })
           where
             W : Words
             W = setList b (listWord c) (setFirst c (start p b) (setPrev b 0 (setPrev y (start p b) (setNext b (start p y) w))))
+
             first-of : (m : ℕ) → Dec (m ≡ c) → Link W (listWord m) 0 (getD (set (w .first) c (start p b)) m 0)
-            first-of m (yes e) = inr (b, ob,
-                ap (λ (z : ℕ). getD (set (w .first) c (start p b)) z 0) e ∙ firsts-at,
-                list-b ∙ ap listWord (sym e),
-                head-b)
+            first-of m (yes e) = inr (
+              b,
+              ob,
+              ap (λ (z : ℕ). getD (set (w .first) c (start p b)) z 0) e ∙ firsts-at,
+              list-b ∙ ap listWord (sym e),
+              head-b,
+            )
             first-of m (no f) = ⊎-elim
                 (λ z. inl (set-off (w .first) c (start p b) m f ∙ z))
-                (λ z. inr (z .0, z .1, set-off (w .first) c (start p b) m f ∙ z .2,
+                (λ z. inr (
+                  z .0,
+                  z .1,
+                  set-off (w .first) c (start p b) m f ∙ z .2,
                   list-off (z .0) (not-first m (z .0) (z .2)) ∙ z .3,
                   head-off (z .0) (not-first m (z .0) (z .2))
-                    (λ e. f (word-same m c (sym (z .3) ∙ ap (λ (x : ℕ). getD (w .list) x 0) e ∙ ly)))
-                  ∙ z .4))
+                      (λ e. f (word-same m c (sym (z .3) ∙ ap (λ (x : ℕ). getD (w .list) x 0) e ∙ ly)))
+                      ∙ z .4,
+                ))
                 (K .firsts m)
+
             next-of : (x : ℕ) → Occupied x → Dec (x ≡ b) → Link W (getD lists x 0) (start p x) (getD (set (w .next) b (start p y)) x 0)
-            next-of x ox (yes e) = inr (y, oy,
-                ap (λ (z : ℕ). getD (set (w .next) b (start p y)) z 0) e ∙ set-at (w .next) b (start p y) (omega (arith, len .next, ob .0)),
-                list-off y y-not-b ∙ ly ∙ sym (ap (λ (z : ℕ). getD lists z 0) e ∙ list-b),
-                head-y ∙ ap (start p) (sym e))
+            next-of x ox (yes e) = inr (
+              y,
+              oy,
+              ap (λ (z : ℕ). getD (set (w .next) b (start p y)) z 0) e ∙ set-at (w .next) b (start p y) (omega (arith, len .next, ob .0)),
+              list-off y y-not-b ∙ ly ∙ sym (ap (λ (z : ℕ). getD lists z 0) e ∙ list-b),
+              head-y ∙ ap (start p) (sym e),
+            )
             next-of x ox (no f) = ⊎-elim
                 (λ z. inl (set-off (w .next) b (start p y) x f ∙ z))
-                (λ z. inr (z .0, z .1, set-off (w .next) b (start p y) x f ∙ z .2,
+                (λ z. inr (
+                  z .0,
+                  z .1,
+                  set-off (w .next) b (start p y) x f ∙ z .2,
                   list-off (z .0) (not-next x (z .0) ox (z .2)) ∙ z .3 ∙ sym (list-off x f),
                   head-off (z .0) (not-next x (z .0) ox (z .2))
-                    (λ e. some-start B x (ox .0) (sym (z .4) ∙ ap (λ (v : ℕ). getD (w .prev) v 0) e ∙ py))
-                  ∙ z .4))
+                      (λ e. some-start B x (ox .0) (sym (z .4) ∙ ap (λ (v : ℕ). getD (w .prev) v 0) e ∙ py))
+                      ∙ z .4,
+                ))
                 (K .nexts x ox)
 
       pub push-pushed : Pushed c b (push p c b w)
@@ -444,7 +496,7 @@ module _ (p : Params) (st : List ℕ) where
       push-pushed = ⊎-elim
           (λ z. subst (Pushed c b) (sym (if-true (eqb (getD (w .first) c 0) 0) _ _ (eq-eqb _ _ z))) pushOnly-pushed)
           (λ z. subst (Pushed c b)
-            (sym (if-false (eqb (getD (w .first) c 0) 0) _ _ (ne-eqb _ _ (λ e. some-start B (z .0) (z .1 .0) (sym (z .2) ∙ e)))
-              ∙ ap (λ (a : ℕ). pushAhead p c b a w) (z .2)))
-            (pushAhead-pushed (z .0) (z .1) (z .2) (z .3) (z .4)))
+          (sym (if-false (eqb (getD (w .first) c 0) 0) _ _ (ne-eqb _ _ (λ e. some-start B (z .0) (z .1 .0) (sym (z .2) ∙ e)))
+          ∙ ap (λ (a : ℕ). pushAhead p c b a w) (z .2)))
+          (pushAhead-pushed (z .0) (z .1) (z .2) (z .3) (z .4)))
           (K .firsts c)

@@ -110,7 +110,7 @@ module _ (p : Params) (B : Bounds p) where
     pub sized : Sized (p .blocks) (t .words)
     -- a cell that is not old: no collection runs, and its block waits for no sweep
     pub young : (c : Cell) → In c (bk .cells) → c .old ≡ false
-      → (t .words .phase ≡ 0) × Settled (getD (t .words .list) (blockAt p (c .start)) 0)
+        → (t .words .phase ≡ 0) × Settled (getD (t .words .list) (blockAt p (c .start)) 0)
     pub idle : Idle (t .words)
 
   -- what a call that takes a cell needs: a block with a free one that waits for no sweep
@@ -130,7 +130,7 @@ module _ (p : Params) (B : Bounds p) where
   pub record Planned (t : Tables) (h : List ℕ) (sh : List (List ℕ)) (bk : Book) (c : Call) (q : Plan) : Type 0 where
     pub events : EventsOk p B (takerOf c) (q .events) h bk
     pub inv : Inv (q .tables) (eventsHeap p (q .events) h) (shadowEvents (q .events) sh)
-      (bookFor c (q .end) (bookEvents p (takerOf c) (q .events) bk))
+        (bookFor c (q .end) (bookEvents p (takerOf c) (q .events) bk))
     pub end : EndOk (q .tables) (shadowEvents (q .events) sh) (q .end)
     pub serves : Serves c (q .tables .words) (q .end)
 
@@ -144,7 +144,7 @@ module _ (p : Params) (B : Bounds p) where
           events = no-events p B (takerOf c) h bk;
           inv = rw (refusal-some r) I;
           end = tt;
-          serves = refused-serves c _ r
+          serves = refused-serves c _ r;
         }
 
     -- ---- bind
@@ -156,7 +156,7 @@ module _ (p : Params) (B : Bounds p) where
           events = no-events p B _ h bk;
           inv = record { core = I .core; sized = sized-same (simp kept-lengths) (I .sized); young = I .young; idle = I .idle };
           end = tt;
-          serves = tt
+          serves = tt;
         }
 
     -- ---- prepare: every cell is old, no place and no mark is left
@@ -167,39 +167,41 @@ module _ (p : Params) (B : Bounds p) where
         record {
           events = no-events p B _ h bk;
           inv =
-            record {
-              core =
-                record {
-                  heap = I .core .heap;
-                  free-length = I .core .free-length;
-                  sizes = I .core .sizes;
-                  states = length-map (t .states) unmarkedState ∙ I .core .states;
-                  markings = length-cleared (t .marks) ∙ I .core .markings;
-                  shadow = I .core .shadow;
-                  bytes = bytes-cleared (t .marks);
-                  words = I .core .words;
-                  blocks = I .core .blocks;
-                  held = λ c m. held-of c (in-aged (bk .cells) c m);
-                  off = λ c m k. off-of c (in-aged (bk .cells) c m) k;
-                  apart = apart-aged (bk .cells) (I .core .apart);
-                  marks = λ a e. marked-cleared p (t .marks) a;
-                  places = λ q m. absurd m
-                };
-              sized = sized-same (simp kept-lengths) (I .sized);
-              young = λ c m o. absurd (not-young c (in-aged (bk .cells) c m) o);
-              idle = I .idle
-            };
+              record {
+                core =
+                    record {
+                      heap = I .core .heap;
+                      free-length = I .core .free-length;
+                      sizes = I .core .sizes;
+                      states = length-map (t .states) unmarkedState ∙ I .core .states;
+                      markings = length-cleared (t .marks) ∙ I .core .markings;
+                      shadow = I .core .shadow;
+                      bytes = bytes-cleared (t .marks);
+                      words = I .core .words;
+                      blocks = I .core .blocks;
+                      held = λ c m. held-of c (in-aged (bk .cells) c m);
+                      off = λ c m k. off-of c (in-aged (bk .cells) c m) k;
+                      apart = apart-aged (bk .cells) (I .core .apart);
+                      marks = λ a e. marked-cleared p (t .marks) a;
+                      places = λ q m. absurd m;
+                    };
+                sized = sized-same (simp kept-lengths) (I .sized);
+                young = λ c m o. absurd (not-young c (in-aged (bk .cells) c m) o);
+                idle = I .idle;
+              };
           end = tt;
-          serves = tt
+          serves = tt;
         }
       where
         held-of : (c : Cell) → (d : Cell) × In d (bk .cells) × (c ≡ aged d) → Held p (t .words .size) (map unmarkedState (t .states)) c
         held-of c z =
             let H = I .core .held (z .0) (z .1) in
             subst (Held p (t .words .size) (map unmarkedState (t .states))) (sym (z .2))
-              (record { low = H .low; occupied = still-occupied (t .states) _ (H .occupied); whole = H .whole; size = H .size })
+            (record { low = H .low; occupied = still-occupied (t .states) _ (H .occupied); whole = H .whole; size = H .size })
+
         off-of : (c : Cell) → (d : Cell) × In d (bk .cells) × (c ≡ aged d) → In (c .start) (getD sh (blockAt p (c .start)) []) → ⊥
         off-of c z k = I .core .off (z .0) (z .1) (subst (λ (x : Cell). In (x .start) (getD sh (blockAt p (x .start)) [])) (z .2) k)
+
         not-young : (c : Cell) → (d : Cell) × In d (bk .cells) × (c ≡ aged d) → c .old ≡ false → ⊥
         not-young c z o = not-both true refl (sym (ap (λ (x : Cell). x .old) (z .2)) ∙ o)
 
@@ -246,11 +248,12 @@ module _ (p : Params) (B : Bounds p) where
             events = no-events p B _ h bk;
             inv = ⊎-elim old-mark new-mark (bool-cases (marked p (t .marks) place));
             end = tt;
-            serves = tt
+            serves = tt;
           }
         where
           Bk : Book
           Bk = record { cells = bk .cells; places = place ∷ bk .places }
+
           old-mark : marked p (t .marks) place ≡ true → Inv (markPlace p place b t) h sh Bk
           old-mark e =
               rw e (record {
@@ -268,18 +271,20 @@ module _ (p : Params) (B : Bounds p) where
                   off = I .core .off;
                   apart = I .core .apart;
                   marks = λ a w. marks-old a w (ℕ-discrete a place);
-                  places = λ q m. ⊎-elim (λ z. subst (Placed p (t .states)) (sym z) (I .core .places place known)) (I .core .places q) m
+                  places = λ q m. ⊎-elim (λ z. subst (Placed p (t .states)) (sym z) (I .core .places place known)) (I .core .places q) m;
                 };
                 sized = I .sized;
                 young = I .young;
-                idle = I .idle
+                idle = I .idle;
               })
             where
               known : In place (bk .places)
               known = member-in place (bk .places) (sym (I .core .marks place whole) ∙ e)
+
               marks-old : (a : ℕ) → a % 8 ≡ 0 → Dec (a ≡ place) → marked p (t .marks) a ≡ (eqb a place || member a (bk .places))
               marks-old a w (yes y) = ap (marked p (t .marks)) y ∙ e ∙ sym (or-left (eqb a place) _ (eq-eqb _ _ y))
               marks-old a w (no n) = rw (ne-eqb a place n) (I .core .marks a w)
+
           new-mark : marked p (t .marks) place ≡ false → Inv (markPlace p place b t) h sh Bk
           new-mark e =
               rw e (record {
@@ -298,31 +303,33 @@ module _ (p : Params) (B : Bounds p) where
                   apart = I .core .apart;
                   marks = λ a w. marked-setMark p B (t .marks) place (I .core .bytes) (I .core .markings) inside whole a w ∙ ap (λ (x : Bool). eqb a place || x) (I .core .marks a w);
                   places = λ q m. ⊎-elim
-                    (λ z. subst (Placed p (set (t .states) b Marked)) (sym z)
+                      (λ z. subst (Placed p (set (t .states) b Marked)) (sym z)
                       (record { inside = inside; whole = whole; state = ap (λ (x : ℕ). getD (set (t .states) b Marked) x 0) block-is ∙ getD-set-same (t .states) b Marked 0 room }))
-                    (λ z. place-of q (I .core .places q z)) m
+                      (λ z. place-of q (I .core .places q z)) m;
                 };
                 sized = I .sized;
                 young = I .young;
-                idle = I .idle
+                idle = I .idle;
               })
             where
               room : b < length (t .states)
               room = omega (arith, low, I .core .states)
+
               held-of : (c : Cell) → Held p (t .words .size) (t .states) c → Held p (t .words .size) (set (t .states) b Marked) c
               held-of c H =
                   record {
                     low = H .low;
                     occupied = ⊎-elim (λ z y. absurd (omega (arith, sym (z .1) ∙ y))) (λ z. rw (z .1) (H .occupied)) (set-cases (t .states) b Marked 0 (blockAt p (c .start)) room);
                     whole = H .whole;
-                    size = H .size
+                    size = H .size;
                   }
+
               place-of : (q : ℕ) → Placed p (t .states) q → Placed p (set (t .states) b Marked) q
               place-of q P =
                   record {
                     inside = P .inside;
                     whole = P .whole;
-                    state = ⊎-elim (λ z. z .1) (λ z. z .1 ∙ P .state) (set-cases (t .states) b Marked 0 (blockAt p (minusLower p q)) room)
+                    state = ⊎-elim (λ z. z .1) (λ z. z .1 ∙ P .state) (set-cases (t .states) b Marked 0 (blockAt p (minusLower p q)) room);
                   }
 
   -- ---- blocks are released: every cell is old by then
@@ -342,7 +349,7 @@ module _ (p : Params) (B : Bounds p) where
     released-ok free size st h sh bk I b un old =
         record {
           lost = λ c m. (both c m (ℕ-discrete (blockAt p (c .start)) b), λ s. old c m);
-          bytes = λ c m out k v. refl
+          bytes = λ c m out k v. refl;
         }
       where
         both : (c : Cell) → In c (bk .cells) → Dec (blockAt p (c .start) ≡ b) → eqb (blockAt p (c .start)) b ≡ (eqb (blockAt p (c .start)) b && unmarked p bk c)
@@ -367,21 +374,21 @@ module _ (p : Params) (B : Bounds p) where
     one-freed : (l b : ℕ) (w : Words) (st h : List ℕ) (sh : List (List ℕ)) (bk : Book) (I : Core p (w .free) (w .size) st ms h sh bk) → Sized (p .blocks) w
         → ((c : Cell) → In c (bk .cells) → c .old ≡ true) → getD st b 0 ≡ 255 → (f : Freed)
         → (Core p (clearBlock b (remove p l b w) .free) (clearBlock b (remove p l b w) .size) (set st b 0) ms h (set sh b []) (bookEvent p hd (released b) bk)
-          → Sized (p .blocks) (clearBlock b (remove p l b w)) → ((c : Cell) → In c (bookEvent p hd (released b) bk .cells) → c .old ≡ true)
-          → Freeing hd ms h (set sh b []) (bookEvent p hd (released b) bk) f)
+        → Sized (p .blocks) (clearBlock b (remove p l b w)) → ((c : Cell) → In c (bookEvent p hd (released b) bk .cells) → c .old ≡ true)
+        → Freeing hd ms h (set sh b []) (bookEvent p hd (released b) bk) f)
         → Freeing hd ms h sh bk (afterRelease b f)
     unfolding isTaken eventsHeap shadowEvents bookEvents eventHeap shadowEvent clearBlock setTls setList setSize setFree setPrev setNext
     one-freed l b w st h sh bk I z old un f next =
         let L : LinksOnly w (remove p l b w) = remove-links p l b w (links-refl w) in
         let F = next
-              (rw (L .free, L .size) (release-core p B (w .free) (w .size) st ms h sh bk I b un hd))
-              (sized-same (simp kept-lengths (L .lengths)) z)
-              (old-after b bk old) in
+        (rw (L .free, L .size) (release-core p B (w .free) (w .size) st ms h sh bk I b un hd))
+        (sized-same (simp kept-lengths (L .lengths)) z)
+        (old-after b bk old) in
         record {
           events = more-events p B hd (released b) (f .events) h bk refl (released-ok (w .free) (w .size) st h sh bk I b un old) (F .events);
           core = F .core;
           sized = F .sized;
-          old = F .old
+          old = F .old;
         }
 
     releases-from : (k : ℕ) → From k
@@ -391,18 +398,20 @@ module _ (p : Params) (B : Bounds p) where
       where
         b : ℕ
         b = blockAt p a
+
         next : ℕ
         next = getD (w .next) b 0
+
         go : Dec (a ≡ 0) → Dec (getD st b 0 ≡ 255)
             → (Core p (clearBlock b (remove p l b w) .free) (clearBlock b (remove p l b w) .size) (set st b 0) ms h (set sh b []) (bookEvent p hd (released b) bk)
-              → Sized (p .blocks) (clearBlock b (remove p l b w)) → ((c : Cell) → In c (bookEvent p hd (released b) bk .cells) → c .old ≡ true)
-              → Freeing hd ms h (set sh b []) (bookEvent p hd (released b) bk) (releaseFrom k p l next (clearBlock b (remove p l b w)) (set st b 0)))
+            → Sized (p .blocks) (clearBlock b (remove p l b w)) → ((c : Cell) → In c (bookEvent p hd (released b) bk .cells) → c .old ≡ true)
+            → Freeing hd ms h (set sh b []) (bookEvent p hd (released b) bk) (releaseFrom k p l next (clearBlock b (remove p l b w)) (set st b 0)))
             → Freeing hd ms h sh bk (releaseFrom k p l next w st)
             → Freeing hd ms h sh bk
-                (if eqb a 0 then freed w st
-                 else if eqb (getD st b 0) 255
-                      then afterRelease b (releaseFrom k p l next (clearBlock b (remove p l b w)) (set st b 0))
-                      else releaseFrom k p l next w st)
+            (if eqb a 0 then freed w st
+            else if eqb (getD st b 0) 255
+            then afterRelease b (releaseFrom k p l next (clearBlock b (remove p l b w)) (set st b 0))
+            else releaseFrom k p l next w st)
         go (yes e) d f g = rw (eq-eqb _ _ e) (nothing-freed w st h sh bk I z old)
         go (no n) (yes u) f g =
             rw (ne-eqb _ _ n, eq-eqb _ _ u) (one-freed l b w st h sh bk I z old u (releaseFrom k p l next (clearBlock b (remove p l b w)) (set st b 0)) f)
@@ -415,13 +424,13 @@ module _ (p : Params) (B : Bounds p) where
       unfolding releaseBlocks
       release-freeing l f F =
           let G : Freeing hd ms (eventsHeap p (f .events) h) (shadowEvents (f .events) sh) (bookEvents p hd (f .events) bk) (releaseFrom (p .blocks) p l (getD (f .words .first) l 0) (f .words) (f .states)) =
-                releases-from (p .blocks) l (getD (f .words .first) l 0) (f .words) (f .states) (eventsHeap p (f .events) h) (shadowEvents (f .events) sh) (bookEvents p hd (f .events) bk) (F .core) (F .sized) (F .old) in
+          releases-from (p .blocks) l (getD (f .words .first) l 0) (f .words) (f .states) (eventsHeap p (f .events) h) (shadowEvents (f .events) sh) (bookEvents p hd (f .events) bk) (F .core) (F .sized) (F .old) in
           let es : List Event = releaseFrom (p .blocks) p l (getD (f .words .first) l 0) (f .words) (f .states) .events in
           record {
             events = events-append p B hd (f .events) es h bk (F .events) (G .events);
             core = rw (heap-append p B hd (f .events) es h, shadow-append p B hd (f .events) es sh, book-append p B hd (f .events) es bk) (G .core);
             sized = G .sized;
-            old = rw (book-append p B hd (f .events) es bk) (G .old)
+            old = rw (book-append p B hd (f .events) es bk) (G .old);
           }
 
       pub append-freeing : (l o : ℕ) (f : Freed) → Freeing hd ms h sh bk f → Freeing hd ms h sh bk (appendTo p l o f)
@@ -432,7 +441,7 @@ module _ (p : Params) (B : Bounds p) where
             events = F .events;
             core = rw (L .free, L .size) (F .core);
             sized = sized-same (L .lengths) (F .sized);
-            old = F .old
+            old = F .old;
           }
 
       -- the holder's lists, and the abandoned ones
@@ -440,15 +449,15 @@ module _ (p : Params) (B : Bounds p) where
       unfolding releaseBin
       holder-freeing owner f F = each-keeps (Freeing hd ms h sh bk) bins (releaseBin p owner)
           (λ bin low g G. append-freeing (unswept owner bin) (consumed owner bin) _ (release-freeing (consumed owner bin) _
-            (append-freeing (unswept owner bin) (available owner bin) _ (release-freeing (available owner bin) g G)))) f F
+          (append-freeing (unswept owner bin) (available owner bin) _ (release-freeing (available owner bin) g G)))) f F
 
       shared-freeing : (f : Freed) → Freeing hd ms h sh bk f → Freeing hd ms h sh bk (eachBelow bins (sweepLaterBin p) f)
       unfolding sweepLaterBin
       shared-freeing f F = each-keeps (Freeing hd ms h sh bk) bins (sweepLaterBin p)
           (λ bin low g G. append-freeing (unswept abandoned bin) (consumed abandoned bin) _
-            (append-freeing (unswept abandoned bin) (available abandoned bin) _
-            (release-freeing (unswept abandoned bin) _
-            (release-freeing (consumed abandoned bin) _ (release-freeing (available abandoned bin) g G))))) f F
+          (append-freeing (unswept abandoned bin) (available abandoned bin) _
+          (release-freeing (unswept abandoned bin) _
+          (release-freeing (consumed abandoned bin) _ (release-freeing (available abandoned bin) g G))))) f F
 
   -- ---- destroy: available and consumed blocks go over; there are no unswept ones
 
@@ -464,7 +473,7 @@ module _ (p : Params) (B : Bounds p) where
       go (yes e) (yes low) = subst (λ (x : ℕ). Settled (getD (set l i v) x 0)) (sym e) (rw (getD-set-same l i v 0 low) sv)
       go (yes e) (no f) =
           subst Settled
-            (List·getD-eq-default l 0 {n = z} (omega (arith, e)) ∙ sym (List·getD-eq-default (set l i v) 0 {n = z} (omega (arith, length-set l i v, e)))) sl
+          (List·getD-eq-default l 0 {n = z} (omega (arith, e)) ∙ sym (List·getD-eq-default (set l i v) 0 {n = z} (omega (arith, length-set l i v, e)))) sl
 
   relabel-steady : (k l a : ℕ) (w : Words) → Settled (listWord l) → Steady w (relabel k p l a w)
   unfolding Steady relabel setList
@@ -494,10 +503,10 @@ module _ (p : Params) (B : Bounds p) where
         links = append-links p l o w′ (L .links);
         steady = λ b s. append-steady l o w′ sl b (L .steady b s);
         idle = λ j n lj ln.
-          append-first p l o w′ (unswept (3 * j) n)
+            append-first p l o w′ (unswept (3 * j) n)
             (λ e. unswept-unsettled j n (omega arith) ln (subst (λ (x : ℕ). Settled (listWord x)) (sym e) sl))
             (λ e. unswept-unsettled j n (omega arith) ln (subst (λ (x : ℕ). Settled (listWord x)) (sym e) so))
-          ∙ L .idle j n lj ln
+            ∙ L .idle j n lj ln;
       }
 
   bin-leaving : (w : Words) (j : ℕ) → j < 8 → (bin : ℕ) → bin < 49 → (w′ : Words) → Leaving w w′ → Leaving w (abandonBin p abandoned (3 * j) bin w′)
@@ -512,19 +521,19 @@ module _ (p : Params) (B : Bounds p) where
     unfolding EndOk Serves bookFor bookAnswer eventsHeap shadowEvents bookEvents destroyHolder setBound abandonBlocks localSets Steady
     destroy-planned d lo hi =
         let L : Leaving (t .words) (eachBelow bins (abandonBin p abandoned (3 * (d - 1))) (t .words)) =
-              each-keeps (Leaving (t .words)) bins (abandonBin p abandoned (3 * (d - 1)))
-                (λ bin lb x X. bin-leaving (t .words) (d - 1) (omega arith) bin lb x X) (t .words)
-                (record { links = links-refl (t .words); steady = λ b s. s; idle = I .idle }) in
+        each-keeps (Leaving (t .words)) bins (abandonBin p abandoned (3 * (d - 1)))
+        (λ bin lb x X. bin-leaving (t .words) (d - 1) (omega arith) bin lb x X) (t .words)
+        (record { links = links-refl (t .words); steady = λ b s. s; idle = I .idle }) in
         record {
           events = no-events p B _ h bk;
           inv = record {
             core = rw (L .links .free, L .links .size) (I .core);
             sized = sized-same (simp kept-lengths (L .links .lengths)) (I .sized);
             young = λ c m o. let y = I .young c m o in (L .links .phase ∙ y .0, L .steady _ (y .1));
-            idle = L .idle
+            idle = L .idle;
           };
           end = tt;
-          serves = tt
+          serves = tt;
         }
 
   -- ---- release and shared release
@@ -552,8 +561,8 @@ module _ (p : Params) (B : Bounds p) where
     owners-from zero l a w′ st e O = O
     owners-from (suc n) l a w′ st e O = if-cases (λ (f : Freed). OwnersBut j k w (f .words)) (eqb a 0) (λ t. O)
         (λ t. if-cases (λ (f : Freed). OwnersBut j k w (f .words)) (eqb (getD st (blockAt p a) 0) 255)
-          (λ u. owners-from n l _ _ _ e (owners-clear (blockAt p a) (remove p l (blockAt p a) w′) (owners-remove l (blockAt p a) w′ e O)))
-          (λ u. owners-from n l _ w′ st e O))
+        (λ u. owners-from n l _ _ _ e (owners-clear (blockAt p a) (remove p l (blockAt p a) w′) (owners-remove l (blockAt p a) w′ e O)))
+        (λ u. owners-from n l _ w′ st e O))
 
   -- the owner of a list
   module _ (j bin : ℕ) (low : bin < 49) where
@@ -583,49 +592,49 @@ module _ (p : Params) (B : Bounds p) where
     unfolding releaseBin
     holder-owners j f O = each-keeps (λ (g : Freed). OwnersBut j j w (g .words)) bins (releaseBin p (3 * j))
         (λ bin low g G.
-          let a = available-owner j bin low in let u = unswept-owner j bin low in let c = consumed-owner j bin low in
-          append-owners j j (unswept (3 * j) bin) (consumed (3 * j) bin) _ u c
-            (release-owners j j (consumed (3 * j) bin) _ c
-            (append-owners j j (unswept (3 * j) bin) (available (3 * j) bin) _ u a (release-owners j j (available (3 * j) bin) g a G)))) f O
+        let a = available-owner j bin low in let u = unswept-owner j bin low in let c = consumed-owner j bin low in
+        append-owners j j (unswept (3 * j) bin) (consumed (3 * j) bin) _ u c
+        (release-owners j j (consumed (3 * j) bin) _ c
+        (append-owners j j (unswept (3 * j) bin) (available (3 * j) bin) _ u a (release-owners j j (available (3 * j) bin) g a G)))) f O
 
     shared-owners : (f : Freed) → OwnersBut 8 8 w (f .words) → OwnersBut 8 8 w (eachBelow bins (sweepLaterBin p) f .words)
     unfolding sweepLaterBin
     shared-owners f O = each-keeps (λ (g : Freed). OwnersBut 8 8 w (g .words)) bins (sweepLaterBin p)
         (λ bin low g G.
-          let a = available-owner 8 bin low in let u = unswept-owner 8 bin low in let c = consumed-owner 8 bin low in
-          append-owners 8 8 (unswept abandoned bin) (consumed abandoned bin) _ u c
-            (append-owners 8 8 (unswept abandoned bin) (available abandoned bin) _ u a
-            (release-owners 8 8 (unswept abandoned bin) _ u
-            (release-owners 8 8 (consumed abandoned bin) _ c (release-owners 8 8 (available abandoned bin) g a G))))) f O
+        let a = available-owner 8 bin low in let u = unswept-owner 8 bin low in let c = consumed-owner 8 bin low in
+        append-owners 8 8 (unswept abandoned bin) (consumed abandoned bin) _ u c
+        (append-owners 8 8 (unswept abandoned bin) (available abandoned bin) _ u a
+        (release-owners 8 8 (unswept abandoned bin) _ u
+        (release-owners 8 8 (consumed abandoned bin) _ c (release-owners 8 8 (available abandoned bin) g a G))))) f O
 
     merge-owners : (w′ : Words) → OwnersBut 8 9 w w′ → OwnersBut 8 9 w (merge p w′)
     unfolding merge mergeBin
     merge-owners w′ O = each-keeps (OwnersBut 8 9 w) bins (mergeBin p)
         (λ bin low x X.
-          owners-append 8 9 w (consumed abandoned bin) (consumed inGc bin) _ (consumed-owner 8 bin low) (consumed-owner 9 bin low)
-            (owners-append 8 9 w (unswept abandoned bin) (unswept inGc bin) _ (unswept-owner 8 bin low) (unswept-owner 9 bin low)
-            (owners-append 8 9 w (available abandoned bin) (available inGc bin) x (available-owner 8 bin low) (available-owner 9 bin low) X))) w′ O
+        owners-append 8 9 w (consumed abandoned bin) (consumed inGc bin) _ (consumed-owner 8 bin low) (consumed-owner 9 bin low)
+        (owners-append 8 9 w (unswept abandoned bin) (unswept inGc bin) _ (unswept-owner 8 bin low) (unswept-owner 9 bin low)
+        (owners-append 8 9 w (available abandoned bin) (available inGc bin) x (available-owner 8 bin low) (available-owner 9 bin low) X))) w′ O
 
     abandon-owners : (j : ℕ) (w′ : Words) → OwnersBut 9 j w w′ → OwnersBut 9 j w (abandonBlocks p inGc (3 * j) w′)
     unfolding abandonBlocks abandonBin
     abandon-owners j w′ O = each-keeps (OwnersBut 9 j w) bins (abandonBin p inGc (3 * j))
         (λ bin low x X.
-          owners-append 9 j w (unswept inGc bin) (unswept (3 * j) bin) _ (unswept-owner 9 bin low) (unswept-owner j bin low)
-            (owners-append 9 j w (consumed inGc bin) (consumed (3 * j) bin) _ (consumed-owner 9 bin low) (consumed-owner j bin low)
-            (owners-append 9 j w (available inGc bin) (available (3 * j) bin) x (available-owner 9 bin low) (available-owner j bin low) X))) w′ O
+        owners-append 9 j w (unswept inGc bin) (unswept (3 * j) bin) _ (unswept-owner 9 bin low) (unswept-owner j bin low)
+        (owners-append 9 j w (consumed inGc bin) (consumed (3 * j) bin) _ (consumed-owner 9 bin low) (consumed-owner j bin low)
+        (owners-append 9 j w (available inGc bin) (available (3 * j) bin) x (available-owner 9 bin low) (available-owner j bin low) X))) w′ O
 
   -- the links alone change
   abandon-links : (to from : ℕ) (w : Words) → LinksOnly w (abandonBlocks p to from w)
   unfolding abandonBlocks abandonBin
   abandon-links to from w = each-keeps (LinksOnly w) bins (abandonBin p to from)
       (λ bin low x X. append-links p (unswept to bin) (unswept from bin) _
-        (append-links p (consumed to bin) (consumed from bin) _ (append-links p (available to bin) (available from bin) x X))) w (links-refl w)
+      (append-links p (consumed to bin) (consumed from bin) _ (append-links p (available to bin) (available from bin) x X))) w (links-refl w)
 
   merge-links : (w₀ w : Words) → LinksOnly w₀ w → LinksOnly w₀ (merge p w)
   unfolding merge mergeBin
   merge-links w₀ w L = each-keeps (LinksOnly w₀) bins (mergeBin p)
       (λ bin low x X. append-links p (consumed abandoned bin) (consumed inGc bin) _
-        (append-links p (unswept abandoned bin) (unswept inGc bin) _ (append-links p (available abandoned bin) (available inGc bin) x X))) w L
+      (append-links p (unswept abandoned bin) (unswept inGc bin) _ (append-links p (available abandoned bin) (available inGc bin) x X))) w L
 
   -- after a holder's lists went to in-gc, its unswept lists are empty
   module _ (j : ℕ) (lj : j < 8) where
@@ -639,14 +648,19 @@ module _ (p : Params) (B : Bounds p) where
       where
         u₁ : unswept (3 * j) bin ≢ unswept inGc n
         u₁ e = omega (arith, e)
+
         u₂ : unswept (3 * j) bin ≢ unswept (3 * j) n
         u₂ e = ne (omega (arith, e))
+
         c₁ : unswept (3 * j) bin ≢ consumed inGc n
         c₁ e = omega (arith, e)
+
         c₂ : unswept (3 * j) bin ≢ consumed (3 * j) n
         c₂ e = omega (arith, e)
+
         a₁ : unswept (3 * j) bin ≢ available inGc n
         a₁ e = omega (arith, e)
+
         a₂ : unswept (3 * j) bin ≢ available (3 * j) n
         a₂ e = omega (arith, e)
 
@@ -654,7 +668,7 @@ module _ (p : Params) (B : Bounds p) where
     unfolding abandonBin
     own-bin n ln w z =
         let L : LinksOnly w (append p (consumed inGc n) (consumed (3 * j) n) (append p (available inGc n) (available (3 * j) n) w)) =
-              append-links p (consumed inGc n) (consumed (3 * j) n) _ (append-links p (available inGc n) (available (3 * j) n) w (links-refl w)) in
+        append-links p (consumed inGc n) (consumed (3 * j) n) _ (append-links p (available inGc n) (available (3 * j) n) w (links-refl w)) in
         append-empties p (unswept inGc n) (unswept (3 * j) n) _ (omega (arith, sized-same (L .lengths) z .first, unswept-low j n (omega arith) ln))
 
     bins-empty : (n : ℕ) → n ≤ 49 → (w : Words) → Sized (p .blocks) w → (bin : ℕ) → bin < n → getD (eachBelow n (abandonBin p inGc (3 * j)) w .first) (unswept (3 * j) bin) 0 ≡ 0
@@ -664,11 +678,13 @@ module _ (p : Params) (B : Bounds p) where
       where
         W : Words
         W = eachBelow n (abandonBin p inGc (3 * j)) w
+
         sized : Sized (p .blocks) W
         sized = sized-same (each-keeps (LinksOnly w) n (abandonBin p inGc (3 * j)) (λ i li x X. bin-links i x X) w (links-refl w) .lengths) z
           where
             bin-links : (i : ℕ) (x : Words) → LinksOnly w x → LinksOnly w (abandonBin p inGc (3 * j) i x)
             bin-links i x X = append-links p (unswept inGc i) (unswept (3 * j) i) _ (append-links p (consumed inGc i) (consumed (3 * j) i) _ (append-links p (available inGc i) (available (3 * j) i) x X))
+
         go : Dec (bin ≡ n) → (bin < n → getD (W .first) (unswept (3 * j) bin) 0 ≡ 0) → getD (abandonBin p inGc (3 * j) n W .first) (unswept (3 * j) bin) 0 ≡ 0
         go (yes e) ih = subst (λ (x : ℕ). getD (abandonBin p inGc (3 * j) n W .first) (unswept (3 * j) x) 0 ≡ 0) (sym e) (own-bin n (omega arith) W sized)
         go (no f) ih = other-bin n bin (omega arith) (omega arith) f W ∙ ih (omega arith)
@@ -687,8 +703,10 @@ module _ (p : Params) (B : Bounds p) where
     where
       w₁ : Words
       w₁ = setReleased part 1 (setPhase 2 w)
+
       more : Ended w w₁
       more = record { free = refl; size = refl; sized = sized-same (simp kept-lengths) z; idle = idle }
+
       last : Ended w (setPhase 0 (withReleased (replicate 9 0) (merge p w₁)))
       last =
           let L : LinksOnly w₁ (merge p w₁) = merge-links w₁ w₁ (links-refl w₁) in
@@ -698,14 +716,14 @@ module _ (p : Params) (B : Bounds p) where
             size = L .size;
             sized = record { first = Z .first; last = Z .last; bound = Z .bound; released = refl; next = Z .next; prev = Z .prev; free = Z .free; size = Z .size; list = Z .list; tls = Z .tls };
             idle = λ j n lj ln.
-              merge-owners w₁ w₁ (λ m f g. refl) (unswept (3 * j) n)
+                merge-owners w₁ w₁ (λ m f g. refl) (unswept (3 * j) n)
                 (λ e. absurd (omega (arith, lj, sym (unswept-owner j n ln) ∙ e)))
                 (λ e. absurd (omega (arith, lj, sym (unswept-owner j n ln) ∙ e)))
-              ∙ idle j n lj ln
+                ∙ idle j n lj ln;
           }
 
   module _ (t : Tables) (h : List ℕ) (sh : List (List ℕ)) (bk : Book) (I : Inv t h sh bk)
-    (late : mayRelease (t .words) ≡ true) where
+      (late : mayRelease (t .words) ≡ true) where
     -- a collection runs, so every cell is old
     all-old : (c : Cell) → In c (bk .cells) → c .old ≡ true
     unfolding mayRelease
@@ -729,52 +747,55 @@ module _ (p : Params) (B : Bounds p) where
             core = rw (E .free, E .size) (F .core);
             sized = E .sized;
             young = λ d m o. absurd (not-both true refl (sym (F .old d m) ∙ o));
-            idle = E .idle
+            idle = E .idle;
           });
           end = tt;
-          serves = serves _ _
+          serves = serves _ _;
         }
 
     pub release-planned : (d : ℕ) → 1 ≤ d → d ≤ 8 → Planned t h sh bk (release d) (releasePlan p d t (releaseHolder p d (t .words) (t .states)))
     unfolding EndOk Serves bookAnswer releaseHolder OwnersBut localSets abandonBlocks
     release-planned d lo hi =
         part-planned (release d) d (releaseHolder p d (t .words) (t .states)) refl
-          (record {
-            events = F .events;
-            core = rw (L .free, L .size) (F .core);
-            sized = sized-same (L .lengths) (F .sized);
-            old = F .old
-          })
-          (λ j n lj ln. idle-of j n lj ln (ℕ-discrete j (d - 1)))
-          (λ w e. tt)
+        (record {
+          events = F .events;
+          core = rw (L .free, L .size) (F .core);
+          sized = sized-same (L .lengths) (F .sized);
+          old = F .old;
+        })
+        (λ j n lj ln. idle-of j n lj ln (ℕ-discrete j (d - 1)))
+        (λ w e. tt)
       where
         f : Freed
         f = eachBelow bins (releaseBin p (localSets d)) (freed (t .words) (t .states))
+
         F : Freeing (takerOf (release d)) (t .marks) h sh bk f
         F = holder-freeing (takerOf (release d)) (t .marks) h sh bk (localSets d) _ (nothing-freed (takerOf (release d)) (t .marks) (t .words) (t .states) h sh bk (I .core) (I .sized) all-old)
+
         L : LinksOnly (f .words) (abandonBlocks p inGc (localSets d) (f .words))
         L = abandon-links inGc (localSets d) (f .words)
+
         idle-of : (j n : ℕ) → j < 8 → n < 49 → Dec (j ≡ d - 1) → getD (abandonBlocks p inGc (3 * (d - 1)) (f .words) .first) (unswept (3 * j) n) 0 ≡ 0
         idle-of j n lj ln (yes e) =
             subst (λ (x : ℕ). getD (abandonBlocks p inGc (3 * (d - 1)) (f .words) .first) (unswept (3 * x) n) 0 ≡ 0) (sym e)
-              (bins-empty (d - 1) (omega arith) bins (omega arith) (f .words) (F .sized) n ln)
+            (bins-empty (d - 1) (omega arith) bins (omega arith) (f .words) (F .sized) n ln)
         idle-of j n lj ln (no f′) =
             abandon-owners (f .words) (d - 1) (f .words) (λ m x y. refl) (unswept (3 * j) n)
-              (λ e. absurd (omega (arith, lj, sym (unswept-owner j n ln) ∙ e)))
-              (λ e. f′ (sym (unswept-owner j n ln) ∙ e))
+            (λ e. absurd (omega (arith, lj, sym (unswept-owner j n ln) ∙ e)))
+            (λ e. f′ (sym (unswept-owner j n ln) ∙ e))
             ∙ holder-owners (t .words) (d - 1) (freed (t .words) (t .states)) (λ m x y. refl) (unswept (3 * j) n)
-              (λ e. f′ (sym (unswept-owner j n ln) ∙ e))
-              (λ e. f′ (sym (unswept-owner j n ln) ∙ e))
+            (λ e. f′ (sym (unswept-owner j n ln) ∙ e))
+            (λ e. f′ (sym (unswept-owner j n ln) ∙ e))
             ∙ I .idle j n lj ln
 
     pub shared-planned : Planned t h sh bk sharedRelease (releasePlan p 0 t (sweepLater p (t .words) (t .states)))
     unfolding EndOk Serves bookAnswer sweepLater OwnersBut
     shared-planned =
         part-planned sharedRelease 0 (sweepLater p (t .words) (t .states)) refl
-          (shared-freeing (takerOf sharedRelease) (t .marks) h sh bk _ (nothing-freed (takerOf sharedRelease) (t .marks) (t .words) (t .states) h sh bk (I .core) (I .sized) all-old))
-          (λ j n lj ln.
-            shared-owners (t .words) (freed (t .words) (t .states)) (λ m f g. refl) (unswept (3 * j) n)
-              (λ e. absurd (omega (arith, lj, sym (unswept-owner j n ln) ∙ e)))
-              (λ e. absurd (omega (arith, lj, sym (unswept-owner j n ln) ∙ e)))
-            ∙ I .idle j n lj ln)
-          (λ w e. tt)
+        (shared-freeing (takerOf sharedRelease) (t .marks) h sh bk _ (nothing-freed (takerOf sharedRelease) (t .marks) (t .words) (t .states) h sh bk (I .core) (I .sized) all-old))
+        (λ j n lj ln.
+        shared-owners (t .words) (freed (t .words) (t .states)) (λ m f g. refl) (unswept (3 * j) n)
+        (λ e. absurd (omega (arith, lj, sym (unswept-owner j n ln) ∙ e)))
+        (λ e. absurd (omega (arith, lj, sym (unswept-owner j n ln) ∙ e)))
+        ∙ I .idle j n lj ln)
+        (λ w e. tt)

@@ -120,8 +120,8 @@ module _ (p : Params) (B : Bounds p) (st ms : List ℕ) (hd : ℕ) where
           class = λ d od. rw (L .size) (S .class d od ∙ ap (λ (x : ℕ). cellBytes p (wordBin x)) (sym (P .popping .lists d)));
           phase = L .phase ∙ S .phase;
           idle = λ j n lj ln.
-            let ne : unswept (3 * j) n ≢ l = λ e. some-start p st B b (P .popping .occupied .0) (sym (P .first) ∙ ap (λ (x : ℕ). getD (w .first) x 0) (sym e) ∙ S .idle j n lj ln) in
-            subst (λ (x : Popped). FirstsBut l l w (x .words)) (P .is) (pop-firsts p l w) (unswept (3 * j) n) ne ne ∙ S .idle j n lj ln
+              let ne : unswept (3 * j) n ≢ l = λ e. some-start p st B b (P .popping .occupied .0) (sym (P .first) ∙ ap (λ (x : ℕ). getD (w .first) x 0) (sym e) ∙ S .idle j n lj ln) in
+              subst (λ (x : Popped). FirstsBut l l w (x .words)) (P .is) (pop-firsts p l w) (unswept (3 * j) n) ne ne ∙ S .idle j n lj ln;
         }
 
     pub popped-size : (l b bin : ℕ) (P : Pop p st B w (S .lengths) (S .linked) l b) → wordBin (listWord l) ≡ bin → getD (P .words .size) b 0 ≡ cellBytes p bin
@@ -135,7 +135,7 @@ module _ (p : Params) (B : Bounds p) (st ms : List ℕ) (hd : ℕ) where
 
     -- a block is pushed, to which no link leads
     module _ (b c : ℕ) (ob : Occupied p st b) (loose : Loose p st w b) (low : c < 1470) (set : Settled (listWord c))
-      (bin : ℕ) (cell : getD (w .size) b 0 ≡ cellBytes p bin) (into : wordBin (listWord c) ≡ bin) where
+        (bin : ℕ) (cell : getD (w .size) b 0 ≡ cellBytes p bin) (into : wordBin (listWord c) ≡ bin) where
       pushing : Pushed p st B w (S .lengths) (S .linked) c b (push p c b w)
       pushing = push-pushed p st B w (S .lengths) (S .linked) c b low ob loose
 
@@ -153,10 +153,10 @@ module _ (p : Params) (B : Bounds p) (st ms : List ℕ) (hd : ℕ) where
             class = λ d od. rw (pushed-links .size) (class-of d od (ℕ-discrete d b));
             phase = pushed-links .phase ∙ S .phase;
             idle = λ j n lj ln.
-              ap (λ (x : List ℕ). getD x (unswept (3 * j) n) 0) (push-first p c b w)
-              ∙ getD-set-other (w .first) c (unswept (3 * j) n) (start p b) 0
+                ap (λ (x : List ℕ). getD x (unswept (3 * j) n) 0) (push-first p c b w)
+                ∙ getD-set-other (w .first) c (unswept (3 * j) n) (start p b) 0
                 (λ e. unswept-unsettled j n (omega arith) ln (subst (λ (x : ℕ). Settled (listWord x)) (sym e) set))
-              ∙ S .idle j n lj ln
+                ∙ S .idle j n lj ln;
           }
         where
           class-of : (d : ℕ) → Occupied p st d → Dec (d ≡ b) → getD (w .size) d 0 ≡ cellBytes p (wordBin (getD (push p c b w .list) d 0))
@@ -164,6 +164,7 @@ module _ (p : Params) (B : Bounds p) (st ms : List ℕ) (hd : ℕ) where
               ap (λ (x : ℕ). getD (w .size) x 0) e ∙ cell ∙ ap (cellBytes p) (sym into)
               ∙ ap (λ (x : ℕ). cellBytes p (wordBin x)) (sym (ap (λ (x : ℕ). getD (push p c b w .list) x 0) e ∙ pushing .word))
           class-of d od (no f) = S .class d od ∙ ap (λ (x : ℕ). cellBytes p (wordBin x)) (sym (pushing .others d f))
+
           young-of : (d : Cell) → In d (bk .cells) → d .old ≡ false → Dec (blockAt p (d .start) ≡ b)
               → Settled (getD (push p c b w .list) (blockAt p (d .start)) 0)
           young-of d m o (yes e) = subst Settled (sym (ap (λ (x : ℕ). getD (push p c b w .list) x 0) e ∙ pushing .word)) set
@@ -178,7 +179,7 @@ module _ (p : Params) (B : Bounds p) (st ms : List ℕ) (hd : ℕ) where
             at = refl;
             free = subst (λ (x : List ℕ). getD x b 0 ≢ 0) (sym (pushed-links .free)) f;
             settled = subst Settled (sym (pushing .word)) set;
-            size = ap (λ (x : List ℕ). getD x b 0) (pushed-links .size) ∙ cell
+            size = ap (λ (x : List ℕ). getD x b 0) (pushed-links .size) ∙ cell;
           }
 
     -- a block gets a holder
@@ -193,7 +194,7 @@ module _ (p : Params) (B : Bounds p) (st ms : List ℕ) (hd : ℕ) where
           wide = S .wide;
           class = S .class;
           idle = S .idle;
-          phase = S .phase
+          phase = S .phase;
         }
 
     -- a block is swept, all of whose held cells are old
@@ -213,7 +214,7 @@ module _ (p : Params) (B : Bounds p) (st ms : List ℕ) (hd : ℕ) where
             wide = S .wide;
             class = S .class;
             idle = S .idle;
-            phase = S .phase
+            phase = S .phase;
           }
 
       pub swept-ok : EventOk p B hd (sweepOf p ms b w) h bk
@@ -222,7 +223,7 @@ module _ (p : Params) (B : Bounds p) (st ms : List ℕ) (hd : ℕ) where
           record {
             lost = λ c m. (strike c m, λ s. aged c m (eqb-true _ _ (and-left (eqb (blockAt p (c .start)) b) _ (sym (strike c m) ∙ s))));
             bytes = λ c m out. same-bytes p B hd (w .size) st h (linkAll p chain h) c (S .core .held c m)
-              (sweep-bytes p B (w .free) (w .size) st ms h sh bk (S .core) b (ob .0) chain (ob .1) (S .wide b ob) refl hd c m out)
+                (sweep-bytes p B (w .free) (w .size) st ms h sh bk (S .core) b (ob .0) chain (ob .1) (S .wide b ob) refl hd c m out);
           }
         where
           strike : (c : Cell) → In c (bk .cells) → frees p (sweepOf p ms b w) c ≡ (hits p (sweepOf p ms b w) c && unmarked p bk c)
@@ -235,7 +236,7 @@ module _ (p : Params) (B : Bounds p) (st ms : List ℕ) (hd : ℕ) where
     pub result : (g .at ≡ 0) ⊎ Ready bin (g .words) (g .at)
 
   module _ (av full : ℕ) (lav : av < 1470) (lfull : full < 1470) (sav : Settled (listWord av)) (sfull : Settled (listWord full))
-    (bin : ℕ) (bav : wordBin (listWord av) ≡ bin) (bfull : wordBin (listWord full) ≡ bin) where
+      (bin : ℕ) (bav : wordBin (listWord av) ≡ bin) (bfull : wordBin (listWord full) ≡ bin) where
     pub skim : (k : ℕ) (w : Words) (h : List ℕ) (sh : List (List ℕ)) (bk : Book) → Searching w h sh bk
         → Skimmed bin h sh bk (findFreeBlockWith k p av full w)
     unfolding findFreeBlockWith
@@ -246,13 +247,17 @@ module _ (p : Params) (B : Bounds p) (st ms : List ℕ) (hd : ℕ) where
         go : Empty p st B w (S .lengths) (S .linked) av ⊎ ((b : ℕ) × Pop p st B w (S .lengths) (S .linked) av b)
             → ((b : ℕ) (P : Pop p st B w (S .lengths) (S .linked) av b) → Skimmed bin h sh bk (findFreeBlockWith k p av full (push p full b (P .words))))
             → Skimmed bin h sh bk (if eqb (getD (w .first) av 0) 0 then popped 0 w
-              else if eqb (getD (w .free) (blockAt p (getD (w .first) av 0)) 0) 0 then findFreeBlockWith k p av full (push p full (blockAt p (getD (w .first) av 0)) (pop p av w .words))
-              else popped (getD (w .first) av 0) w)
+            else if eqb (getD (w .free) (blockAt p (getD (w .first) av 0)) 0) 0 then findFreeBlockWith k p av full (push p full (blockAt p (getD (w .first) av 0)) (pop p av w .words))
+            else popped (getD (w .first) av 0) w)
         go (inl E) ih = rw (eq-eqb _ _ (E .first)) (record { searching = S; result = inl refl })
         go (inr z) ih =
-            rw (z .1 .first, ne-eqb (start p (z .0)) 0 (some-start p st B (z .0) (z .1 .popping .occupied .0)),
-                blockAt-start p B (z .0) (z .1 .popping .occupied .0), z .1 .is)
-              (fork (z .0) (z .1) (ih (z .0) (z .1)) (ℕ-discrete (getD (w .free) (z .0) 0) 0))
+            rw (
+              z .1 .first,
+              ne-eqb (start p (z .0)) 0 (some-start p st B (z .0) (z .1 .popping .occupied .0)),
+              blockAt-start p B (z .0) (z .1 .popping .occupied .0),
+              z .1 .is,
+            )
+            (fork (z .0) (z .1) (ih (z .0) (z .1)) (ℕ-discrete (getD (w .free) (z .0) 0) 0))
           where
             fork : (b : ℕ) (P : Pop p st B w (S .lengths) (S .linked) av b) → Skimmed bin h sh bk (findFreeBlockWith k p av full (push p full b (P .words)))
                 → Dec (getD (w .free) b 0 ≡ 0)
@@ -261,8 +266,14 @@ module _ (p : Params) (B : Bounds p) (st ms : List ℕ) (hd : ℕ) where
             fork b P next (no f) =
                 rw (ne-eqb _ _ f) (record {
                   searching = S;
-                  result = inr (record { block = b; occupied = P .popping .occupied; at = refl; free = f; settled = subst Settled (sym (P .popping .word)) sav;
-                    size = S .class b (P .popping .occupied) ∙ ap (λ (x : ℕ). cellBytes p (wordBin x)) (P .popping .word) ∙ ap (cellBytes p) bav })
+                  result = inr (record {
+                    block = b;
+                    occupied = P .popping .occupied;
+                    at = refl;
+                    free = f;
+                    settled = subst Settled (sym (P .popping .word)) sav;
+                    size = S .class b (P .popping .occupied) ∙ ap (λ (x : ℕ). cellBytes p (wordBin x)) (P .popping .word) ∙ ap (cellBytes p) bav;
+                  });
                 })
 
   -- ---- blocks taken over from abandoned
@@ -287,7 +298,7 @@ module _ (p : Params) (B : Bounds p) (st ms : List ℕ) (hd : ℕ) where
       record {
         events = more-events p B hd (sweepOf p ms b w) (f .events) h bk refl o (A .events);
         searching = A .searching;
-        result = A .result
+        result = A .result;
       }
 
   -- the two lists of abandoned that are tried, and the holder's own (its sets are 3j, 3j + 1, 3j + 2)
@@ -321,36 +332,36 @@ module _ (p : Params) (B : Bounds p) (st ms : List ℕ) (hd : ℕ) where
     unsweptPart k g =
         if eqb (g .at) 0 then found 0 (g .words)
         else after (sweepOf p ms (blockAt p (g .at)) (setTls (blockAt p (g .at)) hd (g .words)))
-             (if eqb (getD (sweptWords p ms (blockAt p (g .at)) (setTls (blockAt p (g .at)) hd (g .words)) .free) (blockAt p (g .at)) 0) 0
-              then acquireAbandoned k p ms hd bin
-                   (push p (consumed (localSets hd) bin) (blockAt p (g .at)) (sweptWords p ms (blockAt p (g .at)) (setTls (blockAt p (g .at)) hd (g .words))))
-              else found (g .at)
-                   (push p (available (localSets hd) bin) (blockAt p (g .at)) (sweptWords p ms (blockAt p (g .at)) (setTls (blockAt p (g .at)) hd (g .words)))))
+        (if eqb (getD (sweptWords p ms (blockAt p (g .at)) (setTls (blockAt p (g .at)) hd (g .words)) .free) (blockAt p (g .at)) 0) 0
+        then acquireAbandoned k p ms hd bin
+        (push p (consumed (localSets hd) bin) (blockAt p (g .at)) (sweptWords p ms (blockAt p (g .at)) (setTls (blockAt p (g .at)) hd (g .words))))
+        else found (g .at)
+        (push p (available (localSets hd) bin) (blockAt p (g .at)) (sweptWords p ms (blockAt p (g .at)) (setTls (blockAt p (g .at)) hd (g .words)))))
 
     Round : ℕ → Type 0
     Round k = (w : Words) (h : List ℕ) (sh : List (List ℕ)) (bk : Book) → Searching w h sh bk → Acquired bin h sh bk (acquireAbandoned k p ms hd bin w)
 
     -- a block that is no link's goes to the holder: to available if it has a free cell, else to consumed and the search goes on
     module _ (k : ℕ) (ih : Round k) (w : Words) (h : List ℕ) (sh : List (List ℕ)) (bk : Book) (S : Searching w h sh bk)
-      (b : ℕ) (ob : Occupied p st b) (loose : Loose p st w b) (cell : getD (w .size) b 0 ≡ cellBytes p bin) where
+        (b : ℕ) (ob : Occupied p st b) (loose : Loose p st w b) (cell : getD (w .size) b 0 ≡ cellBytes p bin) where
       settle : Acquired bin h sh bk
           (if eqb (getD (w .free) b 0) 0 then acquireAbandoned k p ms hd bin (push p (consumed (localSets hd) bin) b w)
-           else found (start p b) (push p (available (localSets hd) bin) b w))
+          else found (start p b) (push p (available (localSets hd) bin) b w))
       unfolding Round
       settle = go (ℕ-discrete (getD (w .free) b 0) 0)
         where
           go : Dec (getD (w .free) b 0 ≡ 0) → Acquired bin h sh bk
               (if eqb (getD (w .free) b 0) 0 then acquireAbandoned k p ms hd bin (push p (consumed (localSets hd) bin) b w)
-               else found (start p b) (push p (available (localSets hd) bin) b w))
+              else found (start p b) (push p (available (localSets hd) bin) b w))
           go (yes e) =
               rw (eq-eqb _ _ e)
-                (ih (push p (consumed (localSets hd) bin) b w) h sh bk
-                  (pushed-searching w h sh bk S b (consumed (localSets hd) bin) ob loose co-low co-settled bin cell co-bin))
+              (ih (push p (consumed (localSets hd) bin) b w) h sh bk
+              (pushed-searching w h sh bk S b (consumed (localSets hd) bin) ob loose co-low co-settled bin cell co-bin))
           go (no f) =
               rw (ne-eqb _ _ f)
-                (plain bin (start p b) (push p (available (localSets hd) bin) b w) h sh bk
-                  (pushed-searching w h sh bk S b (available (localSets hd) bin) ob loose av-low av-settled bin cell av-bin)
-                  (inr (pushed-ready w h sh bk S b (available (localSets hd) bin) ob loose av-low av-settled bin cell av-bin f)))
+              (plain bin (start p b) (push p (available (localSets hd) bin) b w) h sh bk
+              (pushed-searching w h sh bk S b (available (localSets hd) bin) ob loose av-low av-settled bin cell av-bin)
+              (inr (pushed-ready w h sh bk S b (available (localSets hd) bin) ob loose av-low av-settled bin cell av-bin f)))
 
     tls-loose : (w : Words) (b v c : ℕ) → Loose p st w c → Loose p st (setTls b v w) c
     unfolding setTls
@@ -372,32 +383,35 @@ module _ (p : Params) (B : Bounds p) (st ms : List ℕ) (hd : ℕ) where
     module _ (k : ℕ) (ih : Round k) (w : Words) (h : List ℕ) (sh : List (List ℕ)) (bk : Book) (S : Searching w h sh bk) where
       take-available : (b : ℕ) (P : Pop p st B w (S .lengths) (S .linked) (available abandoned bin) b) → Acquired bin h sh bk
           (if eqb (getD (setTls b hd (P .words) .free) b 0) 0
-           then acquireAbandoned k p ms hd bin (push p (consumed (localSets hd) bin) b (setTls b hd (P .words)))
-           else found (start p b) (push p (available (localSets hd) bin) b (setTls b hd (P .words))))
+          then acquireAbandoned k p ms hd bin (push p (consumed (localSets hd) bin) b (setTls b hd (P .words)))
+          else found (start p b) (push p (available (localSets hd) bin) b (setTls b hd (P .words))))
       take-available b P =
           settle k ih (setTls b hd (P .words)) h sh bk
-            (tls-searching (P .words) h sh bk (popped-searching w h sh bk S (available abandoned bin) b P) b hd)
-            b (P .popping .occupied) (tls-loose (P .words) b hd b (P .popping .loose))
-            (tls-size (P .words) b hd b ∙ popped-size w h sh bk S (available abandoned bin) b bin P (available-bin 8 bin (omega arith) low))
+          (tls-searching (P .words) h sh bk (popped-searching w h sh bk S (available abandoned bin) b P) b hd)
+          b (P .popping .occupied) (tls-loose (P .words) b hd b (P .popping .loose))
+          (tls-size (P .words) b hd b ∙ popped-size w h sh bk S (available abandoned bin) b bin P (available-bin 8 bin (omega arith) low))
 
       -- an unswept block of abandoned: its list word says that its cells are old
       take-unswept : (b : ℕ) (P : Pop p st B w (S .lengths) (S .linked) (unswept abandoned bin) b) → Acquired bin h sh bk
           (after (sweepOf p ms b (setTls b hd (P .words)))
           (if eqb (getD (sweptWords p ms b (setTls b hd (P .words)) .free) b 0) 0
-           then acquireAbandoned k p ms hd bin (push p (consumed (localSets hd) bin) b (sweptWords p ms b (setTls b hd (P .words))))
-           else found (start p b) (push p (available (localSets hd) bin) b (sweptWords p ms b (setTls b hd (P .words))))))
+          then acquireAbandoned k p ms hd bin (push p (consumed (localSets hd) bin) b (sweptWords p ms b (setTls b hd (P .words))))
+          else found (start p b) (push p (available (localSets hd) bin) b (sweptWords p ms b (setTls b hd (P .words))))))
       take-unswept b P =
           first-swept bin W h sh bk T b _ (swept-ok W h sh bk T b ob aged)
-            (settle k ih (sweptWords p ms b W) (eventHeap p (sweepOf p ms b W) h) (shadowEvent (sweepOf p ms b W) sh) (bookEvent p hd (sweepOf p ms b W) bk)
-              (swept-searching W h sh bk T b ob aged) b ob (swept-loose W b b (tls-loose (P .words) b hd b (P .popping .loose)))
-              (swept-size W b b ∙ tls-size (P .words) b hd b ∙ popped-size w h sh bk S (unswept abandoned bin) b bin P (unswept-bin 8 bin (omega arith) low)))
+          (settle k ih (sweptWords p ms b W) (eventHeap p (sweepOf p ms b W) h) (shadowEvent (sweepOf p ms b W) sh) (bookEvent p hd (sweepOf p ms b W) bk)
+          (swept-searching W h sh bk T b ob aged) b ob (swept-loose W b b (tls-loose (P .words) b hd b (P .popping .loose)))
+          (swept-size W b b ∙ tls-size (P .words) b hd b ∙ popped-size w h sh bk S (unswept abandoned bin) b bin P (unswept-bin 8 bin (omega arith) low)))
         where
           W : Words
           W = setTls b hd (P .words)
+
           T : Searching W h sh bk
           T = tls-searching (P .words) h sh bk (popped-searching w h sh bk S (unswept abandoned bin) b P) b hd
+
           ob : Occupied p st b
           ob = P .popping .occupied
+
           aged : (c : Cell) → In c (bk .cells) → blockAt p (c .start) ≡ b → c .old ≡ true
           aged c m e = go (c .old) refl
             where
@@ -405,7 +419,7 @@ module _ (p : Params) (B : Bounds p) (st ms : List ℕ) (hd : ℕ) where
               go true o = o
               go false o =
                   absurd (unswept-unsettled 8 bin (omega arith) low
-                    (subst Settled (ap (λ (x : ℕ). getD (w .list) x 0) e ∙ P .popping .word) (S .young c m o)))
+                  (subst Settled (ap (λ (x : ℕ). getD (w .list) x 0) e ∙ P .popping .word) (S .young c m o)))
 
       next-round : Acquired bin h sh bk (acquireAbandoned (suc k) p ms hd bin w)
       unfolding acquireAbandoned
@@ -415,7 +429,7 @@ module _ (p : Params) (B : Bounds p) (st ms : List ℕ) (hd : ℕ) where
               → Acquired bin h sh bk (acquireAbandoned (suc k) p ms hd bin w)
           go (inr z) =
               rw (z .1 .is, ne-eqb (start p (z .0)) 0 (some-start p st B (z .0) (z .1 .popping .occupied .0)), blockAt-start p B (z .0) (z .1 .popping .occupied .0))
-                (take-available (z .0) (z .1))
+              (take-available (z .0) (z .1))
           go (inl E) = rw (E .is) (unsw (pop-cases p st B w (S .lengths) (S .linked) (unswept abandoned bin) (unswept-low 8 bin (omega arith) low)))
             where
               unsw : Empty p st B w (S .lengths) (S .linked) (unswept abandoned bin) ⊎ ((b : ℕ) × Pop p st B w (S .lengths) (S .linked) (unswept abandoned bin) b)
@@ -423,7 +437,7 @@ module _ (p : Params) (B : Bounds p) (st ms : List ℕ) (hd : ℕ) where
               unsw (inl F) = rw (F .is) (plain bin 0 w h sh bk S (inl refl))
               unsw (inr z) =
                   rw (z .1 .is, ne-eqb (start p (z .0)) 0 (some-start p st B (z .0) (z .1 .popping .occupied .0)), blockAt-start p B (z .0) (z .1 .popping .occupied .0))
-                    (take-unswept (z .0) (z .1))
+                  (take-unswept (z .0) (z .1))
 
     pub acquire : (k : ℕ) (w : Words) (h : List ℕ) (sh : List (List ℕ)) (bk : Book) → Searching w h sh bk → Acquired bin h sh bk (acquireAbandoned k p ms hd bin w)
     unfolding acquireAbandoned Round

@@ -18,7 +18,8 @@ use Rattle.model.specs.BlockList.{walk, blocksOn}
 use Rattle.model.specs.Block.{Unallocated}
 use Rattle.model.specs.Sound.{stateOf, stateKnown, blockClear, listNamed, binNamed, setNamed, onListNamed, sizeOk, linkOk, tlsOk, blockSound, linkedFrom, linked, unboundEmpty, inGcEmpty, phaseKnown, flagsKnown, releasedFew, releasedSome, releasedEmpty, sound}
 use Rattle.laws.specs.Params.{Bounds, start-blockAt, blockAt-isStart}
-use Rattle.laws.specs.Base.{and-left, and-right, all-below, member-in, bool-cases, not-both}
+use Rattle.laws.specs.Base.{and-left, and-right, all-below, member-in}
+use Rattle.laws.specs.Below.{and-three, and-four}
 use Rattle.runs.specs.Links.{Occupied, Link, Linked}
 
 -- ---- the parts
@@ -27,25 +28,23 @@ pub record SoundParts (p : Params) (t : Tables) : Type 0 where
   pub blocks : (b : ℕ) → b < p .blocks → blockSound p t b ≡ true
   pub linked : (l : ℕ) → l < 1470 → linked p t l ≡ true
 
--- the first two of seven tests, and the middle three of five
+-- the first two of seven tests; all of five
 two-of-seven : (a b c d e f g : Bool) → (a && b && c && d && e && f && g) ≡ true → (a ≡ true) × (b ≡ true)
-two-of-seven true true c d e f g h = (refl, refl)
-two-of-seven true false c d e f g h = absurd (not-both false h refl)
-two-of-seven false b c d e f g h = absurd (not-both false h refl)
+two-of-seven a b c d e f g h =
+    let r = and-four a b c d (and-left (a && b && c && d) e (and-left (a && b && c && d && e) f (and-left (a && b && c && d && e && f) g h))) in
+    (r .0, r .1)
 
-middle-of-five : (a b c d e : Bool) → (a && b && c && d && e) ≡ true → (b ≡ true) × (c ≡ true) × (d ≡ true)
-middle-of-five true true true true e h = (refl, refl, refl)
-middle-of-five true true true false e h = absurd (not-both false h refl)
-middle-of-five true true false d e h = absurd (not-both false h refl)
-middle-of-five true false c d e h = absurd (not-both false h refl)
-middle-of-five false b c d e h = absurd (not-both false h refl)
+five : (a b c d e : Bool) → (a && b && c && d && e) ≡ true → (a ≡ true) × (b ≡ true) × (c ≡ true) × (d ≡ true) × (e ≡ true)
+five a b c d e h =
+    let r = and-four a b c d (and-left (a && b && c && d) e h) in
+    (r .0, r .1, r .2, r .3, and-right (a && b && c && d) e h)
 
 pub sound-parts : (p : Params) (t : Tables) → sound p t ≡ true → SoundParts p t
 unfolding sound
 sound-parts p t s =
     let h = two-of-seven (allBelow (p .blocks) (blockSound p t)) (allBelow lists (linked p t)) (unboundEmpty (t .words))
-          (inGcEmpty (t .words)) (phaseKnown (t .words) && flagsKnown (t .words))
-          (releasedFew (t .words) && releasedSome (t .words)) (releasedEmpty (t .words)) s in
+    (inGcEmpty (t .words)) (phaseKnown (t .words) && flagsKnown (t .words))
+    (releasedFew (t .words) && releasedSome (t .words)) (releasedEmpty (t .words)) s in
     record { blocks = all-below (p .blocks) (blockSound p t) (h .0); linked = all-below lists (linked p t) (h .1) }
 
 -- an occupied block
@@ -57,16 +56,10 @@ pub record BlockParts (p : Params) (t : Tables) (b : ℕ) : Type 0 where
 pub block-parts : (p : Params) (t : Tables) (b : ℕ) → blockSound p t b ≡ true → stateOf t b ≢ 0 → BlockParts p t b
 unfolding blockSound
 block-parts p t b s ne =
-    let h = middle-of-five (stateKnown t b) (onListNamed p (t .words) b) (sizeOk p (t .words) b)
-          (linkOk p (t .words) b (getD (t .words .free) b 0)) (tlsOk (t .words) b)
-          (rw (ne-eqb (stateOf t b) Unallocated ne) at s) in
-    record { on = h .0; size = h .1; free = h .2 }
-
-three : (a b c : Bool) → (a && b && c) ≡ true → (a ≡ true) × (b ≡ true) × (c ≡ true)
-three true true true h = (refl, refl, refl)
-three true true false h = absurd (not-both false h refl)
-three true false c h = absurd (not-both false h refl)
-three false b c h = absurd (not-both false h refl)
+    let h = five (stateKnown t b) (onListNamed p (t .words) b) (sizeOk p (t .words) b)
+    (linkOk p (t .words) b (getD (t .words .free) b 0)) (tlsOk (t .words) b)
+    (rw (ne-eqb (stateOf t b) Unallocated ne) at s) in
+    record { on = h .1; size = h .2; free = h .3 }
 
 -- the list that a block names: its word, its number, and that its walk meets the block
 pub on-parts :
@@ -74,7 +67,7 @@ pub on-parts :
     → (getD (w .list) b 0 ≡ listWord (listNamed w b)) × (listNamed w b < 1470) × In b (walk (p .blocks) p (w .next) (getD (w .first) (listNamed w b) 0))
 unfolding onListNamed listNamed listWord blocksOn
 on-parts p w b on =
-    let f = three (leb 1 (getD (w .list) b 0)) (leb (getD (w .list) b 0) lists) (member b (blocksOn p (getD (w .list) b 0 - 1) w)) on in
+    let f = and-three (leb 1 (getD (w .list) b 0)) (leb (getD (w .list) b 0) lists) (member b (blocksOn p (getD (w .list) b 0 - 1) w)) on in
     let lo : 1 ≤ getD (w .list) b 0 = leb-true _ _ (f .0) in
     let hi : getD (w .list) b 0 ≤ 1470 = leb-true _ _ (f .1) in
     (omega arith, omega arith, member-in b (blocksOn p (getD (w .list) b 0 - 1) w) (f .2))
@@ -90,27 +83,19 @@ module _ (p : Params) (B : Bounds p) (t : Tables) where
     pub prev : getD (t .words .prev) (blockAt p a) 0 ≡ before
     pub rest : linkedFrom k p t l a (getD (t .words .next) (blockAt p a) 0) ≡ true
 
-  five : (a b c d e : Bool) → (a && b && c && d && e) ≡ true → (a ≡ true) × (b ≡ true) × (c ≡ true) × (d ≡ true) × (e ≡ true)
-  five true true true true true h = (refl, refl, refl, refl, refl)
-  five true true true true false h = absurd (not-both false h refl)
-  five true true true false e h = absurd (not-both false h refl)
-  five true true false d e h = absurd (not-both false h refl)
-  five true false c d e h = absurd (not-both false h refl)
-  five false b c d e h = absurd (not-both false h refl)
-
   linked-step : (k l before a : ℕ) → linkedFrom (suc k) p t l before a ≡ true → a ≢ 0 → LinkedStep k l before a
   unfolding linkedFrom
   linked-step k l before a h ne =
       let b : ℕ = blockAt p a in
       let f = five (isStart p a) (not (eqb (stateOf t b) Unallocated)) (eqb (getD (t .words .list) b 0) (listWord l))
-            (eqb (getD (t .words .prev) b 0) before) (linkedFrom k p t l a (getD (t .words .next) b 0))
-            (rw (ne-eqb a 0 ne) at h) in
+      (eqb (getD (t .words .prev) b 0) before) (linkedFrom k p t l a (getD (t .words .next) b 0))
+      (rw (ne-eqb a 0 ne) at h) in
       record {
         start = f .0;
         occupied = eqb-false _ _ (not-true _ (f .1));
         word = eqb-true _ _ (f .2);
         prev = eqb-true _ _ (f .3);
-        rest = f .4
+        rest = f .4;
       }
 
   link-of : (k l before a : ℕ) → linkedFrom k p t l before a ≡ true → Link p (t .states) (t .words) (listWord l) before a
@@ -136,34 +121,36 @@ module _ (p : Params) (B : Bounds p) (t : Tables) where
     where
       go : Dec (a ≡ 0)
           → (linkedFrom k p t l a (getD (t .words .next) (blockAt p a) 0) ≡ true
-            → In b (walk k p (t .words .next) (getD (t .words .next) (blockAt p a) 0)) → Met l b)
+          → In b (walk k p (t .words .next) (getD (t .words .next) (blockAt p a) 0)) → Met l b)
           → Met l b
       go (yes e) ih = absurd (rw (eq-eqb a 0 e) at m)
       go (no ne) ih =
           let f = linked-step k l before a h ne in
           ⊎-elim
-            (λ e. subst (Met l) (sym e)
-              (record {
-                word = f .word;
-                next = subst (λ (x : ℕ). Link p (t .states) (t .words) (listWord l) x (getD (t .words .next) (blockAt p a) 0))
-                  (sym (start-blockAt p B a (f .start))) (link-of k l a _ (f .rest))
-              }))
-            (λ m′. ih (f .rest) m′)
-            (rw (ne-eqb a 0 ne) at m)
+          (λ e. subst (Met l) (sym e)
+          (record {
+            word = f .word;
+            next = subst (λ (x : ℕ). Link p (t .states) (t .words) (listWord l) x (getD (t .words .next) (blockAt p a) 0))
+                (sym (start-blockAt p B a (f .start))) (link-of k l a _ (f .rest));
+          }))
+          (λ m′. ih (f .rest) m′)
+          (rw (ne-eqb a 0 ne) at m)
 
   pub sound-linked : length (t .words .first) ≡ 1470 → sound p t ≡ true → Linked p (t .states) (t .words)
   unfolding linked stateOf
   sound-linked len s =
       record {
         firsts = λ l. first-of l (decLt l 1470);
-        nexts = λ b ob. next-of b (ob .0) (block-parts p t b (S .blocks b (ob .0)) (ob .1) .on)
+        nexts = λ b ob. next-of b (ob .0) (block-parts p t b (S .blocks b (ob .0)) (ob .1) .on);
       }
     where
       S : SoundParts p t
       S = sound-parts p t s
+
       first-of : (l : ℕ) → Dec (l < 1470) → Link p (t .states) (t .words) (listWord l) 0 (getD (t .words .first) l 0)
       first-of l (yes low) = link-of (p .blocks) l 0 _ (S .linked l low)
       first-of l (no f) = inl (List·getD-eq-default (t .words .first) 0 (omega (arith, len)))
+
       next-of : (b : ℕ) → b < p .blocks → onListNamed p (t .words) b ≡ true → Link p (t .states) (t .words) (getD (t .words .list) b 0) (start p b) (getD (t .words .next) b 0)
       next-of b low on =
           let i = on-parts p (t .words) b on in

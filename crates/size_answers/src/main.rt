@@ -1,0 +1,152 @@
+// Size classes, raised sizes and shifts, compared with the Rust: for every size from 0 to 65,544 its bin, and for every MIN,
+// MAX and align the raised size, its bin and its cell size, and shifted addresses. Each line of `stdout` is a checksum over the
+// Rust's answers, made by oracle/samples/size_answers.py; this program makes the same from the port's.
+use libc::STDOUT_FILENO;
+use model::Params;
+use native_ms::allocator;
+use native_ms::allocator::Raised;
+use native_ms::allocator::Shifted;
+use native_ms::size_class;
+ghost use Prim.Native.Nat.{_+_, _*_, _<_, _≤_};
+
+// The checksum h with one more number: h × 1,000,003 + x modulo a prime.
+fn mixed(h: usize, x: usize) -> usize
+    requires { ⌜ h < 4294967291 ⌝ }
+    ensures { λ r. ⌜ r < 4294967291 ⌝ }
+{
+    (h * 1000003 + x % 4294967291) % 4294967291
+}
+
+fn bins() -> usize {
+    let mut h: usize = 0;
+    let mut size: usize = 0;
+    while size < 65545 {
+        h = mixed(h, size_class::mi_bin_from_size(size));
+        size = size + 1;
+    }
+    h
+}
+
+// One raised size, its bin and its cell size; three zeros where there is none.
+fn raised(h: usize, p: Params, size: usize, align: usize) -> usize
+    requires { ⌜ h < 4294967291 ⌝ }
+    ensures { λ r. ⌜ r < 4294967291 ⌝ }
+{
+    let r = allocator::get_maximum_aligned_size(p, size, align);
+    match r {
+        Raised::TooBig => mixed(mixed(mixed(h, 0), 0), 0),
+        Raised::Fits(n) => {
+            let bin = size_class::mi_bin_from_size(n);
+            mixed(mixed(mixed(h, n), bin), size_class::class_bytes(bin))
+        }
+    }
+}
+
+// Every size that is a multiple of MIN.
+fn sizes(p: Params, min: usize, align: usize) -> usize
+    requires { ⌜ (0 < min) × (min ≤ 8) ⌝ }
+{
+    let mut h: usize = 0;
+    let mut size: usize = 0;
+    while size < 65545 {
+        h = raised(h, p, size, align);
+        size = size + min;
+    }
+    h
+}
+
+fn shifted(h: usize, region: usize, align: usize, offset: usize) -> usize
+    requires { ⌜ h < 4294967291 ⌝ }
+    ensures { λ r. ⌜ r < 4294967291 ⌝ }
+{
+    let r = allocator::shift_address(region, align, offset);
+    match r {
+        Shifted::Off => mixed(h, 0),
+        Shifted::At(a) => mixed(h, a),
+    }
+}
+
+// 33 offsets from `first` on, in steps of MIN.
+fn offsets(h: usize, region: usize, min: usize, align: usize, first: usize) -> usize
+    requires { ⌜ (h < 4294967291) × (min ≤ 8) × (first ≤ 65536) ⌝ }
+    ensures { λ r. ⌜ r < 4294967291 ⌝ }
+{
+    let mut g = h;
+    let mut offset = first;
+    let mut k: usize = 0;
+    while k < 33 {
+        g = shifted(g, region, align, offset);
+        offset = offset + min;
+        k = k + 1;
+    }
+    g
+}
+
+// 16 regions from `from` on, in steps of 8.
+fn regions(h: usize, from: usize, min: usize, align: usize, first: usize) -> usize
+    requires { ⌜ (h < 4294967291) × (from ≤ 140737488355328) × (min ≤ 8) × (first ≤ 65536) ⌝ }
+    ensures { λ r. ⌜ r < 4294967291 ⌝ }
+{
+    let mut g = h;
+    let mut k: usize = 0;
+    while k < 16 {
+        g = offsets(g, from + 8 * k, min, align, first);
+        k = k + 1;
+    }
+    g
+}
+
+fn show(x: usize, after: u8) {
+    io::print_decimal(STDOUT_FILENO, x as u64);
+    let end = [after];
+    io::write_all(STDOUT_FILENO, &end);
+}
+
+// The line of one MIN, MAX and align.
+fn line(min: usize, max: usize, align: usize)
+    requires { ⌜ (0 < min) × (min ≤ 8) ⌝ }
+{
+    let p = Params {
+        base: 65536,
+        bytes: 65536,
+        blocks: 1,
+        min: min,
+        max: max,
+        offsets: false,
+        unified: true,
+        lower: 0,
+    };
+    show(min, b' ');
+    show(max, b' ');
+    show(align, b' ');
+    show(sizes(p, min, align), b' ');
+    let low = regions(0, 8, min, align, 0);
+    let high = regions(low, 140737488355200, min, align, 65536 - 32 * min);
+    show(high, b'\n');
+}
+
+fn aligns(min: usize, max: usize)
+    requires { ⌜ (0 < min) × (min ≤ 8) × (max ≤ 64) ⌝ }
+{
+    let mut align = min;
+    while align <= max {
+        line(min, max, align);
+        align = align * 2;
+    }
+}
+
+fn maxes(min: usize)
+    requires { ⌜ (0 < min) × (min ≤ 8) ⌝ }
+{
+    let mut max = min;
+    while max <= 64 {
+        aligns(min, max);
+        max = max * 2;
+    }
+}
+
+fn main() {
+    show(bins(), b'\n');
+    maxes(4);
+    maxes(8);
+}
