@@ -1,2 +1,4 @@
 pub mod Lower
 pub mod Chains
+pub mod TakeCell
+pub mod Search

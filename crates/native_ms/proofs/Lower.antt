@@ -11,7 +11,7 @@ use mir.Val.{SFits, toZ, ofZ}
 use mir.ValLaws.{toZ-ofZ}
 use borrow.Author.Tests.{leb-true, le-ltb}
 use Rattle.model.specs.declared.Params.{Params}
-use Rattle.model.specs.Params.{lowerOk, biased, plusLower}
+use Rattle.model.specs.Params.{lowerOk, biased, plusLower, minusLower}
 use Rattle.laws.specs.Below.{and-right}
 
 small : (l : ℤ) → lowerOk l ≡ true → mag l ≤ 64
@@ -49,7 +49,7 @@ module _ (l : ℤ) (e : lowerOk l ≡ true) where
   pub sum-back : toZ w64 (ofZ w64 (toZ w64 (ofZ w64 l) +ℤ pos 64)) ≡ pos (biased l)
   sum-back = toZ-ofZ w64 (toZ w64 (ofZ w64 l) +ℤ pos 64) sum-fits ∙ sum
 
--- ---- a + L
+-- ---- a + L and a − L
 
 module _ (p : Params) (a : ℕ) {v : ℕ} (e : v ≡ biased (p .lower)) where
   pub plus-low : a + v < 64 → 0 ≡ plusLower p a
@@ -59,3 +59,11 @@ module _ (p : Params) (a : ℕ) {v : ℕ} (e : v ≡ biased (p .lower)) where
   pub plus-high : 64 ≤ a + v → a + v - 64 ≡ plusLower p a
   unfolding plusLower
   plus-high l = omega arith
+
+  pub minus-low : a + 64 < v → 0 ≡ minusLower p a
+  unfolding minusLower
+  minus-low l = omega arith
+
+  pub minus-high : a + 64 - v ≡ minusLower p a
+  unfolding minusLower
+  minus-high = omega arith

@@ -5,3 +5,4 @@ pub mod SoundWalk
 pub mod SoundLaws
 pub mod SoundTests
 pub mod Promise
+pub mod Closing

@@ -5,7 +5,7 @@ ghost use mathlib.Core.Path.{_≡_};
 ghost use mathlib.Core.Bool.{true};
 ghost use Prim.Native.Nat.{_^_, _<_, _≤_};
 ghost use Rattle.model.specs.Params.{goodParams};
-ghost use Rattle.model.specs.SizeClasses.{raised, alignAllocation};
+ghost use Rattle.model.specs.SizeClasses.{alignAllocation};
 ghost use Rattle.model.specs.Calls.{goodRequest};
 ghost use Rattle.native_ms.specs.Raised.{raisedTo, shiftedTo};
 

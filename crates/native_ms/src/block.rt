@@ -1,5 +1,5 @@
-// A block: its cells, the two sweeps and the choice between them, init and release. Named after the Rust's block.rs, with
-// `init_block` of free_list_allocator.rs.
+// A block: its cells, the two sweeps and the choice between them, init, the taking of a cell, release. Named after the
+// Rust's block.rs, with `init_block` and `block_alloc` of free_list_allocator.rs.
 use crate::address;
 use crate::memory;
 use crate::sound;
@@ -12,15 +12,19 @@ ghost use mathlib.Core.Path.{_≡_};
 ghost use mathlib.Core.Bool.{true, false};
 ghost use Prim.Native.Nat.{_+_, _*_, _^_, _≤_};
 ghost use Rattle.model.specs.Base.{anyBelow};
-ghost use Rattle.model.specs.Params.{goodParams, lowerOk, biased, plusLower};
+ghost use Rattle.model.specs.Params.{goodParams, lowerOk, biased, plusLower, minusLower};
 ghost use Rattle.model.specs.Memory.{marked};
 ghost use Rattle.model.specs.SizeClasses.{wordsIn};
 ghost use Rattle.model.specs.Tables.{view};
 ghost use Rattle.model.specs.Block.{simple, cellCount, cellsDown};
 ghost use Rattle.native_ms.specs.Block.{keptBy, Room, Linked, SweptBy, Swept, Initialised, Cleared, took, takeFree};
 
-// Block::is_unallocated and the like compare a state byte with these.
+// State bytes.
 pub(crate) const UNALLOCATED: u8 = 0;
+
+pub(crate) const UNMARKED: u8 = 255;
+
+pub(crate) const MARKED: u8 = 254;
 
 // The answer of the taking of a cell.
 pub(crate) enum Taken {
@@ -36,7 +40,7 @@ pub(crate) fn biased(l: i64) -> usize
     (l + 64) as usize
 }
 
-// A place by the address that it is marked for: a + L.
+// a + L: the place at which an object is marked whose reference lies L above a. L may be negative, so the sum is made first.
 fn plus_lower(p: Params, a: usize) -> Address
     requires { ⌜ (goodParams p ≡ true) × (a ≤ 2 ^ 60) ⌝ }
     ensures { λ r. ⌜ r .0 ≡ plusLower p a ⌝ }
@@ -46,6 +50,19 @@ fn plus_lower(p: Params, a: usize) -> Address
         return Address(0);
     }
     Address(v - 64)
+}
+
+// a − L, for a place.
+pub(crate) fn minus_lower(p: Params, a: usize) -> usize
+    requires { ⌜ (goodParams p ≡ true) × (a ≤ 2 ^ 60) ⌝ }
+    ensures { λ r. ⌜ r ≡ minusLower p a ⌝ }
+{
+    let l = biased(p.lower);
+    let v = a + 64;
+    if v < l {
+        return 0;
+    }
+    v - l
 }
 
 // Whether the simple sweep will do: a cell's address is that of its object.

@@ -7,3 +7,4 @@ mod memory;
 mod params;
 pub mod size_class;
 mod sound;
+pub mod free_list_allocator;

@@ -1,8 +1,8 @@
 // Size classes: the cell sizes of the bins, and the bin of a size.
 ghost use mathlib.Core.Path.{_≡_};
-ghost use Prim.Native.Nat.{ℕ, _+_, _-_, _*_, _/_, _^_, _<_, _≤_};
+ghost use Prim.Native.Nat.{_<_, _≤_};
 ghost use Rattle.model.specs.declared.Params.{Params};
-ghost use Rattle.model.specs.SizeClasses.{wordsIn, highestBit, binInOctave, cellBytes, binOf};
+ghost use Rattle.model.specs.SizeClasses.{binInOctave, cellBytes, binOf};
 
 // The cell sizes of bins 0 to 48, in words: each next four twice the four before.
 const CLASS_WORDS: [usize; 49] = [
@@ -77,11 +77,11 @@ fn bin_in_octave(n: usize) -> usize
     b * 4 + ((n >> (b - 2)) & 3) - 3
 }
 
-// The bin of a size in bytes; 0 past 65,536, where there is none.
+// The bin of a size in bytes; 0 past the largest class, where there is none.
 pub fn mi_bin_from_size(size: usize) -> usize
     ensures { λ r. ⌜ ((p : Params) → r ≡ binOf p size) ⌝ }
 {
-    if 65536 < size {
+    if CLASS_WORDS[48] * 8 < size {
         return 0;
     }
     let words = (size + 7) / 8;

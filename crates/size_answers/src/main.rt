@@ -7,7 +7,7 @@ use native_ms::allocator;
 use native_ms::allocator::Raised;
 use native_ms::allocator::Shifted;
 use native_ms::size_class;
-ghost use Prim.Native.Nat.{_+_, _*_, _<_, _≤_};
+ghost use Prim.Native.Nat.{_<_, _≤_};
 
 // The checksum h with one more number: h × 1,000,003 + x modulo a prime.
 fn mixed(h: usize, x: usize) -> usize

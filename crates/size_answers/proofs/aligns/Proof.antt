@@ -10,27 +10,21 @@ Inv-loop min max align₀ align = (0 < align) × (align ≤ 128)
 abbrev μ-loop : tie.MeasureT-loop
 μ-loop min max align₀ align = 129 - align
 
--- src/main.rt:132:5
 loop-holds : tie.Need-loop-holds Inv-loop μ-loop
 loop-holds c = search needs
 
--- src/main.rt:133:9
 line-requires : tie.Need-line-requires Inv-loop μ-loop
 line-requires c κs = search needs
 
--- src/main.rt:134:17
 mul-align : tie.Need-mul-align Inv-loop μ-loop
 mul-align c = search needs
 
--- src/main.rt:132:5
 loop-less : tie.Need-loop-less Inv-loop μ-loop
 loop-less c = search needs
 
--- src/main.rt:132:5
 loop-again : tie.Need-loop-again Inv-loop μ-loop
 loop-again c = search needs
 
--- src/main.rt:128:1
 returns : tie.Need-returns Inv-loop μ-loop
 returns c = search needs
 

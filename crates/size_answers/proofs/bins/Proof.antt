@@ -10,31 +10,24 @@ Inv-loop h₀ size₀ h size = (h < 4294967291) × (size ≤ 65545)
 abbrev μ-loop : tie.MeasureT-loop
 μ-loop h₀ size₀ h size = 65545 - size
 
--- src/main.rt:23:5
 loop-holds : tie.Need-loop-holds Inv-loop μ-loop
 loop-holds c = search needs
 
--- src/main.rt:24:22
 mi-bin-from-size-requires : tie.Need-mi-bin-from-size-requires Inv-loop μ-loop
 mi-bin-from-size-requires c κs = search needs
 
--- src/main.rt:24:9
 mixed-requires : tie.Need-mixed-requires Inv-loop μ-loop
 mixed-requires c κs = search needs
 
--- src/main.rt:25:16
 add-size : tie.Need-add-size Inv-loop μ-loop
 add-size c = search needs
 
--- src/main.rt:23:5
 loop-less : tie.Need-loop-less Inv-loop μ-loop
 loop-less c = search needs
 
--- src/main.rt:23:5
 loop-again : tie.Need-loop-again Inv-loop μ-loop
 loop-again c = search needs
 
--- src/main.rt:20:1
 returns : tie.Need-returns Inv-loop μ-loop
 returns c = search needs
 

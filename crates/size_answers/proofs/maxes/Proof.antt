@@ -10,27 +10,21 @@ Inv-loop min max₀ max = (0 < max) × (max ≤ 128)
 abbrev μ-loop : tie.MeasureT-loop
 μ-loop min max₀ max = 129 - max
 
--- src/main.rt:142:5
 loop-holds : tie.Need-loop-holds Inv-loop μ-loop
 loop-holds c = search needs
 
--- src/main.rt:143:9
 aligns-requires : tie.Need-aligns-requires Inv-loop μ-loop
 aligns-requires c κs = search needs
 
--- src/main.rt:144:15
 mul-max : tie.Need-mul-max Inv-loop μ-loop
 mul-max c = search needs
 
--- src/main.rt:142:5
 loop-less : tie.Need-loop-less Inv-loop μ-loop
 loop-less c = search needs
 
--- src/main.rt:142:5
 loop-again : tie.Need-loop-again Inv-loop μ-loop
 loop-again c = search needs
 
--- src/main.rt:138:1
 returns : tie.Need-returns Inv-loop μ-loop
 returns c = search needs
 

@@ -10,31 +10,24 @@ Inv-loop h region min align first g₀ offset₀ k₀ g offset k = (g < 42949672
 abbrev μ-loop : tie.MeasureT-loop
 μ-loop h region min align first g₀ offset₀ k₀ g offset k = 33 - k
 
--- src/main.rt:77:5
 loop-holds : tie.Need-loop-holds Inv-loop μ-loop
 loop-holds c = search needs
 
--- src/main.rt:78:9
 shifted-requires : tie.Need-shifted-requires Inv-loop μ-loop
 shifted-requires c κs = search needs
 
--- src/main.rt:79:18
 add-offset : tie.Need-add-offset Inv-loop μ-loop
 add-offset c = search needs
 
--- src/main.rt:80:13
 add-k : tie.Need-add-k Inv-loop μ-loop
 add-k c = search needs
 
--- src/main.rt:77:5
 loop-less : tie.Need-loop-less Inv-loop μ-loop
 loop-less c = search needs
 
--- src/main.rt:77:5
 loop-again : tie.Need-loop-again Inv-loop μ-loop
 loop-again c = search needs
 
--- src/main.rt:70:1
 returns : tie.Need-returns Inv-loop μ-loop
 returns c = search needs
 

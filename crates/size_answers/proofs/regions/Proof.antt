@@ -10,35 +10,27 @@ Inv-loop h from min align first g₀ k₀ g k = (g < 4294967291) × (k ≤ 16)
 abbrev μ-loop : tie.MeasureT-loop
 μ-loop h from min align first g₀ k₀ g k = 16 - k
 
--- src/main.rt:92:5
 loop-holds : tie.Need-loop-holds Inv-loop μ-loop
 loop-holds c = search needs
 
--- src/main.rt:93:31
 mul-offsets : tie.Need-mul-offsets Inv-loop μ-loop
 mul-offsets c = search needs
 
--- src/main.rt:93:24
 add-offsets : tie.Need-add-offsets Inv-loop μ-loop
 add-offsets c = search needs
 
--- src/main.rt:93:9
 offsets-requires : tie.Need-offsets-requires Inv-loop μ-loop
 offsets-requires c κs = search needs
 
--- src/main.rt:94:13
 add-k : tie.Need-add-k Inv-loop μ-loop
 add-k c = search needs
 
--- src/main.rt:92:5
 loop-less : tie.Need-loop-less Inv-loop μ-loop
 loop-less c = search needs
 
--- src/main.rt:92:5
 loop-again : tie.Need-loop-again Inv-loop μ-loop
 loop-again c = search needs
 
--- src/main.rt:86:1
 returns : tie.Need-returns Inv-loop μ-loop
 returns c = search needs
 

@@ -10,27 +10,21 @@ Inv-loop p min align h₀ size₀ h size = (h < 4294967291) × (size ≤ 65560)
 abbrev μ-loop : tie.MeasureT-loop
 μ-loop p min align h₀ size₀ h size = 65560 - size
 
--- src/main.rt:51:5
 loop-holds : tie.Need-loop-holds Inv-loop μ-loop
 loop-holds c = search needs
 
--- src/main.rt:52:9
 raised-requires : tie.Need-raised-requires Inv-loop μ-loop
 raised-requires c κs = search needs
 
--- src/main.rt:53:16
 add-size : tie.Need-add-size Inv-loop μ-loop
 add-size c = search needs
 
--- src/main.rt:51:5
 loop-less : tie.Need-loop-less Inv-loop μ-loop
 loop-less c = search needs
 
--- src/main.rt:51:5
 loop-again : tie.Need-loop-again Inv-loop μ-loop
 loop-again c = search needs
 
--- src/main.rt:46:1
 returns : tie.Need-returns Inv-loop μ-loop
 returns c = search needs
 

@@ -5,27 +5,21 @@ use borrow.Author.Needs.{needs}
 use Rattle.native_ms.proofs.allocator.align_allocation.Statement.{statement}
 use Rattle.native_ms.proofs.allocator.align_allocation.Tie as tie
 
--- src/allocator.rt:40:24
 add-result : tie.Need-add-result
 add-result c = search needs
 
--- src/allocator.rt:40:23
 rem-result : tie.Need-rem-result
 rem-result c = search needs
 
--- src/allocator.rt:40:15
 sub-result : tie.Need-sub-result
 sub-result c = rest-within _ _ _ (c .pre .0)
 
--- src/allocator.rt:40:14
 rem-result-2 : tie.Need-rem-result-2
 rem-result-2 c = search needs
 
--- src/allocator.rt:40:5
 add-result-2 : tie.Need-add-result-2
 add-result-2 c = record { fits = omega (arith, shift-within (c .args .region) (c .args .align) (c .args .offset) (c .pre .0)) }
 
--- src/allocator.rt:36:1
 returns : tie.Need-returns
 returns c = shifted _ _ _ (c .pre .0)
 

@@ -4,31 +4,25 @@ use borrow.Author.Needs.{needs}
 use Rattle.native_ms.proofs.allocator.shift_address.Statement.{statement}
 use Rattle.native_ms.proofs.allocator.shift_address.Tie as tie
 
--- src/allocator.rt:53:9
 --@ returns c = shifted-none _ _ _ (@if1 .taken)
 returns : tie.Need-returns
 returns c = shifted-none _ _ _ (c .if1 .taken)
 
--- src/allocator.rt:56:9
 --@ returns-2 c = shifted-wide _ _ _ (@if1 .left) (@if2 .taken)
 returns-2 : tie.Need-returns-2
 returns-2 c = shifted-wide _ _ _ (c .before .if1 .left) (c .if2 .taken)
 
--- src/allocator.rt:59:9
 --@ returns-3 c = shifted-far _ _ _ (@if1 .left) (@if2 .left) (@if3 .taken)
 returns-3 : tie.Need-returns-3
 returns-3 c = shifted-far _ _ _ (c .before .before .if1 .left) (c .before .if2 .left) (c .if3 .taken)
 
--- src/allocator.rt:62:9
 --@ returns-4 c = shifted-off _ _ _ (@if1 .left) (@if2 .left) (@if3 .left) (@if4 .taken)
 returns-4 : tie.Need-returns-4
 returns-4 c = shifted-off _ _ _ (c .before .before .before .if1 .left) (c .before .before .if2 .left) (c .before .if3 .left) (c .if4 .taken)
 
--- src/allocator.rt:64:17
 align-allocation-requires : tie.Need-align-allocation-requires
 align-allocation-requires c κs = search needs
 
--- src/allocator.rt:49:1
 --@ returns-5 c = shifted-at _ _ _ (@if1 .left) (@if2 .left) (@if3 .left) (@if4 .left) (@align-allocation .ensures)
 returns-5 : tie.Need-returns-5
 returns-5 c = shifted-at _ _ _ (c .before .before .before .before .if1 .left) (c .before .before .before .if2 .left) (c .before .before .if3 .left) (c .before .if4 .left) (c .align-allocation .ensures)

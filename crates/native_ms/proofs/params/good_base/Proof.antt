@@ -5,27 +5,21 @@ use borrow.Author.Needs.{needs}
 use Rattle.native_ms.proofs.params.good_base.Statement.{statement}
 use Rattle.native_ms.proofs.params.good_base.Tie as tie
 
--- src/params.rt:106:9
 returns : tie.Need-returns
 returns c = placed-none _ _ _ (c .if1 .taken)
 
--- src/params.rt:108:8
 rem-if2 : tie.Need-rem-if2
 rem-if2 c = search needs
 
--- src/params.rt:109:9
 returns-2 : tie.Need-returns-2
 returns-2 c = placed-off _ _ _ (c .if2 .taken)
 
--- src/params.rt:111:31
 mul-result : tie.Need-mul-result
 mul-result c = record { fits = omega (arith, heap-small _ _ (c .before .before .pre .1) (c .before .before .pre .2)) }
 
--- src/params.rt:111:13
 sub-result : tie.Need-sub-result
 sub-result c = omega (arith, heap-small _ _ (c .before .before .pre .1) (c .before .before .pre .2))
 
--- src/params.rt:101:1
 returns-3 : tie.Need-returns-3
 returns-3 c = placed-in _ _ _ (heap-small _ _ (c .before .before .pre .1) (c .before .before .pre .2)) (c .before .if1 .left) (c .if2 .left)
 

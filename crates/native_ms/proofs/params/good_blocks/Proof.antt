@@ -3,11 +3,9 @@ use borrow.Author.Tests.{le-leb, lt-leb}
 use Rattle.native_ms.proofs.params.good_blocks.Statement.{statement}
 use Rattle.native_ms.proofs.params.good_blocks.Tie as tie
 
--- src/params.rt:95:9
 returns : tie.Need-returns
 returns c = rw (lt-leb 1 _ (c .if1 .taken))
 
--- src/params.rt:91:1
 returns-2 : tie.Need-returns-2
 returns-2 c = rw (le-leb 1 _ (c .if1 .left))
 

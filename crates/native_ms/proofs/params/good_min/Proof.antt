@@ -3,11 +3,9 @@ use borrow.Author.Tests.{eq-eqb, ne-eqb}
 use Rattle.native_ms.proofs.params.good_min.Statement.{statement}
 use Rattle.native_ms.proofs.params.good_min.Tie as tie
 
--- src/params.rt:29:9
 returns : tie.Need-returns
 returns c = rw (eq-eqb _ _ (c .if1 .taken))
 
--- src/params.rt:25:1
 returns-2 : tie.Need-returns-2
 returns-2 c = rw (ne-eqb _ _ (c .if1 .left))
 

@@ -4,35 +4,27 @@ use Rattle.laws.specs.Good.{good, heap-small, lengths-words, lengths-states, le
 use Rattle.native_ms.proofs.params.lengths_fit.Statement.{statement}
 use Rattle.native_ms.proofs.params.lengths_fit.Tie as tie
 
--- src/params.rt:149:24
 mul-if1 : tie.Need-mul-if1
 mul-if1 c = record { fits = omega (arith, good _ (c .pre) .blocks-to) }
 
--- src/params.rt:149:17
 add-if1 : tie.Need-add-if1
 add-if1 c = record { fits = omega (arith, good _ (c .pre) .blocks-to) }
 
--- src/params.rt:150:9
 returns : tie.Need-returns
 returns c = lengths-words _ _ _ _ _ (c .if1 .taken)
 
--- src/params.rt:153:9
 returns-2 : tie.Need-returns-2
 returns-2 c = lengths-states _ _ _ _ _ (c .before .if1 .left) (c .if2 .taken)
 
--- src/params.rt:155:17
 mul-if3 : tie.Need-mul-if3
 mul-if3 c = record { fits = omega (arith, heap-small _ _ (good _ (c .before .before .pre) .bytes-to) (good _ (c .before .before .pre) .blocks-to)) }
 
--- src/params.rt:156:9
 returns-3 : tie.Need-returns-3
 returns-3 c = lengths-marks _ _ _ _ _ (c .before .before .if1 .left) (c .before .if2 .left) (c .if3 .taken)
 
--- src/params.rt:158:13
 mul-result : tie.Need-mul-result
 mul-result c = record { fits = omega (arith, heap-small _ _ (good _ (c .before .before .before .pre) .bytes-to) (good _ (c .before .before .before .pre) .blocks-to)) }
 
--- src/params.rt:143:1
 returns-4 : tie.Need-returns-4
 returns-4 c = lengths-heap _ _ _ _ _ (c .before .before .if1 .left) (c .before .if2 .left) (c .if3 .left)
 

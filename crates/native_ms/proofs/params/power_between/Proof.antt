@@ -4,19 +4,15 @@ use borrow.Author.Needs.{needs}
 use Rattle.native_ms.proofs.params.power_between.Statement.{statement}
 use Rattle.native_ms.proofs.params.power_between.Tie as tie
 
--- src/params.rt:39:9
 returns : tie.Need-returns
 returns c = between-under _ _ _ (c .if1 .taken)
 
--- src/params.rt:42:9
 returns-2 : tie.Need-returns-2
 returns-2 c = between-over _ _ _ (c .if2 .taken)
 
--- src/params.rt:44:5
 power-of-two-requires : tie.Need-power-of-two-requires
 power-of-two-requires c κs = search needs
 
--- src/params.rt:35:1
 returns-3 : tie.Need-returns-3
 returns-3 c = between-in _ _ _ (c .before .before .if1 .left) (c .before .if2 .left) (c .power-of-two .ensures)
 

@@ -17,28 +17,22 @@ Inv-loop x k₀ v₀ k v = (v ≡ 2 ^ k) × (anyBelow k (λ j. eqb x (2 ^ j)) �
 abbrev μ-loop : tie.MeasureT-loop
 μ-loop x k₀ v₀ k v = k
 
--- src/params.rt:15:5
 loop-holds : tie.Need-loop-holds Inv-loop μ-loop
 unfolding powerOfTwo
 loop-holds c = (refl, refl)
 
--- src/params.rt:16:13
 sub-k : tie.Need-sub-k Inv-loop μ-loop
 sub-k c = omega arith
 
--- src/params.rt:19:13
 returns : tie.Need-returns Inv-loop μ-loop
 returns c = sym (sym (c .before .before .loop .inv .1) ∙ power-hit _ _ _ (c .before .loop-test .taken) (c .before .before .loop .inv .0) (c .if1 .taken))
 
--- src/params.rt:15:5
 loop-less : tie.Need-loop-less Inv-loop μ-loop
 loop-less c = falls-down _ (c .before .loop-test .taken)
 
--- src/params.rt:15:5
 loop-again : tie.Need-loop-again Inv-loop μ-loop
 loop-again c = (half-power _ _ (c .before .loop-test .taken) (c .before .before .loop .inv .0), power-miss _ _ _ (c .before .loop-test .taken) (c .before .before .loop .inv .0) (c .if1 .left) ∙ c .before .before .loop .inv .1)
 
--- src/params.rt:10:1
 returns-2 : tie.Need-returns-2 Inv-loop μ-loop
 returns-2 c = sym (any-none _ _ (c .loop-test .left)) ∙ c .before .loop .inv .1
 

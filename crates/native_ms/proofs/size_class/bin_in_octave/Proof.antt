@@ -8,35 +8,27 @@ use Rattle.laws.specs.Requests.{octave, octave-bin}
 use Rattle.native_ms.proofs.size_class.bin_in_octave.Statement.{statement}
 use Rattle.native_ms.proofs.size_class.bin_in_octave.Tie as tie
 
--- src/size_class.rt:29:18
 cast-b : tie.Need-cast-b
 cast-b c = omega (arith, octave _ (c .pre .0) (c .pre .1) .zeros-to)
 
--- src/size_class.rt:29:13
 sub-b : tie.Need-sub-b
 sub-b c = omega (arith, octave _ (c .pre .0) (c .pre .1) .zeros-to)
 
--- src/size_class.rt:30:5
 mul-result : tie.Need-mul-result
 mul-result c = omega (arith, octave _ (c .pre .0) (c .pre .1) .zeros-from)
 
--- src/size_class.rt:30:21
 sub-result : tie.Need-sub-result
 sub-result c = omega (arith, octave _ (c .pre .0) (c .pre .1) .zeros-to)
 
--- src/size_class.rt:30:15
 shr-result : tie.Need-shr-result
 shr-result c = omega (arith, octave _ (c .pre .0) (c .pre .1) .zeros-from)
 
--- src/size_class.rt:30:5
 add-result : tie.Need-add-result
 add-result c = record { fits = omega (arith, mask-lt (c .args .n / 2 ^ (63 - leadingZeros 64 (c .args .n) - 2)) 2) }
 
--- src/size_class.rt:30:5
 sub-result-2 : tie.Need-sub-result-2
 sub-result-2 c = omega (arith, octave _ (c .pre .0) (c .pre .1) .zeros-to)
 
--- src/size_class.rt:24:1
 returns : tie.Need-returns
 returns c = octave-bin _ refl
 

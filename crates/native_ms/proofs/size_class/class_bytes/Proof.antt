@@ -10,27 +10,22 @@ use borrow.Author.Needs.{needs}
 use Rattle.native_ms.proofs.size_class.class_bytes.Statement.{statement}
 use Rattle.native_ms.proofs.size_class.class_bytes.Tie as tie
 
--- src/size_class.rt:18:16
 mul-result : tie.Need-mul-result
 mul-result c = search needs
 
--- src/size_class.rt:18:16
 array-read-result : tie.Need-array-read-result
 array-read-result c = search needs
 
--- src/size_class.rt:18:16
 --@ mul-result-2 c = record { fits = omega (arith, cellBytes-most censusParams (@if1 .taken)) }
 mul-result-2 : tie.Need-mul-result-2
 unfolding cellBytes classWords fours
 mul-result-2 c = record { fits = omega (arith, cellBytes-most censusParams (c .if1 .taken)) }
 
--- src/size_class.rt:18:9
 --@ returns c = λ p. mul-comm (getD classWords (@args .bin) 0) 8
 returns : tie.Need-returns
 unfolding cellBytes classWords fours
 returns c = λ p. mul-comm (getD classWords (c .before .args .bin) 0) 8
 
--- src/size_class.rt:14:1
 returns-2 : tie.Need-returns-2
 returns-2 c = λ p. sym (cellBytes-past p _ (c .if1 .left))
 

@@ -1,4 +1,4 @@
--- `size_class::mi_bin_from_size` meets its contract, by its tests.
+-- `size_class::mi_bin_from_size` meets its contract, by its tests. The largest class is 65,536 bytes.
 use mathlib.Core.Path.{refl}
 use Rattle.model.specs.SizeClasses.{wordsIn}
 use Rattle.laws.specs.Requests.{bin-none, bin-one, bin-few, bin-many}
@@ -6,33 +6,36 @@ use borrow.Author.Needs.{needs}
 use Rattle.native_ms.proofs.size_class.mi_bin_from_size.Statement.{statement}
 use Rattle.native_ms.proofs.size_class.mi_bin_from_size.Tie as tie
 
--- src/size_class.rt:38:9
+array-read-if1 : tie.Need-array-read-if1
+array-read-if1 c = search needs
+
+mul-if1 : tie.Need-mul-if1
+mul-if1 c = search needs
+
+--@ returns c = bin-none _ (@if1 .taken)
 returns : tie.Need-returns
 returns c = bin-none _ (c .if1 .taken)
 
--- src/size_class.rt:40:18
 add-words : tie.Need-add-words
 add-words c = search needs
 
--- src/size_class.rt:42:9
+--@ returns-2 c = bin-one _ (@if1 .left) refl (@if2 .taken)
 returns-2 : tie.Need-returns-2
 unfolding wordsIn
 returns-2 c = bin-one _ (c .before .if1 .left) refl (c .if2 .taken)
 
--- src/size_class.rt:45:9
+--@ returns-3 c = bin-few _ (@if1 .left) refl (@if2 .left) (@if3 .taken)
 returns-3 : tie.Need-returns-3
 unfolding wordsIn
 returns-3 c = bin-few _ (c .before .before .if1 .left) refl (c .before .if2 .left) (c .if3 .taken)
 
--- src/size_class.rt:47:19
 sub-bin-in-octave : tie.Need-sub-bin-in-octave
 sub-bin-in-octave c = search needs
 
--- src/size_class.rt:47:5
 bin-in-octave-requires : tie.Need-bin-in-octave-requires
 bin-in-octave-requires c κs = search needs
 
--- src/size_class.rt:34:1
+--@ returns-4 c = bin-many _ (@if1 .left) refl (@if2 .left) (@if3 .left) (@bin-in-octave .ensures)
 returns-4 : tie.Need-returns-4
 unfolding wordsIn
 returns-4 c = bin-many _ (c .before .before .before .if1 .left) refl (c .before .before .if2 .left) (c .before .if3 .left) (c .bin-in-octave .ensures)
@@ -41,6 +44,8 @@ pub mi-bin-from-size-spec : {M : Type 1} → statement M
 mi-bin-from-size-spec =
     tie.close
     (tie.spec
+    array-read-if1
+    mul-if1
     returns
     add-words
     returns-2

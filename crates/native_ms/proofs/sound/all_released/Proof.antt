@@ -16,38 +16,30 @@ Inv-loop w k₀ k = allBelow k (notDue (view w)) ≡ allBelow k₀ (notDue (view
 abbrev μ-loop : tie.MeasureT-loop
 μ-loop w k₀ k = k
 
--- src/sound.rt:435:5
 loop-holds : tie.Need-loop-holds Inv-loop μ-loop
 loop-holds c = refl
 
--- src/sound.rt:436:13
 not-due-requires : tie.Need-not-due-requires Inv-loop μ-loop
 not-due-requires c κs = search needs
 
--- src/sound.rt:437:13
 --@ returns c = all-due _ (sym (@loop .inv) ∙ all-stop _ _ (@loop-test .taken) (due-at _ _ (@loop-test .taken) (@not-due .ensures) ∙ (not-true _ (@if1 .taken))))
 returns : tie.Need-returns Inv-loop μ-loop
 returns c = all-due _ (sym (c .before .before .before .loop .inv) ∙ all-stop _ _ (c .before .before .loop-test .taken) (due-at _ _ (c .before .before .loop-test .taken) (c .before .not-due .ensures) ∙ (not-true _ (c .if1 .taken))))
 
--- src/sound.rt:439:13
 sub-k : tie.Need-sub-k Inv-loop μ-loop
 sub-k c = search needs
 
--- src/sound.rt:435:5
 --@ loop-less c = falls-down _ (@loop-test .taken)
 loop-less : tie.Need-loop-less Inv-loop μ-loop
 loop-less c = falls-down _ (c .before .before .loop-test .taken)
 
--- src/sound.rt:435:5
 --@ loop-again c = all-step _ _ (@loop-test .taken) (due-at _ _ (@loop-test .taken) (@not-due .ensures) ∙ (not-false _ (@if1 .left))) ∙ @loop .inv
 loop-again : tie.Need-loop-again Inv-loop μ-loop
 loop-again c = all-step _ _ (c .before .before .loop-test .taken) (due-at _ _ (c .before .before .loop-test .taken) (c .before .not-due .ensures) ∙ (not-false _ (c .if1 .left))) ∙ c .before .before .before .loop .inv
 
--- src/sound.rt:441:5
 has-released-requires : tie.Need-has-released-requires Inv-loop μ-loop
 has-released-requires c κs = search needs
 
--- src/sound.rt:431:1
 --@ returns-2 c = none-due _ (sym (@loop .inv) ∙ all-end _ _ (@loop-test .left)) (@has-released .ensures)
 returns-2 : tie.Need-returns-2 Inv-loop μ-loop
 returns-2 c = none-due _ (sym (c .before .before .loop .inv) ∙ all-end _ _ (c .before .loop-test .left)) (c .has-released .ensures)

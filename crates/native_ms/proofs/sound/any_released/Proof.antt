@@ -15,34 +15,27 @@ Inv-loop w k₀ k = anyBelow k (hasReleased (view w)) ≡ anyBelow k₀ (hasRele
 abbrev μ-loop : tie.MeasureT-loop
 μ-loop w k₀ k = k
 
--- src/sound.rt:411:5
 loop-holds : tie.Need-loop-holds Inv-loop μ-loop
 loop-holds c = refl
 
--- src/sound.rt:412:13
 sub-k : tie.Need-sub-k Inv-loop μ-loop
 sub-k c = search needs
 
--- src/sound.rt:413:12
 has-released-requires : tie.Need-has-released-requires Inv-loop μ-loop
 has-released-requires c κs = search needs
 
--- src/sound.rt:414:13
 --@ returns c = sym (sym (@loop .inv) ∙ any-stop _ _ (@loop-test .taken) (sym (@has-released .ensures) ∙ (@if1 .taken)))
 returns : tie.Need-returns Inv-loop μ-loop
 returns c = sym (sym (c .before .before .before .loop .inv) ∙ any-stop _ _ (c .before .before .loop-test .taken) (sym (c .before .has-released .ensures) ∙ (c .if1 .taken)))
 
--- src/sound.rt:411:5
 --@ loop-less c = falls-down _ (@loop-test .taken)
 loop-less : tie.Need-loop-less Inv-loop μ-loop
 loop-less c = falls-down _ (c .before .before .loop-test .taken)
 
--- src/sound.rt:411:5
 --@ loop-again c = any-step _ _ (@loop-test .taken) (sym (@has-released .ensures) ∙ (@if1 .left)) ∙ @loop .inv
 loop-again : tie.Need-loop-again Inv-loop μ-loop
 loop-again c = any-step _ _ (c .before .before .loop-test .taken) (sym (c .before .has-released .ensures) ∙ (c .if1 .left)) ∙ c .before .before .before .loop .inv
 
--- src/sound.rt:407:1
 --@ returns-2 c = sym (any-none _ _ (@loop-test .left)) ∙ @loop .inv
 returns-2 : tie.Need-returns-2 Inv-loop μ-loop
 returns-2 c = sym (any-none _ _ (c .loop-test .left)) ∙ c .before .loop .inv

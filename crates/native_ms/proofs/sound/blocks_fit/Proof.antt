@@ -16,35 +16,28 @@ Inv-loop p w st k₀ k = allBelow k (blockFits p (view w) st) ≡ allBelow k₀ 
 abbrev μ-loop : tie.MeasureT-loop
 μ-loop p w st k₀ k = k
 
--- src/sound.rt:187:5
 loop-holds : tie.Need-loop-holds Inv-loop μ-loop
 loop-holds c = refl
 
--- src/sound.rt:188:13
 sub-k : tie.Need-sub-k Inv-loop μ-loop
 sub-k c = search needs
 
--- src/sound.rt:189:13
 --@ block-fits-requires c κs = @pre
 block-fits-requires : tie.Need-block-fits-requires Inv-loop μ-loop
 block-fits-requires c κs = (c .before .before .before .before .pre)
 
--- src/sound.rt:190:13
 --@ returns c = sym (sym (@loop .inv) ∙ all-stop _ _ (@loop-test .taken) (sym (@block-fits .ensures) ∙ (not-true _ (@if1 .taken))))
 returns : tie.Need-returns Inv-loop μ-loop
 returns c = sym (sym (c .before .before .before .loop .inv) ∙ all-stop _ _ (c .before .before .loop-test .taken) (sym (c .before .block-fits .ensures) ∙ (not-true _ (c .if1 .taken))))
 
--- src/sound.rt:187:5
 --@ loop-less c = falls-down _ (@loop-test .taken)
 loop-less : tie.Need-loop-less Inv-loop μ-loop
 loop-less c = falls-down _ (c .before .before .loop-test .taken)
 
--- src/sound.rt:187:5
 --@ loop-again c = all-step _ _ (@loop-test .taken) (sym (@block-fits .ensures) ∙ (not-false _ (@if1 .left))) ∙ @loop .inv
 loop-again : tie.Need-loop-again Inv-loop μ-loop
 loop-again c = all-step _ _ (c .before .before .loop-test .taken) (sym (c .before .block-fits .ensures) ∙ (not-false _ (c .if1 .left))) ∙ c .before .before .before .loop .inv
 
--- src/sound.rt:182:1
 --@ returns-2 c = sym (all-end _ _ (@loop-test .left)) ∙ @loop .inv
 returns-2 : tie.Need-returns-2 Inv-loop μ-loop
 returns-2 c = sym (all-end _ _ (c .loop-test .left)) ∙ c .before .loop .inv

@@ -4,16 +4,13 @@ use borrow.Author.Needs.{needs}
 use Rattle.native_ms.proofs.sound.closed.Statement.{statement}
 use Rattle.native_ms.proofs.sound.closed.Tie as tie
 
--- src/sound.rt:239:9
 last-requires : tie.Need-last-requires
 last-requires c κs = search needs
 
--- src/sound.rt:241:9
 --@ returns c = closed-here _ _ _ _ (@last .ensures) (@if1 .taken)
 returns : tie.Need-returns
 returns c = closed-here _ _ _ _ (c .before .last .ensures) (c .if1 .taken)
 
--- src/sound.rt:236:1
 --@ returns-2 c = closed-off _ _ _ _ (@last .ensures) (@if1 .left)
 returns-2 : tie.Need-returns-2
 returns-2 c = closed-off _ _ _ _ (c .before .last .ensures) (c .if1 .left)

@@ -4,11 +4,9 @@ use borrow.Author.Needs.{needs}
 use Rattle.native_ms.proofs.sound.has_released.Statement.{statement}
 use Rattle.native_ms.proofs.sound.has_released.Tie as tie
 
--- src/sound.rt:323:5
 released-requires : tie.Need-released-requires
 released-requires c κs = search needs
 
--- src/sound.rt:320:1
 --@ returns c = released-word _ _ (@released .ensures)
 returns : tie.Need-returns
 returns c = released-word _ _ (c .released .ensures)

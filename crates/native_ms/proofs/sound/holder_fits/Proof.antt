@@ -5,54 +5,42 @@ use borrow.Author.Needs.{needs}
 use Rattle.native_ms.proofs.sound.holder_fits.Statement.{statement}
 use Rattle.native_ms.proofs.sound.holder_fits.Tie as tie
 
--- src/sound.rt:347:9
 bound-requires : tie.Need-bound-requires
 bound-requires c κs = search needs
 
--- src/sound.rt:349:9
 --@ returns c = holder-flag _ _ (@bound .ensures) (@if1 .taken)
 returns : tie.Need-returns
 returns c = holder-flag _ _ (c .before .bound .ensures) (c .if1 .taken)
 
--- src/sound.rt:351:13
 add-h : tie.Need-add-h
 add-h c = search needs
 
--- src/sound.rt:352:9
 is-bound-requires : tie.Need-is-bound-requires
 is-bound-requires c κs = search needs
 
--- src/sound.rt:353:31
 mul-owner-empty : tie.Need-mul-owner-empty
 mul-owner-empty c = search needs
 
--- src/sound.rt:353:9
 owner-empty-requires : tie.Need-owner-empty-requires
 owner-empty-requires c κs = search needs
 
--- src/sound.rt:353:9
 --@ returns-2 c = holder-off _ _ (@bound .ensures) (@if1 .left) (@is-bound .ensures) (not-true _ (@if2 .taken)) (@owner-empty .ensures)
 returns-2 : tie.Need-returns-2
 returns-2 c = holder-off _ _ (c .before .before .before .before .bound .ensures) (c .before .before .before .if1 .left) (c .before .before .is-bound .ensures) (not-true _ (c .before .if2 .taken)) (c .owner-empty .ensures)
 
--- src/sound.rt:355:9
 has-released-requires : tie.Need-has-released-requires
 has-released-requires c κs = search needs
 
--- src/sound.rt:356:9
 --@ returns-3 c = holder-on _ _ (@bound .ensures) (@if1 .left) (@is-bound .ensures) (not-false _ (@if2 .left)) (@has-released .ensures) (not-true _ (@if3 .taken))
 returns-3 : tie.Need-returns-3
 returns-3 c = holder-on _ _ (c .before .before .before .before .before .bound .ensures) (c .before .before .before .before .if1 .left) (c .before .before .before .is-bound .ensures) (not-false _ (c .before .before .if2 .left)) (c .before .has-released .ensures) (not-true _ (c .if3 .taken))
 
--- src/sound.rt:358:20
 mul-owner-empty-2 : tie.Need-mul-owner-empty-2
 mul-owner-empty-2 c = search needs
 
--- src/sound.rt:358:5
 owner-empty-requires-2 : tie.Need-owner-empty-requires-2
 owner-empty-requires-2 c κs = search needs
 
--- src/sound.rt:343:1
 --@ returns-4 c = holder-done _ _ (@bound .ensures) (@if1 .left) (@is-bound .ensures) (not-false _ (@if2 .left)) (@has-released .ensures) (not-false _ (@if3 .left)) (@owner-empty2 .ensures)
 returns-4 : tie.Need-returns-4
 returns-4 c = holder-done _ _ (c .before .before .before .before .before .before .bound .ensures) (c .before .before .before .before .before .if1 .left) (c .before .before .before .before .is-bound .ensures) (not-false _ (c .before .before .before .if2 .left)) (c .before .before .has-released .ensures) (not-false _ (c .before .if3 .left)) (c .owner-empty2 .ensures)

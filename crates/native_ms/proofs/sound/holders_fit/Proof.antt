@@ -18,35 +18,28 @@ Inv-loop w k₀ k = (k ≤ 8) × (allBelow k (holderFits (view w)) ≡ allBelow 
 abbrev μ-loop : tie.MeasureT-loop
 μ-loop w k₀ k = k
 
--- src/sound.rt:364:5
 loop-holds : tie.Need-loop-holds Inv-loop μ-loop
 loop-holds c = (omega arith, refl)
 
--- src/sound.rt:365:13
 sub-k : tie.Need-sub-k Inv-loop μ-loop
 sub-k c = search needs
 
--- src/sound.rt:366:13
 --@ holder-fits-requires c κs = omega (arith, @loop .inv .0, @loop-test .taken)
 holder-fits-requires : tie.Need-holder-fits-requires Inv-loop μ-loop
 holder-fits-requires c κs = omega (arith, c .before .loop .inv .0, c .loop-test .taken)
 
--- src/sound.rt:367:13
 --@ returns c = sym (sym (@loop .inv .1) ∙ all-stop _ _ (@loop-test .taken) (sym (@holder-fits .ensures) ∙ (not-true _ (@if1 .taken))))
 returns : tie.Need-returns Inv-loop μ-loop
 returns c = sym (sym (c .before .before .before .loop .inv .1) ∙ all-stop _ _ (c .before .before .loop-test .taken) (sym (c .before .holder-fits .ensures) ∙ (not-true _ (c .if1 .taken))))
 
--- src/sound.rt:364:5
 --@ loop-less c = falls-down _ (@loop-test .taken)
 loop-less : tie.Need-loop-less Inv-loop μ-loop
 loop-less c = falls-down _ (c .before .before .loop-test .taken)
 
--- src/sound.rt:364:5
 --@ loop-again c = (omega (arith, @loop .inv .0, @loop-test .taken), all-step _ _ (@loop-test .taken) (sym (@holder-fits .ensures) ∙ (not-false _ (@if1 .left))) ∙ @loop .inv .1)
 loop-again : tie.Need-loop-again Inv-loop μ-loop
 loop-again c = (omega (arith, c .before .before .before .loop .inv .0, c .before .before .loop-test .taken), all-step _ _ (c .before .before .loop-test .taken) (sym (c .before .holder-fits .ensures) ∙ (not-false _ (c .if1 .left))) ∙ c .before .before .before .loop .inv .1)
 
--- src/sound.rt:360:1
 --@ returns-2 c = sym (all-end _ _ (@loop-test .left)) ∙ @loop .inv .1
 returns-2 : tie.Need-returns-2 Inv-loop μ-loop
 returns-2 c = sym (all-end _ _ (c .loop-test .left)) ∙ c .before .loop .inv .1

@@ -4,20 +4,16 @@ use borrow.Author.Needs.{needs}
 use Rattle.native_ms.proofs.sound.in_gc_empty.Statement.{statement}
 use Rattle.native_ms.proofs.sound.in_gc_empty.Tie as tie
 
--- src/sound.rt:460:9
 phase-requires : tie.Need-phase-requires
 phase-requires c κs = search needs
 
--- src/sound.rt:462:9
 --@ returns c = gc-releasing _ (@phase .ensures) (@if1 .taken)
 returns : tie.Need-returns
 returns c = gc-releasing _ (c .before .phase .ensures) (c .if1 .taken)
 
--- src/sound.rt:464:5
 owner-empty-requires : tie.Need-owner-empty-requires
 owner-empty-requires c κs = search needs
 
--- src/sound.rt:457:1
 --@ returns-2 c = gc-empty _ (@phase .ensures) (@if1 .left) (@owner-empty .ensures)
 returns-2 : tie.Need-returns-2
 returns-2 c = gc-empty _ (c .before .before .phase .ensures) (c .before .if1 .left) (c .owner-empty .ensures)

@@ -3,12 +3,10 @@ use borrow.Author.Tests.{eq-eqb, ne-eqb}
 use Rattle.native_ms.proofs.sound.in_use.Statement.{statement}
 use Rattle.native_ms.proofs.sound.in_use.Tie as tie
 
--- src/sound.rt:94:9
 --@ returns c = rw (eq-eqb _ _ (@if1 .taken))
 returns : tie.Need-returns
 returns c = rw (eq-eqb _ _ (c .if1 .taken))
 
--- src/sound.rt:90:1
 --@ returns-2 c = rw (ne-eqb _ _ (@if1 .left))
 returns-2 : tie.Need-returns-2
 returns-2 c = rw (ne-eqb _ _ (c .if1 .left))

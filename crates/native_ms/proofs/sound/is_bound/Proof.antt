@@ -4,21 +4,17 @@ use borrow.Author.Needs.{needs}
 use Rattle.native_ms.proofs.sound.is_bound.Statement.{statement}
 use Rattle.native_ms.proofs.sound.is_bound.Tie as tie
 
--- src/sound.rt:312:9
 --@ returns c = bound-none _ _ (@if1 .taken)
 returns : tie.Need-returns
 returns c = bound-none _ _ (c .if1 .taken)
 
--- src/sound.rt:315:9
 --@ returns-2 c = bound-past _ _ (@if1 .left) (@if2 .taken)
 returns-2 : tie.Need-returns-2
 returns-2 c = bound-past _ _ (c .before .if1 .left) (c .if2 .taken)
 
--- src/sound.rt:317:5
 bound-requires : tie.Need-bound-requires
 bound-requires c κs = search needs
 
--- src/sound.rt:308:1
 --@ returns-3 c = bound-word _ _ (@if1 .left) (@if2 .left) (@bound .ensures)
 returns-3 : tie.Need-returns-3
 returns-3 c = bound-word _ _ (c .before .before .if1 .left) (c .before .if2 .left) (c .bound .ensures)

@@ -4,35 +4,28 @@ use borrow.Author.Needs.{needs}
 use Rattle.native_ms.proofs.sound.is_cell.Statement.{statement}
 use Rattle.native_ms.proofs.sound.is_cell.Tie as tie
 
--- src/sound.rt:57:9
 start-requires : tie.Need-start-requires
 start-requires c κs = search needs
 
--- src/sound.rt:62:9
 --@ returns c = cell-none _ _ _ _ (@start .ensures) (@if1 .taken)
 returns : tie.Need-returns
 returns c = cell-none _ _ _ _ (c .before .start .ensures) (c .if1 .taken)
 
--- src/sound.rt:65:9
 --@ returns-2 c = cell-before _ _ _ _ (@start .ensures) (@if1 .left) (@if2 .taken)
 returns-2 : tie.Need-returns-2
 returns-2 c = cell-before _ _ _ _ (c .before .before .start .ensures) (c .before .if1 .left) (c .if2 .taken)
 
--- src/sound.rt:67:8
 rem-if3 : tie.Need-rem-if3
 rem-if3 c = search needs
 
--- src/sound.rt:68:9
 --@ returns-3 c = cell-inside _ _ _ _ (@start .ensures) (@if1 .left) (@if2 .left) (@if3 .taken)
 returns-3 : tie.Need-returns-3
 returns-3 c = cell-inside _ _ _ _ (c .before .before .before .start .ensures) (c .before .before .if1 .left) (c .before .if2 .left) (c .if3 .taken)
 
--- src/sound.rt:71:9
 --@ returns-4 c = cell-large _ _ _ _ (@start .ensures) (@if1 .left) (@if2 .left) (@if3 .left) (@if4 .taken)
 returns-4 : tie.Need-returns-4
 returns-4 c = cell-large _ _ _ _ (c .before .before .before .before .start .ensures) (c .before .before .before .if1 .left) (c .before .before .if2 .left) (c .before .if3 .left) (c .if4 .taken)
 
--- src/sound.rt:53:1
 --@ returns-5 c = cell-here _ _ _ _ (@start .ensures) (@if1 .left) (@if2 .left) (@if3 .left) (@if4 .left)
 returns-5 : tie.Need-returns-5
 returns-5 c = cell-here _ _ _ _ (c .before .before .before .before .start .ensures) (c .before .before .before .if1 .left) (c .before .before .if2 .left) (c .before .if3 .left) (c .if4 .left)

@@ -3,12 +3,10 @@ use Rattle.native_ms.specs.SoundTests.{holder-none, holder-low}
 use Rattle.native_ms.proofs.sound.is_holder.Statement.{statement}
 use Rattle.native_ms.proofs.sound.is_holder.Tie as tie
 
--- src/sound.rt:137:9
 --@ returns c = holder-none _ (@if1 .taken)
 returns : tie.Need-returns
 returns c = holder-none _ (c .if1 .taken)
 
--- src/sound.rt:133:1
 --@ returns-2 c = holder-low _ (@if1 .left)
 returns-2 : tie.Need-returns-2
 returns-2 c = holder-low _ (c .if1 .left)

@@ -4,20 +4,16 @@ use borrow.Author.Needs.{needs}
 use Rattle.native_ms.proofs.sound.link_ok.Statement.{statement}
 use Rattle.native_ms.proofs.sound.link_ok.Tie as tie
 
--- src/sound.rt:84:9
 --@ returns c = link-none _ _ _ _ (@if1 .taken)
 returns : tie.Need-returns
 returns c = link-none _ _ _ _ (c .if1 .taken)
 
--- src/sound.rt:86:9
 size-requires : tie.Need-size-requires
 size-requires c κs = search needs
 
--- src/sound.rt:87:5
 is-cell-requires : tie.Need-is-cell-requires
 is-cell-requires c κs = search needs
 
--- src/sound.rt:77:1
 --@ returns-2 c = link-some _ _ _ _ (@if1 .left) (@size .ensures) (@is-cell .ensures)
 returns-2 : tie.Need-returns-2
 returns-2 c = link-some _ _ _ _ (c .before .before .if1 .left) (c .before .size .ensures) (c .is-cell .ensures)

@@ -4,20 +4,16 @@ use borrow.Author.Needs.{needs}
 use Rattle.native_ms.proofs.sound.list_named.Statement.{statement}
 use Rattle.native_ms.proofs.sound.list_named.Tie as tie
 
--- src/sound.rt:113:9
 list-requires : tie.Need-list-requires
 list-requires c κs = search needs
 
--- src/sound.rt:115:9
 --@ returns c = named-none _ _ (@list .ensures) (@if1 .taken)
 returns : tie.Need-returns
 returns c = named-none _ _ (c .before .list .ensures) (c .if1 .taken)
 
--- src/sound.rt:117:5
 sub-result : tie.Need-sub-result
 sub-result c = search needs
 
--- src/sound.rt:110:1
 --@ returns-2 c = named-some _ _ (@list .ensures)
 returns-2 : tie.Need-returns-2
 returns-2 c = named-some _ _ (c .before .list .ensures)

@@ -4,30 +4,24 @@ use borrow.Author.Needs.{needs}
 use Rattle.native_ms.proofs.sound.lists_full.Statement.{statement}
 use Rattle.native_ms.proofs.sound.lists_full.Tie as tie
 
--- src/sound.rt:300:9
 --@ unused-requires c κs = @pre
 unused-requires : tie.Need-unused-requires
 unused-requires c κs = (c .before .before .pre)
 
--- src/sound.rt:301:9
 --@ passes-requires c κs = @pre
 passes-requires : tie.Need-passes-requires
 passes-requires c κs = (c .before .before .before .pre)
 
--- src/sound.rt:303:24
 enum-told : tie.Need-enum-told
 enum-told c = search needs
 
--- src/sound.rt:304:22
 enum-known-r : tie.Need-enum-known-r
 enum-known-r c = search needs
 
--- src/sound.rt:296:1
 --@ returns c = full-bad _ _ _ (@unused .ensures) (@passes .ensures) (@enum-told .given .1)
 returns : tie.Need-returns
 returns c = full-bad _ _ _ (c .before .before .before .unused .ensures) (c .before .before .passes .ensures) (c .enum-told .given .1)
 
--- src/sound.rt:296:1
 --@ returns-2 c = full-left _ _ _ (@unused .ensures) (@passes .ensures) (@r .given .1)
 returns-2 : tie.Need-returns-2
 returns-2 c = full-left _ _ _ (c .before .before .before .before .unused .ensures) (c .before .before .before .passes .ensures) (c .before .r .given .1)

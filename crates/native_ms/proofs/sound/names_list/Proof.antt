@@ -5,16 +5,13 @@ use borrow.Author.Needs.{needs}
 use Rattle.native_ms.proofs.sound.names_list.Statement.{statement}
 use Rattle.native_ms.proofs.sound.names_list.Tie as tie
 
--- src/sound.rt:102:9
 list-requires : tie.Need-list-requires
 list-requires c κs = search needs
 
--- src/sound.rt:104:9
 --@ returns c = names-none (view (@args .w .now)) (@args .b) (@list .ensures) (@if1 .taken)
 returns : tie.Need-returns
 returns c = names-none (view (c .before .before .before .args .w .now)) (c .before .before .before .args .b) (c .before .list .ensures) (c .if1 .taken)
 
--- src/sound.rt:99:1
 --@ returns-2 c = names-some (view (@args .w .now)) (@args .b) (@list .ensures) (@if1 .left)
 returns-2 : tie.Need-returns-2
 returns-2 c = names-some (view (c .before .before .before .args .w .now)) (c .before .before .before .args .b) (c .before .list .ensures) (c .if1 .left)

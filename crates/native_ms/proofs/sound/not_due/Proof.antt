@@ -5,20 +5,16 @@ use borrow.Author.Needs.{needs}
 use Rattle.native_ms.proofs.sound.not_due.Statement.{statement}
 use Rattle.native_ms.proofs.sound.not_due.Tie as tie
 
--- src/sound.rt:424:9
 is-bound-requires : tie.Need-is-bound-requires
 is-bound-requires c κs = search needs
 
--- src/sound.rt:425:9
 --@ returns c = due-off _ _ (@is-bound .ensures) (not-true _ (@if1 .taken))
 returns : tie.Need-returns
 returns c = due-off _ _ (c .before .is-bound .ensures) (not-true _ (c .if1 .taken))
 
--- src/sound.rt:427:5
 has-released-requires : tie.Need-has-released-requires
 has-released-requires c κs = search needs
 
--- src/sound.rt:421:1
 --@ returns-2 c = due-on _ _ (@is-bound .ensures) (not-false _ (@if1 .left)) (@has-released .ensures)
 returns-2 : tie.Need-returns-2
 returns-2 c = due-on _ _ (c .before .before .is-bound .ensures) (not-false _ (c .before .if1 .left)) (c .has-released .ensures)

@@ -17,44 +17,35 @@ Inv-loop w owner k₀ k = (k ≤ 147) × (allBelow k (emptyAt (view w) owner) �
 abbrev μ-loop : tie.MeasureT-loop
 μ-loop w owner k₀ k = k
 
--- src/sound.rt:332:5
 loop-holds : tie.Need-loop-holds Inv-loop μ-loop
 loop-holds c = (omega arith, refl)
 
--- src/sound.rt:333:13
 sub-k : tie.Need-sub-k Inv-loop μ-loop
 sub-k c = search needs
 
--- src/sound.rt:334:34
 --@ mul-first c = record { fits = omega (arith, @pre) }
 mul-first : tie.Need-mul-first Inv-loop μ-loop
 mul-first c = record { fits = omega (arith, (c .before .before .before .pre)) }
 
--- src/sound.rt:334:34
 --@ add-first c = record { fits = omega (arith, @pre, @loop .inv .0) }
 add-first : tie.Need-add-first Inv-loop μ-loop
 add-first c = record { fits = omega (arith, (c .before .before .before .pre), c .before .loop .inv .0) }
 
--- src/sound.rt:334:13
 first-requires : tie.Need-first-requires Inv-loop μ-loop
 first-requires c κs = search needs
 
--- src/sound.rt:336:13
 --@ returns c = sym (sym (owner-lists _ _) ∙ sym (@loop .inv .1) ∙ all-stop _ _ (@loop-test .taken) (list-some _ _ _ (@first .ensures) (@if1 .taken)))
 returns : tie.Need-returns Inv-loop μ-loop
 returns c = sym (sym (owner-lists _ _) ∙ sym (c .before .before .before .loop .inv .1) ∙ all-stop _ _ (c .before .before .loop-test .taken) (list-some _ _ _ (c .before .first .ensures) (c .if1 .taken)))
 
--- src/sound.rt:332:5
 --@ loop-less c = falls-down _ (@loop-test .taken)
 loop-less : tie.Need-loop-less Inv-loop μ-loop
 loop-less c = falls-down _ (c .before .before .loop-test .taken)
 
--- src/sound.rt:332:5
 --@ loop-again c = (omega (arith, @loop .inv .0, @loop-test .taken), all-step _ _ (@loop-test .taken) (list-none _ _ _ (@first .ensures) (@if1 .left)) ∙ @loop .inv .1)
 loop-again : tie.Need-loop-again Inv-loop μ-loop
 loop-again c = (omega (arith, c .before .before .before .loop .inv .0, c .before .before .loop-test .taken), all-step _ _ (c .before .before .loop-test .taken) (list-none _ _ _ (c .before .first .ensures) (c .if1 .left)) ∙ c .before .before .before .loop .inv .1)
 
--- src/sound.rt:327:1
 --@ returns-2 c = sym (all-end _ _ (@loop-test .left)) ∙ @loop .inv .1 ∙ owner-lists _ _
 returns-2 : tie.Need-returns-2 Inv-loop μ-loop
 returns-2 c = sym (all-end _ _ (c .loop-test .left)) ∙ c .before .loop .inv .1 ∙ owner-lists _ _

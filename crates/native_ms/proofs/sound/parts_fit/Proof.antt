@@ -16,34 +16,27 @@ Inv-loop w k₀ k = allBelow k (partFits (view w)) ≡ allBelow k₀ (partFits (
 abbrev μ-loop : tie.MeasureT-loop
 μ-loop w k₀ k = k
 
--- src/sound.rt:398:5
 loop-holds : tie.Need-loop-holds Inv-loop μ-loop
 loop-holds c = refl
 
--- src/sound.rt:399:13
 sub-k : tie.Need-sub-k Inv-loop μ-loop
 sub-k c = search needs
 
--- src/sound.rt:400:13
 part-fits-requires : tie.Need-part-fits-requires Inv-loop μ-loop
 part-fits-requires c κs = search needs
 
--- src/sound.rt:401:13
 --@ returns c = sym (sym (@loop .inv) ∙ all-stop _ _ (@loop-test .taken) (sym (@part-fits .ensures) ∙ (not-true _ (@if1 .taken))))
 returns : tie.Need-returns Inv-loop μ-loop
 returns c = sym (sym (c .before .before .before .loop .inv) ∙ all-stop _ _ (c .before .before .loop-test .taken) (sym (c .before .part-fits .ensures) ∙ (not-true _ (c .if1 .taken))))
 
--- src/sound.rt:398:5
 --@ loop-less c = falls-down _ (@loop-test .taken)
 loop-less : tie.Need-loop-less Inv-loop μ-loop
 loop-less c = falls-down _ (c .before .before .loop-test .taken)
 
--- src/sound.rt:398:5
 --@ loop-again c = all-step _ _ (@loop-test .taken) (sym (@part-fits .ensures) ∙ (not-false _ (@if1 .left))) ∙ @loop .inv
 loop-again : tie.Need-loop-again Inv-loop μ-loop
 loop-again c = all-step _ _ (c .before .before .loop-test .taken) (sym (c .before .part-fits .ensures) ∙ (not-false _ (c .if1 .left))) ∙ c .before .before .before .loop .inv
 
--- src/sound.rt:394:1
 --@ returns-2 c = sym (all-end _ _ (@loop-test .left)) ∙ @loop .inv
 returns-2 : tie.Need-returns-2 Inv-loop μ-loop
 returns-2 c = sym (all-end _ _ (c .loop-test .left)) ∙ c .before .loop .inv

@@ -16,43 +16,34 @@ Inv-loop p w st j₀ left₀ j left = (j ≤ 1470) × (passes j p (view w) st le
 abbrev μ-loop : tie.MeasureT-loop
 μ-loop p w st j₀ left₀ j left = j
 
--- src/sound.rt:280:5
 loop-holds : tie.Need-loop-holds Inv-loop μ-loop
 loop-holds c = (omega arith, refl)
 
--- src/sound.rt:281:13
 sub-j : tie.Need-sub-j Inv-loop μ-loop
 sub-j c = search needs
 
--- src/sound.rt:282:13
 --@ pass-requires c κs = (@pre, omega (arith, @loop .inv .0, @loop-test .taken))
 pass-requires : tie.Need-pass-requires Inv-loop μ-loop
 pass-requires c κs = ((c .before .before .before .before .pre), omega (arith, c .before .loop .inv .0, c .loop-test .taken))
 
--- src/sound.rt:285:17
 enum-told : tie.Need-enum-told Inv-loop μ-loop
 enum-told c = search needs
 
--- src/sound.rt:285:17
 --@ returns c = passes-bad _ _ _ _ _ (@loop-test .taken) (@pass .ensures) (@enum-told .given .1) ∙ @loop .inv .1
 returns : tie.Need-returns Inv-loop μ-loop
 returns c = passes-bad _ _ _ _ _ (c .before .before .before .loop-test .taken) (c .before .before .pass .ensures) (c .enum-told .given .1) ∙ c .before .before .before .before .loop .inv .1
 
--- src/sound.rt:287:26
 enum-known-r : tie.Need-enum-known-r Inv-loop μ-loop
 enum-known-r c = search needs
 
--- src/sound.rt:280:5
 --@ loop-less c = falls-down _ (@loop-test .taken)
 loop-less : tie.Need-loop-less Inv-loop μ-loop
 loop-less c = falls-down _ (c .before .before .before .before .loop-test .taken)
 
--- src/sound.rt:280:5
 --@ loop-again c = (omega (arith, @loop .inv .0, @loop-test .taken), passes-step _ _ _ _ _ (@loop-test .taken) (@pass .ensures) (@r .given .1) ∙ @loop .inv .1)
 loop-again : tie.Need-loop-again Inv-loop μ-loop
 loop-again c = (omega (arith, c .before .before .before .before .before .loop .inv .0, c .before .before .before .before .loop-test .taken), passes-step _ _ _ _ _ (c .before .before .before .before .loop-test .taken) (c .before .before .before .pass .ensures) (c .before .r .given .1) ∙ c .before .before .before .before .before .loop .inv .1)
 
--- src/sound.rt:274:1
 --@ returns-2 c = passes-end _ _ _ _ _ (@loop-test .left) ∙ @loop .inv .1
 returns-2 : tie.Need-returns-2 Inv-loop μ-loop
 returns-2 c = passes-end _ _ _ _ _ (c .loop-test .left) ∙ c .before .loop .inv .1

@@ -4,21 +4,17 @@ use borrow.Author.Needs.{needs}
 use Rattle.native_ms.proofs.sound.phase_known.Statement.{statement}
 use Rattle.native_ms.proofs.sound.phase_known.Tie as tie
 
--- src/sound.rt:470:9
 phase-requires : tie.Need-phase-requires
 phase-requires c κs = search needs
 
--- src/sound.rt:472:9
 --@ returns c = phase-running _ (@phase .ensures) (@if1 .taken)
 returns : tie.Need-returns
 returns c = phase-running _ (c .before .phase .ensures) (c .if1 .taken)
 
--- src/sound.rt:475:9
 --@ returns-2 c = phase-marking _ (@phase .ensures) (@if1 .left) (@if2 .taken)
 returns-2 : tie.Need-returns-2
 returns-2 c = phase-marking _ (c .before .before .phase .ensures) (c .before .if1 .left) (c .if2 .taken)
 
--- src/sound.rt:467:1
 --@ returns-3 c = phase-releasing _ (@phase .ensures) (@if1 .left) (@if2 .left)
 returns-3 : tie.Need-returns-3
 returns-3 c = phase-releasing _ (c .before .before .phase .ensures) (c .before .if1 .left) (c .if2 .left)

@@ -4,24 +4,19 @@ use borrow.Author.Needs.{needs}
 use Rattle.native_ms.proofs.sound.size_ok.Statement.{statement}
 use Rattle.native_ms.proofs.sound.size_ok.Tie as tie
 
--- src/sound.rt:123:9
 list-named-requires : tie.Need-list-named-requires
 list-named-requires c κs = search needs
 
--- src/sound.rt:126:9
 --@ returns c = size-bin _ _ _ (@list-named .ensures) (@if1 .taken)
 returns : tie.Need-returns
 returns c = size-bin _ _ _ (c .before .list-named .ensures) (c .if1 .taken)
 
--- src/sound.rt:128:9
 size-requires : tie.Need-size-requires
 size-requires c κs = search needs
 
--- src/sound.rt:129:9
 class-bytes-requires : tie.Need-class-bytes-requires
 class-bytes-requires c κs = search needs
 
--- src/sound.rt:120:1
 --@ returns-2 c = size-class _ _ _ (@list-named .ensures) (@if1 .left) (@size .ensures) (@class-bytes .ensures (@args .p))
 returns-2 : tie.Need-returns-2
 returns-2 c = size-class _ _ _ (c .before .before .before .list-named .ensures) (c .before .before .if1 .left) (c .before .size .ensures) (c .class-bytes .ensures (c .before .before .before .before .before .args .p))

@@ -5,49 +5,39 @@ use borrow.Author.Needs.{needs}
 use Rattle.native_ms.proofs.sound.stands_on.Statement.{statement}
 use Rattle.native_ms.proofs.sound.stands_on.Tie as tie
 
--- src/sound.rt:218:9
 --@ is-start-requires c κs = @pre .0
 is-start-requires : tie.Need-is-start-requires
 is-start-requires c κs = c .before .before .pre .0
 
--- src/sound.rt:219:9
 --@ returns c = stands-off _ _ _ _ _ _ (@is-start .ensures) (not-true _ (@if1 .taken))
 returns : tie.Need-returns
 returns c = stands-off _ _ _ _ _ _ (c .before .is-start .ensures) (not-true _ (c .if1 .taken))
 
--- src/sound.rt:221:9
 --@ block-at-requires c κs = @pre .0
 block-at-requires : tie.Need-block-at-requires
 block-at-requires c κs = c .before .before .before .before .pre .0
 
--- src/sound.rt:223:9
 state-requires : tie.Need-state-requires
 state-requires c κs = search needs
 
--- src/sound.rt:225:9
 --@ returns-2 c = stands-free _ _ _ _ _ _ (@is-start .ensures) (not-false _ (@if1 .left)) (@block-at .ensures) (@state .ensures) (@if2 .taken)
 returns-2 : tie.Need-returns-2
 returns-2 c = stands-free _ _ _ _ _ _ (c .before .before .before .before .is-start .ensures) (not-false _ (c .before .before .before .if1 .left)) (c .before .before .block-at .ensures) (c .before .state .ensures) (c .if2 .taken)
 
--- src/sound.rt:227:9
 list-requires : tie.Need-list-requires
 list-requires c κs = search needs
 
--- src/sound.rt:228:9
 --@ list-word-requires c κs = @pre .1
 list-word-requires : tie.Need-list-word-requires
 list-word-requires c κs = c .before .before .before .before .before .before .before .before .pre .1
 
--- src/sound.rt:230:9
 --@ returns-3 c = stands-other _ _ _ _ _ _ (@is-start .ensures) (not-false _ (@if1 .left)) (@block-at .ensures) (@state .ensures) (@if2 .left) (@list .ensures) (@list-word .ensures) (@if3 .taken)
 returns-3 : tie.Need-returns-3
 returns-3 c = stands-other _ _ _ _ _ _ (c .before .before .before .before .before .before .before .is-start .ensures) (not-false _ (c .before .before .before .before .before .before .if1 .left)) (c .before .before .before .before .before .block-at .ensures) (c .before .before .before .before .state .ensures) (c .before .before .before .if2 .left) (c .before .before .list .ensures) (c .before .list-word .ensures) (c .if3 .taken)
 
--- src/sound.rt:232:5
 prev-requires : tie.Need-prev-requires
 prev-requires c κs = search needs
 
--- src/sound.rt:214:1
 --@ returns-4 c = stands-here _ _ _ _ _ _ (@is-start .ensures) (not-false _ (@if1 .left)) (@block-at .ensures) (@state .ensures) (@if2 .left) (@list .ensures) (@list-word .ensures) (@if3 .left) (@prev .ensures)
 returns-4 : tie.Need-returns-4
 returns-4 c = stands-here _ _ _ _ _ _ (c .before .before .before .before .before .before .before .before .is-start .ensures) (not-false _ (c .before .before .before .before .before .before .before .if1 .left)) (c .before .before .before .before .before .before .block-at .ensures) (c .before .before .before .before .before .state .ensures) (c .before .before .before .before .if2 .left) (c .before .before .before .list .ensures) (c .before .before .list-word .ensures) (c .before .if3 .left) (c .prev .ensures)

@@ -5,33 +5,26 @@ use borrow.Author.Needs.{needs}
 use Rattle.native_ms.proofs.sound.tls_ok.Statement.{statement}
 use Rattle.native_ms.proofs.sound.tls_ok.Tie as tie
 
--- src/sound.rt:145:9
 tls-requires : tie.Need-tls-requires
 tls-requires c κs = search needs
 
--- src/sound.rt:146:9
 is-holder-requires : tie.Need-is-holder-requires
 is-holder-requires c κs = search needs
 
--- src/sound.rt:147:9
 --@ returns c = tls-none _ _ (@tls .ensures) (@is-holder .ensures) (not-true _ (@if1 .taken))
 returns : tie.Need-returns
 returns c = tls-none _ _ (c .before .before .tls .ensures) (c .before .is-holder .ensures) (not-true _ (c .if1 .taken))
 
--- src/sound.rt:149:9
 list-named-requires : tie.Need-list-named-requires
 list-named-requires c κs = search needs
 
--- src/sound.rt:152:9
 --@ returns-2 c = tls-shared _ _ (@tls .ensures) (@is-holder .ensures) (not-false _ (@if1 .left)) (@list-named .ensures) (@if2 .taken)
 returns-2 : tie.Need-returns-2
 returns-2 c = tls-shared _ _ (c .before .before .before .before .tls .ensures) (c .before .before .before .is-holder .ensures) (not-false _ (c .before .before .if1 .left)) (c .before .list-named .ensures) (c .if2 .taken)
 
--- src/sound.rt:154:10
 add-result : tie.Need-add-result
 add-result c = search needs
 
--- src/sound.rt:142:1
 --@ returns-3 c = tls-local _ _ (@tls .ensures) (@is-holder .ensures) (not-false _ (@if1 .left)) (@list-named .ensures) (@if2 .left)
 returns-3 : tie.Need-returns-3
 returns-3 c = tls-local _ _ (c .before .before .before .before .tls .ensures) (c .before .before .before .is-holder .ensures) (not-false _ (c .before .before .if1 .left)) (c .before .list-named .ensures) (c .if2 .left)

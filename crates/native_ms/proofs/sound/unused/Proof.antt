@@ -16,45 +16,36 @@ Inv-loop st n₀ k₀ n k = (n + k ≤ k₀) × (n + sumBelow k (freeAt st) ≡ 
 abbrev μ-loop : tie.MeasureT-loop
 μ-loop st n₀ k₀ n k = k
 
--- src/sound.rt:203:5
 --@ loop-holds c = (omega arith, unused-none (@args .st .now) _)
 loop-holds : tie.Need-loop-holds Inv-loop μ-loop
 loop-holds c = (omega arith, unused-none (c .before .args .st .now) _)
 
--- src/sound.rt:204:13
 sub-k : tie.Need-sub-k Inv-loop μ-loop
 sub-k c = search needs
 
--- src/sound.rt:205:13
 state-requires : tie.Need-state-requires Inv-loop μ-loop
 state-requires c κs = search needs
 
--- src/sound.rt:207:17
 --@ add-n c = record { fits = omega (arith, @loop .inv .0, good (@args .p) (@pre) .blocks-to) }
 add-n : tie.Need-add-n Inv-loop μ-loop
 add-n c = record { fits = omega (arith, c .before .before .before .loop .inv .0, good (c .before .before .before .before .before .args .p) ((c .before .before .before .before .before .pre)) .blocks-to) }
 
--- src/sound.rt:203:5
 --@ loop-less c = falls-down _ (@loop-test .taken)
 loop-less : tie.Need-loop-less Inv-loop μ-loop
 loop-less c = falls-down _ (c .before .before .loop-test .taken)
 
--- src/sound.rt:203:5
 --@ loop-again c = (omega (arith, @loop .inv .0, @loop-test .taken), unused-one (@args .st .now) _ _ (@loop-test .taken) (@loop .inv .1) (@state .ensures) (@if1 .taken))
 loop-again : tie.Need-loop-again Inv-loop μ-loop
 loop-again c = (omega (arith, c .before .before .before .loop .inv .0, c .before .before .loop-test .taken), unused-one (c .before .before .before .before .before .args .st .now) _ _ (c .before .before .loop-test .taken) (c .before .before .before .loop .inv .1) (c .before .state .ensures) (c .if1 .taken))
 
--- src/sound.rt:203:5
 --@ loop-less-2 c = falls-down _ (@loop-test .taken)
 loop-less-2 : tie.Need-loop-less-2 Inv-loop μ-loop
 loop-less-2 c = falls-down _ (c .before .before .loop-test .taken)
 
--- src/sound.rt:203:5
 --@ loop-again-2 c = (omega (arith, @loop .inv .0, @loop-test .taken), unused-more (@args .st .now) _ _ (@loop-test .taken) (@loop .inv .1) (@state .ensures) (@if1 .left))
 loop-again-2 : tie.Need-loop-again-2 Inv-loop μ-loop
 loop-again-2 c = (omega (arith, c .before .before .before .loop .inv .0, c .before .before .loop-test .taken), unused-more (c .before .before .before .before .before .args .st .now) _ _ (c .before .before .loop-test .taken) (c .before .before .before .loop .inv .1) (c .before .state .ensures) (c .if1 .left))
 
--- src/sound.rt:197:1
 --@ returns c = unused-all (@args .st .now) _ _ _ (@loop-test .left) (@loop .inv .1)
 returns : tie.Need-returns Inv-loop μ-loop
 returns c = unused-all (c .before .before .before .args .st .now) _ _ _ (c .loop-test .left) (c .before .loop .inv .1)
