@@ -2,3 +2,9 @@ pub mod Lower
 pub mod Chains
 pub mod TakeCell
 pub mod Search
+pub mod Heads
+pub mod Ending
+pub mod AllocCall
+pub mod Abandoned
+pub mod Releases
+pub mod SpaceCalls

@@ -6,3 +6,8 @@ pub mod SoundLaws
 pub mod SoundTests
 pub mod Promise
 pub mod Closing
+pub mod Ending
+pub mod Checked
+pub mod Abandoned
+pub mod Released
+pub mod Space

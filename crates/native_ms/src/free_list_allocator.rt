@@ -1,25 +1,66 @@
 // The search for a block with a free cell, the taking of a cell, and the public call alloc. Named after the Rust's
 // free_list_allocator.rs. The searches are right on any words; that tables are sound is nothing they need.
 use crate::address;
+use crate::allocator;
+use crate::allocator::Raised;
 use crate::block;
+use crate::block::Taken;
 use crate::block_list;
+use crate::params;
+use crate::size_class;
+use crate::sound;
 use model::Address;
+use model::AllocAnswer;
 use model::Block;
+use model::Offer;
 use model::Params;
+use model::Refusal;
+use words::states;
 use words::tables;
 ghost use mathlib.Core.Path.{_≡_};
 ghost use mathlib.Core.Bool.{true};
-ghost use Prim.Native.Nat.{_<_, _≤_};
+ghost use mathlib.Core.List.{List};
+ghost use Prim.Native.Nat.{_<_, _≤_, ℕ};
 ghost use Rattle.model.specs.Params.{goodParams, available, unswept, consumed};
-ghost use Rattle.model.specs.Tables.{view};
+ghost use Rattle.model.specs.Tables.{view, Words, tablesOf};
 ghost use Rattle.model.specs.BlockList.{popped};
-ghost use Rattle.model.specs.FreeListAllocator.{findFreeBlockWith, recycleLocalBlocks, acquireAbandoned};
+ghost use Rattle.model.specs.FreeListAllocator.{findFreeBlockWith, recycleLocalBlocks, acquireAbandoned, findBlock};
+ghost use Rattle.model.specs.Base.{flag};
+ghost use Rattle.model.specs.Calls.{goodOffer, alloc};
+ghost use Rattle.model.specs.Answers.{allocReply};
 ghost use Rattle.native_ms.specs.Closing.{ListNumber, Filed, seen, closed, Searched};
+ghost use Rattle.native_ms.specs.Promise.{lend, Promised};
+ghost use Rattle.native_ms.specs.Abandoned.{nextOf, popAbandoned, TakenOver};
+ghost use Rattle.native_ms.specs.Ending.{ended, closedSearch, acquireGlobal, Freshened, stepped, servedBy, Ready};
+ghost use Rattle.native_ms.specs.Checked.{checked};
+
+// The first set of the abandoned lists.
+const ABANDONED: usize = 24;
 
 // What a search gives: the start of a block with a free cell, 0 for none, and how many blocks were swept.
 pub(crate) struct Found {
     pub at: Address,
     pub swept: usize,
+}
+
+// What the whole search gives: the start of a block with a free cell, 0 for none, how many blocks were swept, and whether the
+// block is the offered one.
+pub(crate) struct Search {
+    pub at: Address,
+    pub swept: usize,
+    pub fresh: bool,
+}
+
+// The bin to serve a request from, or its refusal.
+pub(crate) enum Checked {
+    Bin(usize),
+    Refused(Refusal),
+}
+
+// The next abandoned block of a bin, 0 for none, and whether it waits for a sweep.
+pub(crate) struct Abandoned {
+    pub at: Address,
+    pub unswept: bool,
 }
 
 // The owner's list of blocks that may have free cells.
@@ -86,7 +127,14 @@ fn file_block(p: Params, w: &mut [usize], avail: usize, full: usize, b: Block) -
 }
 
 // Sweeps the owner's unswept blocks until one has a free cell.
-pub(crate) fn recycle_local_blocks(p: Params, w: &mut [usize], m: &[u8], h: &mut [u8], owner: usize, bin: usize) -> Found
+pub(crate) fn recycle_local_blocks(
+    p: Params,
+    w: &mut [usize],
+    m: &[u8],
+    h: &mut [u8],
+    owner: usize,
+    bin: usize,
+) -> Found
     requires { ⌜ (goodParams p ≡ true) × (owner < 28) × (bin < 49) ⌝ }
     ensures { λ r. ⌜ Searched (p .blocks) (seen (r .at .0) (r .swept) (view (now (w .exit))) (now (h .exit))) (closed p 0 (now (h .entry)) (recycleLocalBlocks (p .blocks) p (now (m .entry)) owner bin (view (now (w .entry))))) ⌝ }
 {
@@ -119,8 +167,65 @@ pub(crate) fn recycle_local_blocks(p: Params, w: &mut [usize], m: &[u8], h: &mut
     }
 }
 
-// Takes over abandoned blocks, available ones first, then unswept ones, which are swept, until one has a free cell.
-// Abandoned consumed blocks are not tried. `before` blocks were swept already.
+// Takes an abandoned block of the bin off its list: an available one, or else an unswept one. Abandoned consumed blocks are
+// not tried.
+fn pop_abandoned(p: Params, w: &mut [usize], bin: usize) -> Abandoned
+    requires { ⌜ (goodParams p ≡ true) × (bin < 49) ⌝ }
+    ensures { λ r. ⌜ nextOf (r .at .0) (r .unswept) (view (now (w .exit))) ≡ popAbandoned p bin (view (now (w .entry))) ⌝ }
+{
+    let first = available(ABANDONED, bin);
+    let second = unswept(ABANDONED, bin);
+    let f = block_list::pop(p, w, first);
+    let v = f.0;
+    if v != 0 {
+        return Abandoned {
+            at: f,
+            unswept: false,
+        };
+    }
+    let g = block_list::pop(p, w, second);
+    Abandoned {
+        at: g,
+        unswept: true,
+    }
+}
+
+// Makes an abandoned block the holder's, swept if it was unswept. The answer: whether it has a free cell.
+fn take_over(
+    p: Params,
+    w: &mut [usize],
+    m: &[u8],
+    h: &mut [u8],
+    holder: usize,
+    bin: usize,
+    b: Block,
+    unswept: bool,
+) -> bool
+    requires { ⌜ (goodParams p ≡ true) × (1 ≤ holder) × (holder ≤ 8) × (bin < 49) ⌝ }
+    ensures { λ r. ⌜ TakenOver p (now (m .entry)) holder bin (b .0) unswept (view (now (w .entry))) (now (h .entry)) r (view (now (w .exit))) (now (h .exit)) ⌝ }
+{
+    let i = b.0;
+    let owner = address::local_sets(holder);
+    let avail = available(owner, bin);
+    let full = consumed(owner, bin);
+    tables::set_tls(w, i, holder);
+    if unswept {
+        block::sweep(p, w, m, h, b);
+        return file_block(p, w, avail, full, b);
+    }
+    file_block(p, w, avail, full, b)
+}
+
+fn one_if(yes: bool) -> usize
+    ensures { λ r. ⌜ r ≡ flag yes ⌝ }
+{
+    if yes {
+        return 1;
+    }
+    0
+}
+
+// Takes over abandoned blocks until one has a free cell. `before` blocks were swept already.
 pub(crate) fn acquire_abandoned(
     p: Params,
     w: &mut [usize],
@@ -133,45 +238,265 @@ pub(crate) fn acquire_abandoned(
     requires { ⌜ (goodParams p ≡ true) × (1 ≤ holder) × (holder ≤ 8) × (bin < 49) × (before ≤ 1024) ⌝ }
     ensures { λ r. ⌜ seen (r .at .0) (r .swept) (view (now (w .exit))) (now (h .exit)) ≡ closed p before (now (h .entry)) (acquireAbandoned (p .blocks) p (now (m .entry)) holder bin (view (now (w .entry)))) ⌝ }
 {
-    let owner = address::local_sets(holder);
-    let first = available(24, bin);
-    let second = unswept(24, bin);
-    let avail = available(owner, bin);
-    let full = consumed(owner, bin);
     let mut k = p.blocks;
     let mut n = before;
     while 0 < k {
-        k = k - 1;
-        let f = block_list::pop(p, w, first);
-        let v = f.0;
-        if v != 0 {
-            let b = address::block_at(p, f);
-            tables::set_tls(w, b.0, holder);
-            let free = file_block(p, w, avail, full, b);
-            if free {
-                return Found { at: f, swept: n };
-            }
-        } else {
-            let g = block_list::pop(p, w, second);
-            let u = g.0;
-            if u == 0 {
-                return Found {
-                    at: Address(0),
-                    swept: n,
-                };
-            }
-            let b = address::block_at(p, g);
-            tables::set_tls(w, b.0, holder);
-            block::sweep(p, w, m, h, b);
-            n = n + 1;
-            let free = file_block(p, w, avail, full, b);
-            if free {
-                return Found { at: g, swept: n };
-            }
+        let f = pop_abandoned(p, w, bin);
+        let at = f.at;
+        let unswept = f.unswept;
+        let v = at.0;
+        if v == 0 {
+            return Found {
+                at: Address(0),
+                swept: n,
+            };
         }
+        let b = address::block_at(p, at);
+        let free = take_over(p, w, m, h, holder, bin, b, unswept);
+        n = n + one_if(unswept);
+        if free {
+            return Found { at, swept: n };
+        }
+        k = k - 1;
     }
     Found {
         at: Address(0),
         swept: n,
+    }
+}
+
+// Makes the offered block the holder's, all its cells of the bin's size free.
+fn acquire_fresh(
+    p: Params,
+    w: &mut [usize],
+    st: &mut [u8],
+    h: &mut [u8],
+    holder: usize,
+    bin: usize,
+    b: Block,
+)
+    requires { ⌜ (goodParams p ≡ true) × (1 ≤ holder) × (holder ≤ 8) × (bin < 49) ⌝ }
+    ensures { λ _. ⌜ Freshened p holder bin (b .0) (view (now (w .entry))) (now (st .entry)) (now (h .entry)) (view (now (w .exit))) (now (st .exit)) (now (h .exit)) ⌝ }
+{
+    let i = b.0;
+    let owner = address::local_sets(holder);
+    let avail = available(owner, bin);
+    let s = size_class::class_bytes(bin);
+    block_list::push(p, w, avail, b);
+    block::init_block(p, w, h, b, s, holder);
+    states::set_state(st, i, block::UNMARKED);
+}
+
+// A block from outside the holder's lists: an abandoned one, or the offer. `before` blocks were swept already.
+pub(crate) fn acquire_global_block(
+    p: Params,
+    w: &mut [usize],
+    st: &mut [u8],
+    m: &[u8],
+    h: &mut [u8],
+    holder: usize,
+    bin: usize,
+    offer: Offer,
+    before: usize,
+) -> Search
+    requires { ⌜ (goodParams p ≡ true) × (1 ≤ holder) × (holder ≤ 8) × (bin < 49) × (before ≤ 1024) ⌝ }
+    ensures { λ r. ⌜ ended (r .at .0) (r .swept) (r .fresh) (tablesOf (view (now (w .exit))) (now (st .exit)) (now (m .entry))) (now (h .exit)) ≡ closedSearch p before (now (h .entry)) (acquireGlobal p holder bin offer (tablesOf (view (now (w .entry))) (now (st .entry)) (now (m .entry)))) ⌝ }
+{
+    let f = acquire_abandoned(p, w, m, h, holder, bin, before);
+    let at = f.at;
+    let swept = f.swept;
+    let v = at.0;
+    if v != 0 {
+        return Search {
+            at,
+            swept,
+            fresh: false,
+        };
+    }
+    match offer {
+        Offer::Nothing => Search {
+            at: Address(0),
+            swept,
+            fresh: false,
+        },
+        Offer::Fresh(b) => {
+            acquire_fresh(p, w, st, h, holder, bin, b);
+            let start = address::start(p, b);
+            Search {
+                at: start,
+                swept,
+                fresh: true,
+            }
+        }
+    }
+}
+
+// The whole search: the holder's available list is skimmed, its unswept blocks are swept, and then others are tried.
+pub(crate) fn find_block(
+    p: Params,
+    w: &mut [usize],
+    st: &mut [u8],
+    m: &[u8],
+    h: &mut [u8],
+    holder: usize,
+    bin: usize,
+    offer: Offer,
+) -> Search
+    requires { ⌜ (goodParams p ≡ true) × (1 ≤ holder) × (holder ≤ 8) × (bin < 49) ⌝ }
+    ensures { λ r. ⌜ ended (r .at .0) (r .swept) (r .fresh) (tablesOf (view (now (w .exit))) (now (st .exit)) (now (m .entry))) (now (h .exit)) ≡ closedSearch p 0 (now (h .entry)) (findBlock p holder bin offer (tablesOf (view (now (w .entry))) (now (st .entry)) (now (m .entry)))) ⌝ }
+{
+    let owner = address::local_sets(holder);
+    let avail = available(owner, bin);
+    let full = consumed(owner, bin);
+    let a = find_free_block_with(p, w, avail, full);
+    let v = a.0;
+    if v != 0 {
+        return Search {
+            at: a,
+            swept: 0,
+            fresh: false,
+        };
+    }
+    let r = recycle_local_blocks(p, w, m, h, owner, bin);
+    let at = r.at;
+    let swept = r.swept;
+    let x = at.0;
+    if x != 0 {
+        return Search {
+            at,
+            swept,
+            fresh: false,
+        };
+    }
+    acquire_global_block(p, w, st, m, h, holder, bin, offer, swept)
+}
+
+// Whether the offer, if any, is a block that is not in use.
+fn good_offer(p: Params, st: &[u8], offer: Offer) -> bool
+    ensures { λ r. ⌜ ((t : Words) (m : List ℕ) → r ≡ goodOffer p (tablesOf t (now (st .entry)) m) offer) ⌝ }
+{
+    match offer {
+        Offer::Nothing => true,
+        Offer::Fresh(b) => {
+            let i = b.0;
+            if i < p.blocks {
+                let s = states::state(st, i);
+                return s == block::UNALLOCATED;
+            }
+            false
+        }
+    }
+}
+
+// The tests of a request on sound tables, in document 01's order.
+fn check_request(
+    p: Params,
+    w: &[usize],
+    st: &[u8],
+    holder: usize,
+    size: usize,
+    align: usize,
+    offset: usize,
+    offer: Offer,
+) -> Checked
+    requires { ⌜ goodParams p ≡ true ⌝ }
+    ensures { λ r. ⌜ r ≡ checked p (view (now (w .entry))) (now (st .entry)) holder size align offset offer ⌝ }
+{
+    let phase = tables::phase(w);
+    if phase != 0 {
+        return Checked::Refused(Refusal::WrongPhase);
+    }
+    if !sound::is_bound(w, holder) {
+        return Checked::Refused(Refusal::BadHolder);
+    }
+    if !allocator::good_request(p, size, align, offset) {
+        return Checked::Refused(Refusal::BadRequest);
+    }
+    match allocator::get_maximum_aligned_size(p, size, align) {
+        Raised::TooBig => Checked::Refused(Refusal::TooBig),
+        Raised::Fits(s) => {
+            if !good_offer(p, st, offer) {
+                return Checked::Refused(Refusal::BadOffer);
+            }
+            Checked::Bin(size_class::mi_bin_from_size(s))
+        }
+    }
+}
+
+// Finds a block of the bin and takes a cell of it.
+fn serve(
+    p: Params,
+    w: &mut [usize],
+    st: &mut [u8],
+    m: &[u8],
+    h: &mut [u8],
+    holder: usize,
+    bin: usize,
+    align: usize,
+    offset: usize,
+    offer: Offer,
+) -> AllocAnswer
+    requires { ⌜ Ready p (view (now w)) holder bin align offset ⌝ }
+    ensures { λ r. ⌜ stepped (allocReply r) (tablesOf (view (now (w .exit))) (now (st .exit)) (now (m .entry))) (now (h .exit)) ≡ servedBy p align offset (now (h .entry)) (findBlock p holder bin offer (tablesOf (view (now (w .entry))) (now (st .entry)) (now (m .entry)))) ⌝ }
+{
+    let s = find_block(p, w, st, m, h, holder, bin, offer);
+    let at = s.at;
+    let v = at.0;
+    if v == 0 {
+        return AllocAnswer::Refused(Refusal::Exhausted);
+    }
+    let b = address::block_at(p, at);
+    match block::block_alloc(p, w, h, b) {
+        Taken::BadLink => AllocAnswer::Refused(Refusal::BadLink),
+        Taken::Cell { at: cell, size } => {
+            let a = allocator::align_allocation(cell.0, align, offset);
+            AllocAnswer::Served {
+                address: Address(a),
+                cell_size: size,
+                offer_used: s.fresh,
+                swept: s.swept,
+            }
+        }
+    }
+}
+
+// A cell for a holder. Nothing is required: what is lent is tested first.
+pub fn alloc(
+    p: Params,
+    words: &mut [usize],
+    states: &mut [u8],
+    marks: &[u8],
+    heap: &mut [u8],
+    holder: usize,
+    size: usize,
+    align: usize,
+    offset: usize,
+    offer: Offer,
+) -> AllocAnswer
+    ensures { λ r. ⌜ Promised p (lend (now (words .entry)) (now (states .entry)) (now (marks .entry)) (now (heap .entry))) (alloc holder size align offset offer) (allocReply r) (lend (now (words .exit)) (now (states .exit)) (now (marks .entry)) (now (heap .exit))) ⌝ }
+{
+    if !params::good_params(p) {
+        return AllocAnswer::Refused(Refusal::BadSetup);
+    }
+    if !params::lengths_fit(p, words.len(), states.len(), marks.len(), heap.len()) {
+        return AllocAnswer::Refused(Refusal::BadSetup);
+    }
+    if !sound::sound(p, words, states) {
+        return AllocAnswer::Refused(Refusal::BadTables);
+    }
+    match check_request(p, words, states, holder, size, align, offset, offer) {
+        Checked::Refused(r) => AllocAnswer::Refused(r),
+        Checked::Bin(bin) => serve(
+            p,
+            words,
+            states,
+            marks,
+            heap,
+            holder,
+            bin,
+            align,
+            offset,
+            offer,
+        ),
     }
 }

@@ -8,3 +8,4 @@ mod params;
 pub mod size_class;
 mod sound;
 pub mod free_list_allocator;
+pub mod global;

@@ -9,3 +9,4 @@ pub mod AllocPlan
 pub mod Finish
 pub mod Calls
 pub mod Demand3
+pub mod Example

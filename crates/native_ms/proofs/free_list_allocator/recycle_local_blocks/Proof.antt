@@ -1,6 +1,6 @@
 -- `free_list_allocator::recycle_local_blocks` sweeps as `recycleLocalBlocks` does. The invariant: what remains from here, after n
 -- sweeps, is the whole, and n and the blocks left are all blocks. The measure is the count of blocks left.
-use Prim.Native.Nat.{ℕ, _+_, _≤_}
+use Prim.Native.Nat.{_+_}
 use mathlib.Core.Path.{_≡_, refl, _∙_}
 use native.Mathlib.Omega.{arith}
 use lib.ListN.{length}

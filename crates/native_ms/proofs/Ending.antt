@@ -1,0 +1,228 @@
+-- The whole search and the end of a call that serves: one law for each way out. Plain values alone stand here. Assumes nothing.
+use Prim.Native.Nat.{ℕ, _+_, _^_, _<_}
+use mathlib.Core.Path.{_≡_, refl, sym, ap, _∙_}
+use mathlib.Core.Bool.{Bool, true, false}
+use mathlib.Core.List.{List, [], _∷_, _++_, append-assoc}
+use native.Mathlib.Nat.{add-zero, zero-add, add-assoc}
+use native.Mathlib.Omega.{arith}
+use lib.Dec.{eqb}
+use lib.ListN.{getD, set}
+use borrow.Author.Tests.{eq-eqb, ne-eqb}
+use Rattle.model.specs.declared.Params.{Params}
+use Rattle.model.specs.declared.Address.{Address}
+use Rattle.model.specs.declared.Block.{Block}
+use Rattle.model.specs.declared.Offer.{Offer}
+use Rattle.model.specs.declared.Offer.the-variants.{Nothing, Fresh}
+use Rattle.model.specs.declared.Refusal.the-variants as Refusal
+use Rattle.model.specs.Base.{if_then_else_, count, flag}
+use Rattle.model.specs.Params.{goodParams, start, blockAt, localSets, available, consumed}
+use Rattle.model.specs.Memory.{load, zeroed}
+use Rattle.model.specs.Tables.{Words, Tables, tablesOf, setFree}
+use Rattle.model.specs.SizeClasses.{cellBytes, alignAllocation}
+use Rattle.model.specs.BlockList.{popped, push}
+use Rattle.model.specs.Block.{Unmarked, linkAll, initChain, initBlock}
+use Rattle.model.specs.Sound.{linkOk}
+use Rattle.model.specs.Events.{Event, initialised, taken, eventHeap, eventsHeap, isSweep, sweeps}
+use Rattle.model.specs.FreeListAllocator.{Found, andThen, Search, inFound, findFreeBlockWith, recycleLocalBlocks, acquireAbandoned, acquireFresh, findBlock}
+use Rattle.model.specs.Calls.{answered, refused, says, takes, takePlan, takeCell, finish, Step}
+use Rattle.laws.specs.Base.{count-append}
+use Rattle.laws.specs.Params.{good-bounds}
+use Rattle.native_ms.specs.Block.{Initialised, TakenOut, took, takeFree}
+use Rattle.native_ms.specs.declared.block.Taken.{Taken}
+use Rattle.native_ms.specs.declared.block.Taken.the-variants.{BadLink, Cell}
+use Rattle.native_ms.specs.Closing.{Seen, seen, closed, Searched}
+use Rattle.native_ms.proofs.TakeCell.{took-bad, took-cell}
+use Rattle.native_ms.proofs.Heads.{Low, find-low}
+use Rattle.native_ms.specs.Ending.{Ended, ended, closedSearch, acquireGlobal, Freshened, Stepped, stepped, servedBy}
+
+-- ---- events one after the other
+
+pub events-append : (p : Params) (es ds : List Event) (h : List ℕ) → eventsHeap p (es ++ ds) h ≡ eventsHeap p ds (eventsHeap p es h)
+unfolding eventsHeap
+events-append p [] ds h = refl
+events-append p (e ∷ es) ds h = events-append p es ds (eventHeap p e h)
+
+pub sweeps-append : (es ds : List Event) → sweeps (es ++ ds) ≡ sweeps es + sweeps ds
+unfolding sweeps
+sweeps-append es ds = count-append isSweep es ds
+
+-- a search of these events went on where others had happened
+then-ended : (p : Params) (n : ℕ) (h : List ℕ) (es ds : List Event) (a : ℕ) (f : Bool) (t : Tables)
+    → ended a (n + sweeps es + sweeps ds) f t (eventsHeap p ds (eventsHeap p es h)) ≡ ended a (n + sweeps (es ++ ds)) f t (eventsHeap p (es ++ ds) h)
+then-ended p n h es ds a f t = rw (sweeps-append es ds, events-append p es ds h, add-assoc)
+
+init-sweeps : (b : ℕ) (chain : List ℕ) → sweeps (initialised b chain ∷ []) ≡ 0
+unfolding sweeps count isSweep
+init-sweeps b chain = refl
+
+init-heap : (p : Params) (b : ℕ) (chain h : List ℕ) → eventsHeap p (initialised b chain ∷ []) h ≡ linkAll p chain h
+unfolding eventsHeap eventHeap
+init-heap p b chain h = refl
+
+-- an init at the end
+init-ended : (p : Params) (n : ℕ) (h : List ℕ) (es : List Event) (b : ℕ) (chain : List ℕ) (a : ℕ) (t : Tables)
+    → ended a (n + sweeps es) true t (linkAll p chain (eventsHeap p es h)) ≡ ended a (n + sweeps (es ++ (initialised b chain ∷ []))) true t (eventsHeap p (es ++ (initialised b chain ∷ [])) h)
+init-ended p n h es b chain a t =
+    rw (sweeps-append es (initialised b chain ∷ []), events-append p es (initialised b chain ∷ []) h, init-sweeps b chain, init-heap p b chain (eventsHeap p es h), add-zero (sweeps es))
+
+-- ---- the offered block
+
+pub freshened : (p : Params) (holder bin b : ℕ) {o a s : ℕ} {t₁ t₂ : Words} {st₁ h₁ : List ℕ} (t : Words) (st h : List ℕ)
+    → o ≡ localSets holder → a ≡ available o bin → s ≡ cellBytes p bin → t₁ ≡ push p a b t → Initialised p b s holder t₁ h t₂ h₁
+    → st₁ ≡ set st b 255 → Freshened p holder bin b t st h t₂ st₁ h₁
+freshened p holder bin b t st h eo ea es e₁ i e₂ =
+    record { words = rw (i .words, e₁, ea, eo, es); states = e₂; heap = rw (i .heap, es) }
+
+-- ---- blocks from outside the holder's lists
+
+module _ (p : Params) (holder bin n : ℕ) (t : Words) (st ms h : List ℕ) {v s : ℕ} {t₁ : Words} {h₁ : List ℕ} (e : seen v s t₁ h₁ ≡ closed p n h (acquireAbandoned (p .blocks) p ms holder bin t)) where
+  abbrev a : Found
+  a = acquireAbandoned (p .blocks) p ms holder bin t
+
+  at-same : v ≡ a .at
+  at-same = ap (λ (k : Seen). k .at) e
+
+  pub global-found : (offer : Offer) → (v ≡ 0 → ⊥) → ended v s false (tablesOf t₁ st ms) h₁ ≡ closedSearch p n h (acquireGlobal p holder bin offer (tablesOf t st ms))
+  unfolding acquireGlobal
+  global-found offer nz =
+      rw (ne-eqb (a .at) 0 (λ q. nz (at-same ∙ q))) (ap (λ (k : Seen). ended (k .at) (k .swept) false (tablesOf (k .words) st ms) (k .heap)) e)
+
+  module _ (z : v ≡ 0) where
+    none : eqb (a .at) 0 ≡ true
+    none = eq-eqb (a .at) 0 (sym at-same ∙ z)
+
+    pub global-none : (offer : Offer) → offer ≡ Nothing → ended 0 s false (tablesOf t₁ st ms) h₁ ≡ closedSearch p n h (acquireGlobal p holder bin offer (tablesOf t st ms))
+    unfolding acquireGlobal acquireFresh
+    global-none offer eo =
+        rw (eo, none) (ap (λ (x : ℕ). ended x s false (tablesOf t₁ st ms) h₁) (sym z) ∙ ap (λ (k : Seen). ended (k .at) (k .swept) false (tablesOf (k .words) st ms) (k .heap)) e)
+
+    pub global-fresh : {x : ℕ} {t₂ : Words} {st₂ h₂ : List ℕ} (offer : Offer) (b : Block) → offer ≡ Fresh b → Freshened p holder bin (b .0) t₁ st h₁ t₂ st₂ h₂ → x ≡ start p (b .0)
+        → ended x s true (tablesOf t₂ st₂ ms) h₂ ≡ closedSearch p n h (acquireGlobal p holder bin offer (tablesOf t st ms))
+    unfolding acquireGlobal acquireFresh
+    global-fresh offer b eo f ex =
+        rw (eo, none, ex, f .words, f .states, f .heap)
+        (ap (λ (k : Seen). ended (start p (b .0)) (k .swept) true (made (k .words)) (linkAll p chain (k .heap))) e
+        ∙ init-ended p n h (a .events) (b .0) chain (start p (b .0)) (made (a .words)))
+      where
+        chain : List ℕ
+        chain = initChain p (b .0) (cellBytes p bin)
+
+        made : Words → Tables
+        made w = tablesOf (initBlock p (b .0) (cellBytes p bin) holder (push p (available (localSets holder) bin) (b .0) w)) (set st (b .0) Unmarked) ms
+
+-- ---- the whole search
+
+module _ (p : Params) (holder bin : ℕ) (offer : Offer) (t : Words) (st ms h : List ℕ) {o a c v : ℕ} {t₁ : Words} (eo : o ≡ localSets holder) (ea : a ≡ available o bin) (ec : c ≡ consumed o bin) (e : popped v t₁ ≡ findFreeBlockWith (p .blocks) p a c t) where
+  pub find-skimmed : (v ≡ 0 → ⊥) → ended v 0 false (tablesOf t₁ st ms) h ≡ closedSearch p 0 h (findBlock p holder bin offer (tablesOf t st ms))
+  unfolding findBlock eventsHeap sweeps count
+  find-skimmed z = rw (← eo, ← ea, ← ec, ← e, ne-eqb v 0 z)
+
+  module _ (z : v ≡ 0) {x s : ℕ} {t₂ : Words} {h₂ : List ℕ} (r : Searched (p .blocks) (seen x s t₂ h₂) (closed p 0 h (recycleLocalBlocks (p .blocks) p ms o bin t₁))) where
+    abbrev f : Found
+    f = recycleLocalBlocks (p .blocks) p ms o bin t₁
+
+    recycled-at : x ≡ f .at
+    recycled-at = ap (λ (k : Seen). k .at) (r .same)
+
+    pub find-recycled : (x ≡ 0 → ⊥) → ended x s false (tablesOf t₂ st ms) h₂ ≡ closedSearch p 0 h (findBlock p holder bin offer (tablesOf t st ms))
+    unfolding findBlock
+    find-recycled nz =
+        rw (← eo, ← ea, ← ec, ← e, eq-eqb v 0 z, ne-eqb (f .at) 0 (λ q. nz (recycled-at ∙ q)))
+        (ap (λ (k : Seen). ended (k .at) (k .swept) false (tablesOf (k .words) st ms) (k .heap)) (r .same))
+
+    -- what is left once the holder's lists gave nothing
+    d : Found
+    d = acquireAbandoned (p .blocks) p ms holder bin (f .words)
+
+    rest : Bool → Offer → Search
+    rest q w = if q then acquireFresh p holder bin w (andThen f d) (tablesOf t st ms) else inFound (andThen f d) (tablesOf t st ms)
+
+    rest-same : (q : Bool) (w : Offer) → closedSearch p (0 + sweeps (f .events)) (eventsHeap p (f .events) h) (if q then acquireFresh p holder bin w d (tablesOf (f .words) st ms) else inFound d (tablesOf (f .words) st ms)) ≡ closedSearch p 0 h (rest q w)
+    unfolding rest acquireFresh
+    rest-same false w = then-ended p 0 h (f .events) (d .events) (d .at) false (tablesOf (d .words) st ms)
+    rest-same true Nothing = then-ended p 0 h (f .events) (d .events) (d .at) false (tablesOf (d .words) st ms)
+    rest-same true (Fresh b) = rw append-assoc (then-ended p 0 h (f .events) (d .events ++ (initialised (b .0) (initChain p (b .0) (cellBytes p bin)) ∷ [])) (start p (b .0)) true _)
+
+    pub find-global : {g : Ended} → x ≡ 0 → g ≡ closedSearch p s h₂ (acquireGlobal p holder bin offer (tablesOf t₂ st ms)) → g ≡ closedSearch p 0 h (findBlock p holder bin offer (tablesOf t st ms))
+    unfolding findBlock acquireGlobal rest d
+    find-global y eg =
+        eg ∙ ap (λ (k : Seen). closedSearch p (k .swept) (k .heap) (acquireGlobal p holder bin offer (tablesOf (k .words) st ms))) (r .same)
+        ∙ rest-same (eqb (d .at) 0) offer
+        ∙ rw (← eo, ← ea, ← ec, ← e, eq-eqb v 0 z, eq-eqb (f .at) 0 (sym recycled-at ∙ y))
+
+-- ---- the end
+
+stepOf : Step → Stepped
+stepOf f = stepped (f .reply) (f .tables) (f .heap)
+
+-- how the call ends, from what the code sees of the search
+endOf : Params → ℕ → ℕ → List Event → Ended → Stepped
+endOf p align offset es g =
+    if eqb (g .at) 0 then stepped (refused Refusal.Exhausted) (g .tables) (g .heap)
+    else stepOf (takeCell p (g .tables) es (g .heap) (blockAt p (g .at)) align offset (g .fresh))
+
+served-end : (p : Params) (align offset : ℕ) (h : List ℕ) (s : Search) → servedBy p align offset h s ≡ endOf p align offset (s .events) (closedSearch p 0 h s)
+unfolding servedBy takePlan finish endOf stepOf
+served-end p align offset h s = go (eqb (s .at) 0)
+  where
+    hp : List ℕ
+    hp = eventsHeap p (s .events) h
+
+    b : ℕ
+    b = blockAt p (s .at)
+
+    go : (q : Bool) → stepOf (finish p (s .tables) (s .events) hp (if q then says (refused Refusal.Exhausted) else takes b align offset (s .fresh)))
+        ≡ (if q then stepped (refused Refusal.Exhausted) (s .tables) hp else stepOf (takeCell p (s .tables) (s .events) hp b align offset (s .fresh)))
+    go true = refl
+    go false = refl
+
+module _ (p : Params) (align offset : ℕ) (h : List ℕ) (s : Search) {v n : ℕ} {fresh : Bool} {t₁ : Words} {st₁ ms h₁ : List ℕ} (e : ended v n fresh (tablesOf t₁ st₁ ms) h₁ ≡ closedSearch p 0 h s) where
+  from : servedBy p align offset h s ≡ endOf p align offset (s .events) (ended v n fresh (tablesOf t₁ st₁ ms) h₁)
+  from = served-end p align offset h s ∙ sym (ap (endOf p align offset (s .events)) e)
+
+  pub serve-none : v ≡ 0 → stepped (refused Refusal.Exhausted) (tablesOf t₁ st₁ ms) h₁ ≡ servedBy p align offset h s
+  unfolding endOf
+  serve-none z = sym (from ∙ rw (eq-eqb v 0 z))
+
+  module _ (nz : v ≡ 0 → ⊥) {b : ℕ} {k : Taken} {t₂ : Words} {h₂ : List ℕ} (eb : b ≡ blockAt p v) (ek : took k t₂ h₂ ≡ takeFree p b t₁ h₁) where
+    at-cell : servedBy p align offset h s ≡ stepOf (takeCell p (tablesOf t₁ st₁ ms) (s .events) h₁ b align offset fresh)
+    unfolding endOf
+    at-cell = from ∙ rw (ne-eqb v 0 nz, ← eb)
+
+    pub serve-bad : k ≡ BadLink → stepped (refused Refusal.BadLink) (tablesOf t₂ st₁ ms) h₂ ≡ servedBy p align offset h s
+    unfolding stepOf
+    serve-bad q =
+        sym (at-cell ∙ ap stepOf (took-bad p (tablesOf t₁ st₁ ms) (s .events) h₁ b align offset fresh (ap (λ (x : Taken). took x t₂ h₂) (sym q) ∙ ek)))
+
+    pub serve-cell : {a : Address} {size r : ℕ} → k ≡ Cell a size → r ≡ alignAllocation (a .0) align offset
+        → stepped (answered (r ∷ size ∷ flag fresh ∷ n ∷ [])) (tablesOf t₂ st₁ ms) h₂ ≡ servedBy p align offset h s
+    unfolding stepOf
+    serve-cell q er =
+        let en : n ≡ sweeps (s .events) = ap (λ (x : Ended). x .swept) e ∙ zero-add (sweeps (s .events)) in
+        rw (er, en) (sym (at-cell ∙ ap stepOf (took-cell p (tablesOf t₁ st₁ ms) (s .events) h₁ b align offset fresh (ap (λ (x : Taken). took x t₂ h₂) (sym q) ∙ ek))))
+
+-- ---- the cell taken is low: free heads stay so in a search
+
+cell-at : (p : Params) (b : ℕ) (t : Words) (h : List ℕ) {k : Taken} {t₂ : Words} {h₂ : List ℕ} {a : Address} {sz : ℕ} → took k t₂ h₂ ≡ takeFree p b t h → k ≡ Cell a sz → a .0 ≡ getD (t .free) b 0
+unfolding takeFree
+cell-at p b t h {k} {t₂} {h₂} {a} {sz} ek q = go (linkOk p t b (load p h cell)) ek
+  where
+    cell : ℕ
+    cell = getD (t .free) b 0
+
+    go : (ok : Bool) → took k t₂ h₂ ≡ (if ok then took (Cell (record { 0 = cell }) (getD (t .size) b 0)) (setFree b (load p h cell) t) (zeroed p h cell (getD (t .size) b 0)) else took BadLink t h) → a .0 ≡ cell
+    go true e =
+        let ka : k ≡ Cell (record { 0 = cell }) (getD (t .size) b 0) = ap (λ (o : TakenOut). o .answer) e in
+        let ea : a ≡ record { 0 = cell } = cc in
+        ap (λ (x : Address). x .0) ea
+    go false e =
+        let ka : k ≡ BadLink = ap (λ (o : TakenOut). o .answer) e in
+        let z : _≡_ {A = ℕ} 0 1 = cc in
+        absurd (omega arith)
+
+pub cell-low : (p : Params) (holder bin : ℕ) (offer : Offer) (t : Words) (st h : List ℕ) (b : ℕ) {ms : List ℕ} {v n : ℕ} {fresh : Bool} {t₁ t₂ : Words} {st₁ h₁ h₂ : List ℕ} {k : Taken} {a : Address} {sz : ℕ}
+    → goodParams p ≡ true → Low t → ended v n fresh (tablesOf t₁ st₁ ms) h₁ ≡ closedSearch p 0 h (findBlock p holder bin offer (tablesOf t st ms))
+    → took k t₂ h₂ ≡ takeFree p b t₁ h₁ → k ≡ Cell a sz → a .0 < 2 ^ 47
+cell-low p holder bin offer t st h b {ms} {v} {n} {fresh} {t₁} {t₂} {st₁} {h₁} g low e ek q =
+    let w : t₁ ≡ findBlock p holder bin offer (tablesOf t st ms) .tables .words = ap (λ (x : Ended). x .tables .words) e in
+    rw (cell-at p b t₁ h₁ ek q, w) (find-low p (good-bounds p g) holder bin offer (tablesOf t st ms) low b)

@@ -1,0 +1,77 @@
+-- `free_list_allocator::acquire_global_block` tries abandoned blocks and then the offer, as `acquireGlobal` does. One law for each way
+-- out.
+use Rattle.native_ms.proofs.Ending.{global-found, global-none, global-fresh}
+use borrow.Author.Needs.{needs}
+use Rattle.native_ms.proofs.free_list_allocator.acquire_global_block.Statement.{statement}
+use Rattle.native_ms.proofs.free_list_allocator.acquire_global_block.Tie as tie
+
+--@ acquire-abandoned-requires c κs = @pre
+acquire-abandoned-requires : tie.Need-acquire-abandoned-requires
+acquire-abandoned-requires c κs = (c .before .before .before .before .before .before .pre)
+
+same-length : tie.Need-same-length
+same-length c = search needs
+
+same-length-2 : tie.Need-same-length-2
+same-length-2 c = search needs
+
+--@ returns c = global-found _ _ _ _ _ _ _ _ (@acquire-abandoned .ensures) _ (@if1 .taken)
+returns : tie.Need-returns
+returns c = global-found _ _ _ _ _ _ _ _ (c .before .before .before .before .before .before .acquire-abandoned .ensures) _ (c .if1 .taken)
+
+enum-told : tie.Need-enum-told
+enum-told c = search needs
+
+enum-known-offer : tie.Need-enum-known-offer
+enum-known-offer c = search needs
+
+--@ acquire-fresh-requires c κs = (@pre .0, @pre .1, @pre .2, @pre .3)
+acquire-fresh-requires : tie.Need-acquire-fresh-requires
+acquire-fresh-requires c κs = (c .before .before .before .before .before .before .before .before .before .before .before .before .before .before .before .before .before .before .before .pre .0, c .before .before .before .before .before .before .before .before .before .before .before .before .before .before .before .before .before .before .before .pre .1, c .before .before .before .before .before .before .before .before .before .before .before .before .before .before .before .before .before .before .before .pre .2, c .before .before .before .before .before .before .before .before .before .before .before .before .before .before .before .before .before .before .before .pre .3)
+
+--@ start-requires c κs = @pre .0
+start-requires : tie.Need-start-requires
+start-requires c κs = c .before .before .before .before .before .before .before .before .before .before .before .before .before .before .before .before .before .before .before .before .before .before .before .before .before .before .pre .0
+
+same-length-3 : tie.Need-same-length-3
+same-length-3 c = search needs
+
+same-length-4 : tie.Need-same-length-4
+same-length-4 c = search needs
+
+--@ returns-2 c = global-none _ _ _ _ _ _ _ _ (@acquire-abandoned .ensures) (@if1 .left) _ (@enum-told .given .1)
+returns-2 : tie.Need-returns-2
+returns-2 c = global-none _ _ _ _ _ _ _ _ (c .before .before .before .before .before .before .before .before .acquire-abandoned .ensures) (c .before .before .if1 .left) _ (c .enum-told .given .1)
+
+same-length-5 : tie.Need-same-length-5
+same-length-5 c = search needs
+
+same-length-6 : tie.Need-same-length-6
+same-length-6 c = search needs
+
+same-length-7 : tie.Need-same-length-7
+same-length-7 c = search needs
+
+--@ returns-3 c = global-fresh _ _ _ _ _ _ _ _ (@acquire-abandoned .ensures) (@if1 .left) _ _ (@offer .given .1) (@acquire-fresh .ensures) (@start .ensures)
+returns-3 : tie.Need-returns-3
+returns-3 c = global-fresh _ _ _ _ _ _ _ _ (c .before .before .before .before .before .before .before .before .before .before .before .before .before .before .before .before .before .before .before .before .acquire-abandoned .ensures) (c .before .before .before .before .before .before .before .before .before .before .before .before .before .before .if1 .left) _ _ (c .before .before .before .before .before .before .before .before .before .before .before .before .offer .given .1) (c .before .before .before .before .before .before .before .acquire-fresh .ensures) (c .start .ensures)
+
+pub acquire-global-block-spec : {M : Type 1} → statement M
+acquire-global-block-spec =
+    tie.close
+    (tie.spec
+    acquire-abandoned-requires
+    same-length
+    same-length-2
+    returns
+    enum-told
+    enum-known-offer
+    acquire-fresh-requires
+    start-requires
+    same-length-3
+    same-length-4
+    returns-2
+    same-length-5
+    same-length-6
+    same-length-7
+    returns-3)

@@ -1,0 +1,94 @@
+-- `free_list_allocator::serve` ends as the machine does once its search is made: no block, a bad link, or a cell. One law for each.
+-- The cell is low enough to be shifted, since free heads stay low in a search.
+use Rattle.model.specs.Answers.{allocReply}
+use Rattle.native_ms.proofs.Ending.{serve-none, serve-bad, serve-cell, cell-low}
+use borrow.Author.Needs.{needs}
+use Rattle.native_ms.proofs.free_list_allocator.serve.Statement.{statement}
+use Rattle.native_ms.proofs.free_list_allocator.serve.Tie as tie
+
+--@ find-block-requires c κs = (@pre .good, @pre .holder-from, @pre .holder-to, @pre .bin-low)
+find-block-requires : tie.Need-find-block-requires
+find-block-requires c κs = (c .before .before .before .before .before .before .before .pre .good, c .before .before .before .before .before .before .before .pre .holder-from, c .before .before .before .before .before .before .before .pre .holder-to, c .before .before .before .before .before .before .before .pre .bin-low)
+
+same-length : tie.Need-same-length
+same-length c = search needs
+
+same-length-2 : tie.Need-same-length-2
+same-length-2 c = search needs
+
+same-length-3 : tie.Need-same-length-3
+same-length-3 c = search needs
+
+--@ returns c = serve-none _ _ _ _ _ (@find-block .ensures) (@if1 .taken)
+returns : tie.Need-returns
+unfolding allocReply
+returns c = serve-none _ _ _ _ _ (c .before .before .before .before .before .before .before .before .find-block .ensures) (c .if1 .taken)
+
+--@ block-at-requires c κs = @pre .good
+block-at-requires : tie.Need-block-at-requires
+block-at-requires c κs = c .before .before .before .before .before .before .before .before .before .before .before .before .before .before .before .before .pre .good
+
+--@ block-alloc-requires c κs = @pre .good
+block-alloc-requires : tie.Need-block-alloc-requires
+block-alloc-requires c κs = c .before .before .before .before .before .before .before .before .before .before .before .before .before .before .before .before .before .before .before .pre .good
+
+enum-told : tie.Need-enum-told
+enum-told c = search needs
+
+enum-known-cell : tie.Need-enum-known-cell
+enum-known-cell c = search needs
+
+--@ align-allocation-requires c κs = (@pre .align-from, @pre .align-to, cell-low _ _ _ _ _ _ _ _ (@pre .good) (@pre .heads) (@find-block .ensures) (@block-alloc .ensures) (@cell .given .1), @pre .offset-low)
+align-allocation-requires : tie.Need-align-allocation-requires
+align-allocation-requires c κs = (c .before .before .before .before .before .before .before .before .before .before .before .before .before .before .before .before .before .before .before .before .before .before .before .before .before .before .before .pre .align-from, c .before .before .before .before .before .before .before .before .before .before .before .before .before .before .before .before .before .before .before .before .before .before .before .before .before .before .before .pre .align-to, cell-low _ _ _ _ _ _ _ _ (c .before .before .before .before .before .before .before .before .before .before .before .before .before .before .before .before .before .before .before .before .before .before .before .before .before .before .before .pre .good) (c .before .before .before .before .before .before .before .before .before .before .before .before .before .before .before .before .before .before .before .before .before .before .before .before .before .before .before .pre .heads) (c .before .before .before .before .before .before .before .before .before .before .before .before .before .before .before .before .before .before .before .find-block .ensures) (c .before .before .before .before .before .before .before .block-alloc .ensures) (c .before .cell .given .1), c .before .before .before .before .before .before .before .before .before .before .before .before .before .before .before .before .before .before .before .before .before .before .before .before .before .before .before .pre .offset-low)
+
+same-length-4 : tie.Need-same-length-4
+same-length-4 c = search needs
+
+same-length-5 : tie.Need-same-length-5
+same-length-5 c = search needs
+
+same-length-6 : tie.Need-same-length-6
+same-length-6 c = search needs
+
+--@ returns-2 c = serve-bad _ _ _ _ _ (@find-block .ensures) (@if1 .left) (@block-at .ensures) (@block-alloc .ensures) (@enum-told .given .1)
+returns-2 : tie.Need-returns-2
+unfolding allocReply
+returns-2 c = serve-bad _ _ _ _ _ (c .before .before .before .before .before .before .before .before .before .before .before .before .before .before .before .before .before .before .find-block .ensures) (c .before .before .before .before .before .before .before .before .before .before .if1 .left) (c .before .before .before .before .before .before .before .before .before .block-at .ensures) (c .before .before .before .before .before .before .block-alloc .ensures) (c .enum-told .given .1)
+
+same-length-7 : tie.Need-same-length-7
+same-length-7 c = search needs
+
+same-length-8 : tie.Need-same-length-8
+same-length-8 c = search needs
+
+same-length-9 : tie.Need-same-length-9
+same-length-9 c = search needs
+
+--@ returns-3 c = serve-cell _ _ _ _ _ (@find-block .ensures) (@if1 .left) (@block-at .ensures) (@block-alloc .ensures) (@cell .given .1) (@align-allocation .ensures)
+returns-3 : tie.Need-returns-3
+unfolding allocReply
+returns-3 c = serve-cell _ _ _ _ _ (c .before .before .before .before .before .before .before .before .before .before .before .before .before .before .before .before .before .before .before .before .find-block .ensures) (c .before .before .before .before .before .before .before .before .before .before .before .before .if1 .left) (c .before .before .before .before .before .before .before .before .before .before .before .block-at .ensures) (c .before .before .before .before .before .before .before .before .block-alloc .ensures) (c .before .before .cell .given .1) (c .align-allocation .ensures)
+
+pub serve-spec : {M : Type 1} → statement M
+serve-spec =
+    tie.close
+    (tie.spec
+    find-block-requires
+    same-length
+    same-length-2
+    same-length-3
+    returns
+    block-at-requires
+    block-alloc-requires
+    enum-told
+    enum-known-cell
+    align-allocation-requires
+    same-length-4
+    same-length-5
+    same-length-6
+    returns-2
+    same-length-7
+    same-length-8
+    same-length-9
+    returns-3)

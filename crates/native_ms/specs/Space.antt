@@ -1,0 +1,22 @@
+-- Tests and steps of the space's calls that the machine has no name for.
+use Prim.Native.Nat.{ℕ, _+_, _/_}
+use mathlib.Core.Bool.{Bool, _&&_}
+use lib.Dec.{eqb, ltb, leb}
+use lib.ListN.{replicate}
+use Rattle.model.specs.declared.Params.{Params}
+use Rattle.model.specs.Params.{goodParams, wordCount, heapBytes, start}
+use Rattle.model.specs.Tables.{Words, setPhase, withReleased}
+use Rattle.model.specs.Global.{Running, merge}
+
+-- `fits`, of lengths
+unfoldable pub lengthsFit : Params → ℕ → ℕ → ℕ → ℕ → Bool
+lengthsFit p w s m h =
+    goodParams p && eqb w (wordCount p) && eqb s (p .blocks) && eqb m (heapBytes p / 64) && eqb h (heapBytes p)
+
+-- an address lies in the block b
+unfoldable pub inBlock : Params → ℕ → ℕ → Bool
+inBlock p b a = leb (start p b) a && ltb a (start p b + p .bytes)
+
+-- the end of a collection
+unfoldable pub collected : Params → Words → Words
+collected p t = setPhase Running (withReleased (replicate 9 0) (merge p t))

@@ -1,0 +1,537 @@
+// The space: set-up, holders, marking and the releases of a collection. Named after the Rust's global.rs, with
+// `abandon_blocks` and `release` of free_list_allocator.rs.
+//
+// | call                    | phase              | after                        |
+// |-------------------------|--------------------|------------------------------|
+// | bind, destroy           | Running            | Running                      |
+// | prepare                 | Running            | Marking                      |
+// | mark                    | Marking            | Marking                      |
+// | release, shared release | Marking, Releasing | Releasing; the last: Running |
+use crate::address;
+use crate::block;
+use crate::block_list;
+use crate::memory;
+use crate::params;
+use crate::sound;
+use model::Address;
+use model::Answer;
+use model::Block;
+use model::MarkAnswer;
+use model::Params;
+use model::Refusal;
+use model::ReleaseAnswer;
+use words::marks;
+use words::states;
+use words::tables;
+ghost use mathlib.Core.Path.{_≡_};
+ghost use mathlib.Core.Bool.{true, _&&_};
+ghost use mathlib.Core.List.{List, map};
+ghost use Prim.Native.Nat.{ℕ, _<_, _≤_, _^_};
+ghost use lib.ListN.{length, getD, replicate};
+ghost use Rattle.model.specs.Params.{goodParams, minusLower};
+ghost use Rattle.model.specs.Tables.{Words, view, tablesOf, withReleased};
+ghost use Rattle.model.specs.Global.{freed, abandonBin, abandonBlocks, unmarkedState, releaseFrom, releaseBin, releaseHolder, sweepLaterBin, sweepLater, isHolder, hasReleased, mergeBin, merge, partReleased};
+ghost use Rattle.model.specs.Calls.{bind, destroy, prepare, mark, release, sharedRelease, goodObject, mayRelease};
+ghost use Rattle.model.specs.Answers.{replyOf, markReply, releaseReply};
+ghost use Rattle.native_ms.specs.Promise.{lend, Promised, SetUpPromised};
+ghost use Rattle.native_ms.specs.Space.{lengthsFit, inBlock, collected};
+ghost use Rattle.native_ms.specs.Released.{out, total, attemptRelease, releasedBins};
+
+// Whether parameters and lengths are good.
+pub(crate) fn lent_fits(p: Params, words: usize, states: usize, marks: usize, heap: usize) -> bool
+    ensures { λ r. ⌜ r ≡ lengthsFit p words states marks heap ⌝ }
+{
+    if !params::good_params(p) {
+        return false;
+    }
+    params::lengths_fit(p, words, states, marks, heap)
+}
+
+// ---- set-up
+
+fn clear_words(w: &mut [usize])
+    ensures { λ _. ⌜ now (w .exit) ≡ replicate (length (now (w .entry))) 0 ⌝ }
+{
+    let mut i: usize = 0;
+    while i < w.len() {
+        w[i] = 0;
+        i = i + 1;
+    }
+}
+
+// Zeroes tables and marks, and leaves the heap.
+pub fn set_up(
+    p: Params,
+    words: &mut [usize],
+    states: &mut [u8],
+    marks: &mut [u8],
+    heap: &[u8],
+) -> Answer
+    ensures { λ r. ⌜ SetUpPromised p (lend (now (words .entry)) (now (states .entry)) (now (marks .entry)) (now (heap .entry))) (replyOf r) (lend (now (words .exit)) (now (states .exit)) (now (marks .exit)) (now (heap .entry))) ⌝ }
+{
+    if !lent_fits(p, words.len(), states.len(), marks.len(), heap.len()) {
+        return Answer::Refused(Refusal::BadSetup);
+    }
+    clear_words(words);
+    marks::clear_all(states);
+    marks::clear_all(marks);
+    Answer::Done
+}
+
+// ---- holders
+
+// Gives a holder its lists, which are empty.
+pub fn bind(
+    p: Params,
+    words: &mut [usize],
+    states: &[u8],
+    marks: &[u8],
+    heap: &[u8],
+    holder: usize,
+) -> Answer
+    ensures { λ r. ⌜ Promised p (lend (now (words .entry)) (now (states .entry)) (now (marks .entry)) (now (heap .entry))) (bind holder) (replyOf r) (lend (now (words .exit)) (now (states .entry)) (now (marks .entry)) (now (heap .entry))) ⌝ }
+{
+    if !lent_fits(p, words.len(), states.len(), marks.len(), heap.len()) {
+        return Answer::Refused(Refusal::BadSetup);
+    }
+    if !sound::sound(p, words, states) {
+        return Answer::Refused(Refusal::BadTables);
+    }
+    if tables::phase(words) != 0 {
+        return Answer::Refused(Refusal::WrongPhase);
+    }
+    if !sound::is_holder(holder) {
+        return Answer::Refused(Refusal::BadHolder);
+    }
+    if sound::is_bound(words, holder) {
+        return Answer::Refused(Refusal::BadHolder);
+    }
+    tables::set_bound(words, holder - 1, 1);
+    Answer::Done
+}
+
+// One bin of three lists goes behind another owner's.
+fn abandon_bin(p: Params, w: &mut [usize], to: usize, from: usize, bin: usize)
+    requires { ⌜ (goodParams p ≡ true) × (to ≤ 27) × (from ≤ 27) × (bin < 49) ⌝ }
+    ensures { λ _. ⌜ view (now (w .exit)) ≡ abandonBin p to from bin (view (now (w .entry))) ⌝ }
+{
+    let a = address::list_of(to, bin);
+    let u = address::list_of(to + 1, bin);
+    let c = address::list_of(to + 2, bin);
+    let fa = address::list_of(from, bin);
+    let fu = address::list_of(from + 1, bin);
+    let fc = address::list_of(from + 2, bin);
+    block_list::append(p, w, a, fa);
+    block_list::append(p, w, c, fc);
+    block_list::append(p, w, u, fu);
+}
+
+// All lists of one owner, by its first set, go behind another's.
+fn abandon_blocks(p: Params, w: &mut [usize], to: usize, from: usize)
+    requires { ⌜ (goodParams p ≡ true) × (to ≤ 27) × (from ≤ 27) ⌝ }
+    ensures { λ _. ⌜ view (now (w .exit)) ≡ abandonBlocks p to from (view (now (w .entry))) ⌝ }
+{
+    let mut bin: usize = 0;
+    while bin < 49 {
+        abandon_bin(p, w, to, from, bin);
+        bin = bin + 1;
+    }
+}
+
+// Hands a holder's lists to abandoned; the holder is bound no more.
+pub fn destroy(
+    p: Params,
+    words: &mut [usize],
+    states: &[u8],
+    marks: &[u8],
+    heap: &[u8],
+    holder: usize,
+) -> Answer
+    ensures { λ r. ⌜ Promised p (lend (now (words .entry)) (now (states .entry)) (now (marks .entry)) (now (heap .entry))) (destroy holder) (replyOf r) (lend (now (words .exit)) (now (states .entry)) (now (marks .entry)) (now (heap .entry))) ⌝ }
+{
+    if !lent_fits(p, words.len(), states.len(), marks.len(), heap.len()) {
+        return Answer::Refused(Refusal::BadSetup);
+    }
+    if !sound::sound(p, words, states) {
+        return Answer::Refused(Refusal::BadTables);
+    }
+    if tables::phase(words) != 0 {
+        return Answer::Refused(Refusal::WrongPhase);
+    }
+    if !sound::is_bound(words, holder) {
+        return Answer::Refused(Refusal::BadHolder);
+    }
+    let from = address::local_sets(holder);
+    abandon_blocks(p, words, 24, from);
+    tables::set_bound(words, holder - 1, 0);
+    Answer::Done
+}
+
+// ---- marking
+
+fn unmarked_state(s: u8) -> u8
+    ensures { λ r. ⌜ r ≡ unmarkedState s ⌝ }
+{
+    if s == 0 {
+        return 0;
+    }
+    255
+}
+
+// Occupied blocks become Unmarked.
+fn unmark_blocks(st: &mut [u8])
+    ensures { λ _. ⌜ now (st .exit) ≡ map unmarkedState (now (st .entry)) ⌝ }
+{
+    let mut i: usize = 0;
+    while i < st.len() {
+        let s = unmarked_state(st[i]);
+        st[i] = s;
+        i = i + 1;
+    }
+}
+
+// Starts a collection.
+pub fn prepare(
+    p: Params,
+    words: &mut [usize],
+    states: &mut [u8],
+    marks: &mut [u8],
+    heap: &[u8],
+) -> Answer
+    ensures { λ r. ⌜ Promised p (lend (now (words .entry)) (now (states .entry)) (now (marks .entry)) (now (heap .entry))) prepare (replyOf r) (lend (now (words .exit)) (now (states .exit)) (now (marks .exit)) (now (heap .entry))) ⌝ }
+{
+    if !lent_fits(p, words.len(), states.len(), marks.len(), heap.len()) {
+        return Answer::Refused(Refusal::BadSetup);
+    }
+    if !sound::sound(p, words, states) {
+        return Answer::Refused(Refusal::BadTables);
+    }
+    if tables::phase(words) != 0 {
+        return Answer::Refused(Refusal::WrongPhase);
+    }
+    tables::set_phase(words, 1);
+    unmark_blocks(states);
+    marks::clear_all(marks);
+    Answer::Done
+}
+
+// Where the object of a mark place starts: place − L.
+fn minus_lower(p: Params, place: Address) -> usize
+    requires { ⌜ (goodParams p ≡ true) × (4096 ≤ place .0) × (place .0 ≤ 2 ^ 48) ⌝ }
+    ensures { λ r. ⌜ r ≡ minusLower p (place .0) ⌝ }
+{
+    let a = place.0 + 64;
+    a - block::biased(p.lower)
+}
+
+fn in_block(p: Params, b: Block, a: usize) -> bool
+    requires { ⌜ (goodParams p ≡ true) × (b .0 < p .blocks) ⌝ }
+    ensures { λ r. ⌜ r ≡ inBlock p (b .0) a ⌝ }
+{
+    let from = address::start(p, b);
+    let v = from.0;
+    if a < v {
+        return false;
+    }
+    a < v + p.bytes
+}
+
+// Whether the place can be marked for the block.
+fn good_object(p: Params, st: &[u8], place: Address, b: Block) -> bool
+    requires { ⌜ goodParams p ≡ true ⌝ }
+    ensures { λ r. ⌜ ((w : Words) (m : List ℕ) → r ≡ goodObject p (tablesOf w (now (st .entry)) m) (place .0) (b .0)) ⌝ }
+{
+    let inside = address::in_heap(p, place);
+    if !inside {
+        return false;
+    }
+    if place.0 % 8 != 0 {
+        return false;
+    }
+    let i = b.0;
+    if p.blocks <= i {
+        return false;
+    }
+    let s = states::state(st, i);
+    if s == 0 {
+        return false;
+    }
+    let a = minus_lower(p, place);
+    in_block(p, b, a)
+}
+
+// Marks a place of a block, and says whether the mark is new. A repeated mark changes nothing.
+pub fn mark(
+    p: Params,
+    words: &[usize],
+    states: &mut [u8],
+    marks: &mut [u8],
+    heap: &[u8],
+    place: Address,
+    block: Block,
+) -> MarkAnswer
+    ensures { λ r. ⌜ Promised p (lend (now (words .entry)) (now (states .entry)) (now (marks .entry)) (now (heap .entry))) (mark (place .0) (block .0)) (markReply r) (lend (now (words .entry)) (now (states .exit)) (now (marks .exit)) (now (heap .entry))) ⌝ }
+{
+    if !lent_fits(p, words.len(), states.len(), marks.len(), heap.len()) {
+        return MarkAnswer::Refused(Refusal::BadSetup);
+    }
+    if !sound::sound(p, words, states) {
+        return MarkAnswer::Refused(Refusal::BadTables);
+    }
+    if tables::phase(words) != 1 {
+        return MarkAnswer::Refused(Refusal::WrongPhase);
+    }
+    if !good_object(p, states, place, block) {
+        return MarkAnswer::Refused(Refusal::BadObject);
+    }
+    if memory::is_marked(p, marks, place) {
+        return MarkAnswer::Marked { new: false };
+    }
+    states::set_state(states, block.0, 254);
+    memory::set_mark(p, marks, place);
+    MarkAnswer::Marked { new: true }
+}
+
+// ---- releasing
+
+// Takes the block out of the list l and releases it, if it is Unmarked. The answer is how many were released: 1 or 0.
+fn attempt_release(p: Params, w: &mut [usize], st: &mut [u8], l: usize, b: Block) -> usize
+    requires { ⌜ (goodParams p ≡ true) × (l < 1470) ⌝ }
+    ensures { λ r. ⌜ out r (view (now (w .exit))) (now (st .exit)) ≡ attemptRelease p l (b .0) (view (now (w .entry))) (now (st .entry)) ⌝ }
+{
+    let i = b.0;
+    let s = states::state(st, i);
+    if s != 255 {
+        return 0;
+    }
+    block_list::remove(p, w, l, b);
+    block::clear_block(w, st, b);
+    1
+}
+
+// Releases the Unmarked blocks of the list l. The next link is read before its block is removed.
+fn release_blocks(p: Params, w: &mut [usize], st: &mut [u8], l: usize) -> usize
+    requires { ⌜ (goodParams p ≡ true) × (l < 1470) ⌝ }
+    ensures { λ r. ⌜ out r (view (now (w .exit))) (now (st .exit)) ≡ total (releaseFrom (p .blocks) p l (getD (view (now (w .entry)) .first) l 0) (view (now (w .entry))) (now (st .entry))) ⌝ }
+{
+    let mut k = p.blocks;
+    let mut a = tables::first(w, l);
+    let mut n: usize = 0;
+    while 0 < k {
+        if a == 0 {
+            return n;
+        }
+        let b = address::block_at(p, Address(a));
+        a = tables::next(w, b.0);
+        n = n + attempt_release(p, w, st, l, b);
+        k = k - 1;
+    }
+    n
+}
+
+// One bin of a holder's release: what stays of available and consumed blocks becomes unswept.
+fn release_bin(p: Params, w: &mut [usize], st: &mut [u8], owner: usize, bin: usize) -> usize
+    requires { ⌜ (goodParams p ≡ true) × (owner ≤ 27) × (bin < 49) ⌝ }
+    ensures { λ r. ⌜ out r (view (now (w .exit))) (now (st .exit)) ≡ total (releaseBin p owner bin (freed (view (now (w .entry))) (now (st .entry)))) ⌝ }
+{
+    let a = address::list_of(owner, bin);
+    let u = address::list_of(owner + 1, bin);
+    let c = address::list_of(owner + 2, bin);
+    let n = release_blocks(p, w, st, a);
+    block_list::append(p, w, u, a);
+    let m = release_blocks(p, w, st, c);
+    block_list::append(p, w, u, c);
+    n + m
+}
+
+fn release_bins(p: Params, w: &mut [usize], st: &mut [u8], owner: usize) -> usize
+    requires { ⌜ (goodParams p ≡ true) × (owner ≤ 27) ⌝ }
+    ensures { λ r. ⌜ out r (view (now (w .exit))) (now (st .exit)) ≡ total (releasedBins p owner 49 (view (now (w .entry))) (now (st .entry))) ⌝ }
+{
+    let mut bin: usize = 0;
+    let mut n: usize = 0;
+    while bin < 49 {
+        n = n + release_bin(p, w, st, owner, bin);
+        bin = bin + 1;
+    }
+    n
+}
+
+// A holder's part: its lists end up in-gc.
+fn release_holder(p: Params, w: &mut [usize], st: &mut [u8], holder: usize) -> usize
+    requires { ⌜ (goodParams p ≡ true) × (1 ≤ holder) × (holder ≤ 8) ⌝ }
+    ensures { λ r. ⌜ out r (view (now (w .exit))) (now (st .exit)) ≡ total (releaseHolder p holder (view (now (w .entry))) (now (st .entry))) ⌝ }
+{
+    let owner = address::local_sets(holder);
+    let n = release_bins(p, w, st, owner);
+    abandon_blocks(p, w, 27, owner);
+    n
+}
+
+// One bin of the shared part.
+fn sweep_later_bin(p: Params, w: &mut [usize], st: &mut [u8], bin: usize) -> usize
+    requires { ⌜ (goodParams p ≡ true) × (bin < 49) ⌝ }
+    ensures { λ r. ⌜ out r (view (now (w .exit))) (now (st .exit)) ≡ total (sweepLaterBin p bin (freed (view (now (w .entry))) (now (st .entry)))) ⌝ }
+{
+    let a = address::list_of(24, bin);
+    let u = address::list_of(25, bin);
+    let c = address::list_of(26, bin);
+    let n = release_blocks(p, w, st, a);
+    let m = release_blocks(p, w, st, c);
+    let o = release_blocks(p, w, st, u);
+    block_list::append(p, w, u, a);
+    block_list::append(p, w, u, c);
+    n + m + o
+}
+
+// The shared part: abandoned blocks are released, or become unswept.
+fn sweep_later(p: Params, w: &mut [usize], st: &mut [u8]) -> usize
+    requires { ⌜ goodParams p ≡ true ⌝ }
+    ensures { λ r. ⌜ out r (view (now (w .exit))) (now (st .exit)) ≡ total (sweepLater p (view (now (w .entry))) (now (st .entry))) ⌝ }
+{
+    let mut bin: usize = 0;
+    let mut n: usize = 0;
+    while bin < 49 {
+        n = n + sweep_later_bin(p, w, st, bin);
+        bin = bin + 1;
+    }
+    n
+}
+
+fn merge_bin(p: Params, w: &mut [usize], bin: usize)
+    requires { ⌜ (goodParams p ≡ true) × (bin < 49) ⌝ }
+    ensures { λ _. ⌜ view (now (w .exit)) ≡ mergeBin p bin (view (now (w .entry))) ⌝ }
+{
+    let a = address::list_of(24, bin);
+    let u = address::list_of(25, bin);
+    let c = address::list_of(26, bin);
+    let ga = address::list_of(27, bin);
+    let gu = address::list_of(28, bin);
+    let gc = address::list_of(29, bin);
+    block_list::append(p, w, a, ga);
+    block_list::append(p, w, u, gu);
+    block_list::append(p, w, c, gc);
+}
+
+// The in-gc lists go behind the abandoned ones.
+fn merge(p: Params, w: &mut [usize])
+    requires { ⌜ goodParams p ≡ true ⌝ }
+    ensures { λ _. ⌜ view (now (w .exit)) ≡ merge p (view (now (w .entry))) ⌝ }
+{
+    let mut bin: usize = 0;
+    while bin < 49 {
+        merge_bin(p, w, bin);
+        bin = bin + 1;
+    }
+}
+
+fn clear_released(w: &mut [usize])
+    requires { ⌜ 2958 ≤ length (now w) ⌝ }
+    ensures { λ _. ⌜ view (now (w .exit)) ≡ withReleased (replicate 9 0) (view (now (w .entry))) ⌝ }
+{
+    let mut i: usize = 0;
+    while i < 9 {
+        tables::set_released(w, i, 0);
+        i = i + 1;
+    }
+}
+
+// Nothing is due any more: back to Running.
+fn end_of_gc(p: Params, w: &mut [usize])
+    requires { ⌜ (goodParams p ≡ true) × (2958 ≤ length (now w)) ⌝ }
+    ensures { λ _. ⌜ view (now (w .exit)) ≡ collected p (view (now (w .entry))) ⌝ }
+{
+    merge(p, w);
+    clear_released(w);
+    tables::set_phase(w, 0);
+}
+
+// A part has released; the last one ends the collection.
+fn part_released(p: Params, w: &mut [usize], part: usize)
+    requires { ⌜ (goodParams p ≡ true) × (2958 ≤ length (now w)) ⌝ }
+    ensures { λ _. ⌜ view (now (w .exit)) ≡ partReleased p part (view (now (w .entry))) ⌝ }
+{
+    tables::set_phase(w, 2);
+    tables::set_released(w, part, 1);
+    let done = sound::all_released(w);
+    if done {
+        end_of_gc(p, w);
+    }
+}
+
+fn may_release(w: &[usize]) -> bool
+    ensures { λ r. ⌜ r ≡ mayRelease (view (now (w .entry))) ⌝ }
+{
+    let f = tables::phase(w);
+    if f == 1 {
+        return true;
+    }
+    f == 2
+}
+
+fn released_already(w: &[usize], holder: usize) -> bool
+    ensures { λ r. ⌜ r ≡ (isHolder holder && hasReleased (view (now (w .entry))) holder) ⌝ }
+{
+    if !sound::is_holder(holder) {
+        return false;
+    }
+    sound::has_released(w, holder)
+}
+
+// A holder's release.
+pub fn release(
+    p: Params,
+    words: &mut [usize],
+    states: &mut [u8],
+    marks: &[u8],
+    heap: &[u8],
+    holder: usize,
+) -> ReleaseAnswer
+    ensures { λ r. ⌜ Promised p (lend (now (words .entry)) (now (states .entry)) (now (marks .entry)) (now (heap .entry))) (release holder) (releaseReply r) (lend (now (words .exit)) (now (states .exit)) (now (marks .entry)) (now (heap .entry))) ⌝ }
+{
+    if !lent_fits(p, words.len(), states.len(), marks.len(), heap.len()) {
+        return ReleaseAnswer::Refused(Refusal::BadSetup);
+    }
+    if !sound::sound(p, words, states) {
+        return ReleaseAnswer::Refused(Refusal::BadTables);
+    }
+    if !may_release(words) {
+        return ReleaseAnswer::Refused(Refusal::WrongPhase);
+    }
+    if released_already(words, holder) {
+        return ReleaseAnswer::Refused(Refusal::WrongPhase);
+    }
+    if !sound::is_bound(words, holder) {
+        return ReleaseAnswer::Refused(Refusal::BadHolder);
+    }
+    let count = release_holder(p, words, states, holder);
+    part_released(p, words, holder);
+    ReleaseAnswer::Released { blocks: count }
+}
+
+// The shared part's release.
+pub fn shared_release(
+    p: Params,
+    words: &mut [usize],
+    states: &mut [u8],
+    marks: &[u8],
+    heap: &[u8],
+) -> ReleaseAnswer
+    ensures { λ r. ⌜ Promised p (lend (now (words .entry)) (now (states .entry)) (now (marks .entry)) (now (heap .entry))) sharedRelease (releaseReply r) (lend (now (words .exit)) (now (states .exit)) (now (marks .entry)) (now (heap .entry))) ⌝ }
+{
+    if !lent_fits(p, words.len(), states.len(), marks.len(), heap.len()) {
+        return ReleaseAnswer::Refused(Refusal::BadSetup);
+    }
+    if !sound::sound(p, words, states) {
+        return ReleaseAnswer::Refused(Refusal::BadTables);
+    }
+    if !may_release(words) {
+        return ReleaseAnswer::Refused(Refusal::WrongPhase);
+    }
+    if sound::has_released(words, 0) {
+        return ReleaseAnswer::Refused(Refusal::WrongPhase);
+    }
+    let n = sweep_later(p, words, states);
+    part_released(p, words, 0);
+    ReleaseAnswer::Released { blocks: n }
+}

@@ -1,0 +1,275 @@
+-- An example run that meets the premises of demand 3, computed on the machine turn by turn: two cells of one block are handed
+-- out, a byte is written into the first, a collection marks that one alone, and the alloc after it sweeps the block. The first
+-- cell is kept. The second is lost, and its bytes are handed out again in the same call, as another cell.
+use Prim.Native.Nat.{ℕ}
+use native.Mathlib.Omega.{arith}
+use mathlib.Core.Path.{_≡_, refl, sym, ap, _∙_, subst}
+use mathlib.Core.Logic.{inl, inr, ⊎-elim}
+use mathlib.Core.Bool.{Bool, true, false, not}
+use mathlib.Core.List.{List, [], _∷_}
+use lib.Count.{leadingZeros}
+use lib.ListN.{set, replicate}
+use Rattle.model.specs.declared.Params.{Params}
+use Rattle.model.specs.declared.Offer.{Offer}
+use Rattle.model.specs.declared.Offer.the-variants.{Nothing, Fresh}
+use Rattle.model.specs.Base.{allBelow, anyBelow, member, filter, count, eachBelow, flag, In, any}
+use Rattle.model.specs.Params.{Lent, powerOfTwo, lowerOk, isZero, biased, plusLower, minusLower, heapBytes, heapEnd, goodParams, wordCount, fits, start, blockAt, inHeap, isStart, listOf, listWord, localSets, available, unswept, consumed}
+use Rattle.model.specs.Memory.{loadBytes, bytesOf, overwrite, load, store, zeroed, bitOf, setBit, markIndex, marked, setMark, cleared}
+use Rattle.model.specs.Tables.{Words, tablesOf, view, flat, setFirst, setLast, setBound, setReleased, setNext, setPrev, setFree, setSize, setList, setTls, setPhase, withReleased}
+use Rattle.model.specs.SizeClasses.{fours, classWords, cellBytes, wordsIn, highestBit, binInOctave, binOf, raised, shift, alignAllocation}
+use Rattle.model.specs.BlockList.{pushOnly, pushAhead, push, popOnly, popAhead, popAt, pop, removeBetween, remove, relabel, link, append, walk, blocksOn}
+use Rattle.model.specs.Block.{cellCount, isCell, cellsDown, headOf, linkAll, initChain, initBlock, simple, keeps, sweepChain, sweptWords, clearBlock}
+use Rattle.model.specs.Events.{Event, swept, released, taken, eventHeap, eventsHeap, isSweep, isRelease, sweeps, releases}
+use Rattle.model.specs.FreeListAllocator.{findFreeBlockWith, recycleLocalBlocks, acquireAbandoned, acquireFresh, findBlock}
+use Rattle.model.specs.Global.{freshWords, freshTables, isHolder, isBound, bindHolder, abandonBin, abandonBlocks, destroyHolder, unmarkedState, prepared, markPlace, releaseFrom, releaseBlocks, appendTo, releaseBin, releaseHolder, sweepLaterBin, sweepLater, hasReleased, allReleased, mergeBin, merge, partReleased}
+use Rattle.model.specs.Sound.{stateOf, stateKnown, blockClear, listNamed, binNamed, setNamed, onListNamed, sizeOk, linkOk, tlsOk, blockSound, linkedFrom, linked, isEmpty, ownerEmpty, unboundEmpty, inGcEmpty, phaseKnown, flagsKnown, releasedFew, releasedSome, releasedEmpty, sound}
+use Rattle.model.specs.Calls.{answered, Call, bind, alloc, prepare, mark, release, sharedRelease, refusalNumber, goodRequest, tooBig, goodOffer, goodObject, takePlan, planAlloc, mayRelease, releasePlan, planSound, plan, takeCell, finish, step, lentOf, call, setUp}
+use Rattle.model.specs.Census.{censusParams}
+use Rattle.model.specs.Runs.{Cell, frees, entered, bookEvent, bookEvents, bookAnswer, takerOf, bookAfter, Write, written, Turn, State, foundBy, stepOf, resultOf, turned, begun, covers, Holds, HoldersWrite, staysHeld, byteAt, RunKeeps, Demand3}
+use Rattle.runs.specs.Demand3.{demand3}
+
+-- ---- the run
+
+abbrev p : Params
+p = censusParams
+
+unfoldable pub heap₀ : List ℕ
+heap₀ = replicate 16384 255
+
+-- what is lent to set-up: no byte of it is 0
+unfoldable pub lent : Lent
+lent = record { words = replicate 2982 255; states = replicate 4 255; marks = replicate 256 255; heap = heap₀ }
+
+abbrev quiet : Call → Turn
+quiet c = record { writes = []; call = c }
+
+-- the second word of the first cell
+abbrev writing : Write
+writing = record { holder = 1; address = 27656; byte = 7 }
+
+abbrev ask : Offer → Call
+ask offer = alloc 1 1024 8 0 offer
+
+unfoldable pub turns : List Turn
+turns =
+    quiet (bind 1) ∷ quiet (ask (Fresh (record { 0 = 2 }))) ∷ quiet (ask Nothing)
+    ∷ record { writes = writing ∷ []; call = prepare } ∷ quiet (mark 27648 2) ∷ quiet (release 1) ∷ quiet sharedRelease
+    ∷ quiet (ask Nothing) ∷ []
+
+-- ---- what stands between its turns
+
+-- the words while block 2, the only one in use, is on the list l with this free head
+standing : ℕ → ℕ → List ℕ → ℕ → Words
+standing l phase parts free =
+    record {
+      first = set (replicate 1470 0) l 24576;
+      last = set (replicate 1470 0) l 24576;
+      phase = phase;
+      bound = 1 ∷ 0 ∷ 0 ∷ 0 ∷ 0 ∷ 0 ∷ 0 ∷ 0 ∷ [];
+      released = parts;
+      next = 0 ∷ 0 ∷ 0 ∷ 0 ∷ [];
+      prev = 0 ∷ 0 ∷ 0 ∷ 0 ∷ [];
+      free = 0 ∷ 0 ∷ free ∷ 0 ∷ [];
+      size = 0 ∷ 0 ∷ 1024 ∷ 0 ∷ [];
+      list = 0 ∷ 0 ∷ listWord l ∷ 0 ∷ [];
+      tls = 0 ∷ 0 ∷ 1 ∷ 0 ∷ [];
+    }
+
+-- the parts that have released: none, or holder 1
+none : List ℕ
+none = replicate 9 0
+
+one : List ℕ
+one = 0 ∷ 1 ∷ 0 ∷ 0 ∷ 0 ∷ 0 ∷ 0 ∷ 0 ∷ 0 ∷ []
+
+states : ℕ → List ℕ
+states s = 0 ∷ 0 ∷ s ∷ 0 ∷ []
+
+noMarks : List ℕ
+noMarks = replicate 256 0
+
+-- the mark at 27648
+oneMark : List ℕ
+oneMark = set noMarks 176 1
+
+-- the heap after the first alloc, the second, the write, the last alloc
+heap₂ : List ℕ
+heap₂ = zeroed p (linkAll p (27648 ∷ 26624 ∷ 25600 ∷ 24576 ∷ []) heap₀) 27648 1024
+
+heap₃ : List ℕ
+heap₃ = zeroed p heap₂ 26624 1024
+
+heap₄ : List ℕ
+heap₄ = set heap₃ 11272 7
+
+pub heap₈ : List ℕ
+heap₈ = zeroed p (linkAll p (26624 ∷ 25600 ∷ 24576 ∷ []) heap₄) 26624 1024
+
+-- the two cells, old or new
+abbrev first : Bool → Cell
+first old = record { start = 27648; size = 1024; holder = 1; old = old }
+
+abbrev second : Bool → Cell
+second old = record { start = 26624; size = 1024; holder = 1; old = old }
+
+abbrev stands : Words → List ℕ → List ℕ → List ℕ → List Cell → List ℕ → State
+stands w s m h cells places =
+    record { lent = lentOf (tablesOf w s m) h; book = record { cells = cells; places = places } }
+
+-- after each turn. List 24 is the holder's available list of this class, 1396 in-gc unswept, 1249 abandoned unswept
+after₀ : State
+after₀ = stands (freshWords p) (states 0) noMarks heap₀ [] []
+
+after₁ : State
+after₁ = stands (setBound 0 1 (freshWords p)) (states 0) noMarks heap₀ [] []
+
+after₂ : State
+after₂ = stands (standing 24 0 none 26624) (states 255) noMarks heap₂ (first false ∷ []) []
+
+after₃ : State
+after₃ = stands (standing 24 0 none 25600) (states 255) noMarks heap₃ (second false ∷ first false ∷ []) []
+
+after₄ : State
+after₄ = stands (standing 24 1 none 25600) (states 255) noMarks heap₄ (second true ∷ first true ∷ []) []
+
+after₅ : State
+after₅ = stands (standing 24 1 none 25600) (states 254) oneMark heap₄ (second true ∷ first true ∷ []) (27648 ∷ [])
+
+after₆ : State
+after₆ = stands (standing 1396 2 one 25600) (states 254) oneMark heap₄ (second true ∷ first true ∷ []) (27648 ∷ [])
+
+pub after₇ : State
+after₇ = stands (standing 1249 0 none 25600) (states 254) oneMark heap₄ (second true ∷ first true ∷ []) (27648 ∷ [])
+
+unfoldable pub after₈ : State
+unfolding standing states none oneMark noMarks heap₈ heap₄ heap₃ heap₂ heap₀
+after₈ = stands (standing 24 0 none 25600) (states 254) oneMark heap₈ (second false ∷ first true ∷ []) (27648 ∷ [])
+
+-- ---- each turn, computed. Who opens `machine` opens all that its line names
+
+machine : Params
+unfolding begun turned foundBy stepOf resultOf written takerOf bookAfter bookAnswer bookEvents bookEvent entered frees leadingZeros allBelow anyBelow member filter count eachBelow flag powerOfTwo lowerOk isZero biased plusLower minusLower heapBytes heapEnd goodParams wordCount fits start blockAt inHeap isStart listOf listWord localSets available unswept consumed loadBytes bytesOf overwrite load store zeroed bitOf setBit markIndex marked setMark cleared view flat setFirst setLast setBound setReleased setNext setPrev setFree setSize setList setTls setPhase withReleased fours classWords cellBytes wordsIn highestBit binInOctave binOf raised shift alignAllocation pushOnly pushAhead push popOnly popAhead popAt pop removeBetween remove relabel link append walk blocksOn cellCount isCell cellsDown headOf linkAll initChain initBlock simple keeps sweepChain sweptWords clearBlock eventHeap eventsHeap isSweep isRelease sweeps releases findFreeBlockWith recycleLocalBlocks acquireAbandoned acquireFresh findBlock freshWords freshTables isHolder isBound bindHolder abandonBin abandonBlocks destroyHolder unmarkedState prepared markPlace releaseFrom releaseBlocks appendTo releaseBin releaseHolder sweepLaterBin sweepLater hasReleased allReleased mergeBin merge partReleased stateOf stateKnown blockClear listNamed binNamed setNamed onListNamed sizeOk linkOk tlsOk blockSound linkedFrom linked isEmpty ownerEmpty unboundEmpty inGcEmpty phaseKnown flagsKnown releasedFew releasedSome releasedEmpty sound refusalNumber goodRequest tooBig goodOffer goodObject takePlan planAlloc mayRelease releasePlan planSound plan takeCell finish step call setUp censusParams after₀ after₁ after₂ after₃ after₄ after₅ after₆ after₇ after₈ standing states none one noMarks oneMark heap₀ heap₂ heap₃ heap₄ heap₈ lent
+machine = censusParams
+
+set-up : begun p lent ≡ after₀
+unfolding machine
+set-up = refl
+
+turn₁ : turned p after₀ (quiet (bind 1)) ≡ after₁
+unfolding machine
+turn₁ = refl
+
+turn₂ : turned p after₁ (quiet (ask (Fresh (record { 0 = 2 })))) ≡ after₂
+unfolding machine
+turn₂ = refl
+
+turn₃ : turned p after₂ (quiet (ask Nothing)) ≡ after₃
+unfolding machine
+turn₃ = refl
+
+turn₄ : turned p after₃ (record { writes = writing ∷ []; call = prepare }) ≡ after₄
+unfolding machine
+turn₄ = refl
+
+turn₅ : turned p after₄ (quiet (mark 27648 2)) ≡ after₅
+unfolding machine
+turn₅ = refl
+
+turn₆ : turned p after₅ (quiet (release 1)) ≡ after₆
+unfolding machine
+turn₆ = refl
+
+turn₇ : turned p after₆ (quiet sharedRelease) ≡ after₇
+unfolding machine
+turn₇ = refl
+
+turn₈ : turned p after₇ (quiet (ask Nothing)) ≡ after₈
+unfolding machine
+turn₈ = refl
+
+-- ---- joined
+
+-- a turn in which nothing is written, and one with one byte written
+quiet-turn : (q : Params) (s s′ : State) (c : Call) (us : List Turn) → turned q s (quiet c) ≡ s′ → HoldersWrite q s′ us → HoldersWrite q s (quiet c ∷ us)
+unfolding HoldersWrite In
+quiet-turn q s s′ c us e H = ((λ w m. absurd m), subst (λ (x : State). HoldersWrite q x us) (sym e) H)
+
+writing-turn : (q : Params) (s s′ : State) (w : Write) (c : Call) (us : List Turn) → Holds (s .book) w
+    → turned q s (record { writes = w ∷ []; call = c }) ≡ s′ → HoldersWrite q s′ us → HoldersWrite q s (record { writes = w ∷ []; call = c } ∷ us)
+unfolding HoldersWrite In
+writing-turn q s s′ w c us h e H =
+    ((λ v m. ⊎-elim (λ z. subst (Holds (s .book)) (sym z) h) (λ f. absurd f) m), subst (λ (x : State). HoldersWrite q x us) (sym e) H)
+
+-- the first cell is holder 1's when it is written
+held : Holds (after₃ .book) writing
+unfolding Holds In covers after₃
+held = (first false, inr (inl refl), refl, (omega arith, omega arith))
+
+nothing-left : (q : Params) (s : State) → HoldersWrite q s []
+unfolding HoldersWrite
+nothing-left q s = tt
+
+-- the premise of demand 3
+pub holders-write : HoldersWrite p (begun p lent) turns
+unfolding turns
+holders-write =
+    subst (λ (x : State). HoldersWrite p x turns) (sym set-up)
+    (quiet-turn p _ _ _ _ turn₁ (quiet-turn p _ _ _ _ turn₂ (quiet-turn p _ _ _ _ turn₃
+    (writing-turn p _ _ _ _ _ held turn₄ (quiet-turn p _ _ _ _ turn₅ (quiet-turn p _ _ _ _ turn₆
+    (quiet-turn p _ _ _ _ turn₇ (quiet-turn p _ _ _ _ turn₈ (nothing-left p after₈)))))))))
+
+-- set-up is not refused
+pub set-up-answers : setUp p lent .reply ≡ answered []
+unfolding machine
+set-up-answers = refl
+
+-- so the theorem speaks of this run
+pub run-keeps : RunKeeps p (begun p lent) turns
+unfolding Demand3
+run-keeps = demand3 p lent lent turns turns set-up-answers set-up-answers holders-write holders-write refl .1
+
+-- what stands after a row of turns
+unfoldable pub ended : Params → State → List Turn → State
+ended q s [] = s
+ended q s (u ∷ us) = ended q (turned q s u) us
+
+next : (q : Params) (s s′ z : State) (u : Turn) (us : List Turn) → turned q s u ≡ s′ → ended q s′ us ≡ z → ended q s (u ∷ us) ≡ z
+unfolding ended
+next q s s′ z u us e f = ap (λ (x : State). ended q x us) e ∙ f
+
+done : (q : Params) (s : State) → ended q s [] ≡ s
+unfolding ended
+done q s = refl
+
+pub run-ends : ended p (begun p lent) turns ≡ after₈
+unfolding turns
+run-ends =
+    ap (λ (x : State). ended p x turns) set-up
+    ∙ next p _ _ _ _ _ turn₁ (next p _ _ _ _ _ turn₂ (next p _ _ _ _ _ turn₃ (next p _ _ _ _ _ turn₄ (next p _ _ _ _ _ turn₅
+    (next p _ _ _ _ _ turn₆ (next p _ _ _ _ _ turn₇ (next p _ _ _ _ _ turn₈ (done p after₈))))))))
+
+-- ---- what is held then: the first cell, kept since it was marked, and a new cell where the second stood
+pub held-after : after₈ .book .cells ≡ second false ∷ first true ∷ []
+unfolding after₈
+held-after = refl
+
+-- the last alloc swept block 2 and took the cell
+abbrev last : List Event
+last = stepOf p after₇ (quiet (ask Nothing)) .events
+
+pub last-events : last ≡ swept 2 (26624 ∷ 25600 ∷ 24576 ∷ []) ∷ taken 26624 1024 ∷ []
+unfolding machine
+last-events = refl
+
+pub kept : staysHeld p last (first true) ≡ true
+unfolding staysHeld any frees member
+kept = rw last-events
+
+pub lost : staysHeld p last (second true) ≡ false
+unfolding staysHeld any frees member
+lost = rw last-events
+
+-- the byte written still stands, and where the heap was 255 the new cell is 0
+pub bytes-after : (byteAt p heap₈ 27656 ≡ 7) × (byteAt p heap₈ 26632 ≡ 0)
+unfolding machine
+bytes-after = (refl, refl)
