@@ -18,10 +18,9 @@ use Rattle.model.specs.Params.{start, blockAt, localSets, available, unswept, c
 use Rattle.model.specs.Tables.{Words, Tables, setFirst, setLast, setNext, setPrev, setList, setTls, setSize, setFree}
 use Rattle.model.specs.SizeClasses.{cellBytes}
 use Rattle.model.specs.BlockList.{Popped, popped, push, pushOnly, pushAhead, popOnly, popAhead, popAt, pop}
-use Rattle.model.specs.Block.{cellCount, cellsDown, headOf, initChain, initBlock, sweepChain, sweptWords}
+use Rattle.model.specs.Block.{Unallocated, cellCount, isCell, cellsDown, headOf, initChain, initBlock, sweepChain, sweptWords}
 use Rattle.model.specs.FreeListAllocator.{Found, found, after, andThen, inFound, sweepOf, findFreeBlockWith, recycleLocalBlocks, acquireAbandoned, acquireFresh, findBlock}
 use Rattle.model.specs.Sound.{stateOf, stateKnown, blockClear, onListNamed, sizeOk, linkOk, tlsOk, blockSound, linked, unboundEmpty, inGcEmpty, phaseKnown, flagsKnown, releasedFew, releasedSome, releasedEmpty, sound}
-use Rattle.model.specs.Block.{Unallocated, isCell}
 use Rattle.laws.specs.Below.{and-left, and-right, or-cases, and-four, allBelow-at, test}
 use Rattle.laws.specs.Params.{Bounds, start-out, start-end}
 use Rattle.laws.specs.Cells.{Free, in-cellsDown}

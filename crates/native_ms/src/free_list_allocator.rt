@@ -1,5 +1,6 @@
-// The search for a block with a free cell, the taking of a cell, and the public call alloc. Named after the Rust's
-// free_list_allocator.rs. The searches are right on any words; that tables are sound is nothing they need.
+// The search for a block with a free cell, and the public call alloc. Named after the Rust's free_list_allocator.rs; its
+// `init_block` and `block_alloc` stand in block.rt. The searches are right on any words; that tables are sound is nothing they
+// need.
 use crate::address;
 use crate::allocator;
 use crate::allocator::Raised;
@@ -20,12 +21,12 @@ use words::tables;
 ghost use mathlib.Core.Path.{_≡_};
 ghost use mathlib.Core.Bool.{true};
 ghost use mathlib.Core.List.{List};
-ghost use Prim.Native.Nat.{_<_, _≤_, ℕ};
+ghost use Prim.Native.Nat.{ℕ, _<_, _≤_};
+ghost use Rattle.model.specs.Base.{flag};
 ghost use Rattle.model.specs.Params.{goodParams, available, unswept, consumed};
-ghost use Rattle.model.specs.Tables.{view, Words, tablesOf};
+ghost use Rattle.model.specs.Tables.{Words, view, tablesOf};
 ghost use Rattle.model.specs.BlockList.{popped};
 ghost use Rattle.model.specs.FreeListAllocator.{findFreeBlockWith, recycleLocalBlocks, acquireAbandoned, findBlock};
-ghost use Rattle.model.specs.Base.{flag};
 ghost use Rattle.model.specs.Calls.{goodOffer, alloc};
 ghost use Rattle.model.specs.Answers.{allocReply};
 ghost use Rattle.native_ms.specs.Closing.{ListNumber, Filed, seen, closed, Searched};
@@ -216,6 +217,7 @@ fn take_over(
     file_block(p, w, avail, full, b)
 }
 
+// A yes as 1.
 fn one_if(yes: bool) -> usize
     ensures { λ r. ⌜ r ≡ flag yes ⌝ }
 {
