@@ -12,7 +12,7 @@ use Rattle.model.specs.declared.Offer.the-variants.{Fresh}
 use Rattle.model.specs.Base.{allBelow, anyBelow, member, filter, count, eachBelow, flag}
 use Rattle.model.specs.Params.{Lent, powerOfTwo, lowerOk, isZero, biased, plusLower, minusLower, heapBytes, heapEnd, goodParams, wordCount, fits, start, blockAt, inHeap, isStart, listOf, listWord, localSets, available, unswept, consumed}
 use Rattle.model.specs.Memory.{loadBytes, bytesOf, overwrite, load, store, zeroed, bitOf, setBit, markIndex, marked, setMark, cleared}
-use Rattle.model.specs.Tables.{view, flat, setFirst, setLast, setBound, setReleased, setNext, setPrev, setFree, setSize, setList, setTls, setPhase, withReleased}
+use Rattle.model.specs.Tables.{Words, view, flat, setFirst, setLast, setBound, setReleased, setNext, setPrev, setFree, setSize, setList, setTls, setPhase, withReleased}
 use Rattle.model.specs.SizeClasses.{fours, classWords, cellBytes, wordsIn, highestBit, binInOctave, binOf, raised, shift, alignAllocation}
 use Rattle.model.specs.BlockList.{pushOnly, pushAhead, push, popOnly, popAhead, popAt, pop, removeBetween, remove, relabel, link, append, walk, blocksOn}
 use Rattle.model.specs.Block.{cellCount, isCell, cellsDown, headOf, linkAll, initChain, initBlock, simple, keeps, sweepChain, sweptWords, clearBlock, chainFrom, freeChain}
@@ -54,6 +54,10 @@ firstAlloc size align =
     let l : Lent = setUp maxSixteen censusLent .lent in
     call maxSixteen (call maxSixteen l (bind 1) .lent) (alloc 1 size align 0 (Fresh (record { 0 = 2 }))) .reply .number
 
+-- the blocks 1 and 0 on the list 1
+abbrev pub twoBlocks : Words
+twoBlocks = push censusParams 1 1 (push censusParams 1 0 (freshWords censusParams))
+
 unfoldable pub cases : List Case
 cases =
     bin 0 1 ∷ bin 8 1 ∷ bin 9 2 ∷ bin 64 8 ∷ bin 65 9 ∷ bin 80 9 ∷ bin 81 10 ∷ bin 1024 24 ∷ bin 65536 48
@@ -65,6 +69,8 @@ cases =
     ∷ gives (sweepChain censusParams (setMark censusParams (replicate 256 0) 25600) 2 1024) (27648 ∷ 26624 ∷ 24576 ∷ [])
     ∷ gives (sweepChain censusParams (replicate 256 0) 2 1280) (27136 ∷ 25856 ∷ 24576 ∷ [])
     ∷ gives (initChain censusParams 2 1280) (27136 ∷ 25856 ∷ 24576 ∷ [])
+    -- two Unmarked blocks of one list are both released: next is read before a block is removed
+    ∷ gives (releases (releaseFrom 4 censusParams 1 (start censusParams 1) twoBlocks (255 ∷ 255 ∷ 0 ∷ 0 ∷ []) .events) ∷ []) (2 ∷ [])
     ∷ gives (firstAlloc 4096 8 ∷ firstAlloc 4096 16 ∷ firstAlloc 4088 16 ∷ []) (0 ∷ 6 ∷ 0 ∷ [])
     ∷ []
 
