@@ -1,0 +1,90 @@
+#!/usr/bin/env python3
+"""Makes stdin and stdout beside it anew: one script for the port's driver, and the answers it must give.
+
+    oracle/build.sh && crates/script/sample.py
+
+Hand-made scripts that the Rust can be asked, and random ones: the answers are the Rust's. Hand-made scripts with refusals
+that the Rust does not know: the answers are those of the hand; where one is cut short by a `*`, the reference completes it.
+The oracle is target/oracle/oracle, or what ORACLE names.
+"""
+import os
+import pathlib
+import subprocess
+import sys
+
+HERE = pathlib.Path(__file__).resolve().parent
+TOP = HERE.parent.parent
+ORACLE = os.environ.get('ORACLE', str(TOP / 'target/oracle/oracle'))
+sys.path.insert(0, str(TOP / 'oracle/compare'))
+import generate  # noqa: E402
+import reference  # noqa: E402
+from check_hand import SCRIPTS, agrees  # noqa: E402
+
+SEEDS = (1, 4, 8, 14, 27, 32, 34, 35)   # both sweeps, MIN 4 and 8, small and large blocks, L below and above 0
+CALLS = 60
+ARENA = 1 << 16         # small heaps, since each dump prints every mark byte
+LAST = 'no_newline'     # its last line has no newline, so it stands last
+NOT_FOR_THE_RUST = '# not for the Rust'
+
+HEAD = """\
+# A fixed run of every line kind, made by sample.py; stdout has the answers.
+# A part is marked `the Rust` where the given Rust gave its answers, and `document 01` where they were worked out by hand,
+# since the Rust does not know the refusal. Lines that are bad end a run, so they are tried apart.
+"""
+
+
+def of_rust(lines):
+    """The Rust's answers, as lines; a panic is none."""
+    text = '\n'.join(lines) + '\n'
+    out = subprocess.run([ORACLE], input=text, capture_output=True, text=True, check=True).stdout
+    answers = out.split('\n')[:-1]
+    if 'panic' in answers or 'bad' in answers:
+        sys.exit('the Rust has no answer to:\n' + text)
+    return answers
+
+
+def of_document(lines):
+    driver = reference.Driver()
+    answers = (driver.answer(line) for line in lines)
+    return '\n'.join(a for a in answers if a is not None).split('\n')
+
+
+def checked(name, answers, wanted):
+    """Answers that agree with those of the hand."""
+    if len(answers) != len(wanted) or not all(map(agrees, wanted, answers)):
+        sys.exit(name + ' differs from what was worked out by hand')
+    return answers
+
+
+def hand_made(path):
+    """A part's heading, lines and answers; none where a line is bad."""
+    lines = path.read_text().rstrip('\n').split('\n')
+    wanted = path.with_suffix('.answers').read_text().splitlines()
+    if 'bad' in wanted:
+        return None
+    for_rust = NOT_FOR_THE_RUST not in lines
+    answers = of_rust(lines) if for_rust else of_document(lines)
+    source = 'the Rust' if for_rust else 'document 01'
+    return '# %s: %s' % (source, path.stem), lines, checked(path.stem, answers, wanted)
+
+
+def random_part(seed):
+    maker = generate.Maker(seed, 'rust', ARENA).script(CALLS)
+    lines = [x for x, answer in zip(maker.lines, maker.answers) if answer != 'bad']
+    return '# the Rust: random, seed %d' % seed, lines, of_rust(lines)
+
+
+def main():
+    paths = sorted(SCRIPTS.glob('*.script'), key=lambda p: (p.stem == LAST, p.stem))
+    hand = [part for part in map(hand_made, paths) if part]
+    parts = hand[:-1] + [random_part(seed) for seed in SEEDS] + hand[-1:]
+    given, answers = [HEAD.rstrip('\n')], []
+    for heading, lines, out in parts:
+        given += [heading] + [x for x in lines if x and not x.startswith('#')]
+        answers += out
+    HERE.joinpath('stdin').write_text('\n'.join(given))
+    HERE.joinpath('stdout').write_text('\n'.join(answers) + '\n')
+
+
+if __name__ == '__main__':
+    main()

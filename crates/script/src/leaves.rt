@@ -1,0 +1,98 @@
+// The leaves: bins, raised sizes and shifted addresses.
+use crate::reply::Reply;
+use model::Params;
+use native_ms::allocator;
+use native_ms::allocator::Raised;
+use native_ms::allocator::Shifted;
+use native_ms::size_class;
+
+// `n size`.
+pub(crate) fn bin(size: usize) -> Reply {
+    let b = size_class::mi_bin_from_size(size);
+    if b == 0 {
+        return Reply::Nothing;
+    }
+    Reply::One(b)
+}
+
+fn multiple(x: usize, of: usize) -> bool {
+    if of == 0 {
+        return false;
+    }
+    x % of == 0
+}
+
+fn power(x: usize) -> bool {
+    if x == 0 {
+        return false;
+    }
+    x & (x - 1) == 0
+}
+
+// What alloc would not refuse as BadRequest.
+fn good_request(p: Params, size: usize, align: usize, offset: usize) -> bool {
+    if !multiple(size, p.min) {
+        return false;
+    }
+    if !multiple(offset, p.min) {
+        return false;
+    }
+    if 65536 < offset {
+        return false;
+    }
+    if align < p.min {
+        return false;
+    }
+    if p.max < align {
+        return false;
+    }
+    power(align)
+}
+
+// The same parameters with the largest block, since bins don't depend on it.
+fn largest(p: Params) -> Params {
+    Params {
+        base: p.base,
+        bytes: 65536,
+        blocks: p.blocks,
+        min: p.min,
+        max: p.max,
+        offsets: p.offsets,
+        unified: p.unified,
+        lower: p.lower,
+    }
+}
+
+// `q size align`.
+pub(crate) fn raised(p: Params, size: usize, align: usize) -> Reply {
+    if !good_request(p, size, align, 0) {
+        return Reply::Bad;
+    }
+    match allocator::get_maximum_aligned_size(largest(p), size, align) {
+        Raised::TooBig => Reply::Nothing,
+        Raised::Fits(n) => {
+            let b = size_class::mi_bin_from_size(n);
+            Reply::Three(n, b, size_class::class_bytes(b))
+        }
+    }
+}
+
+// `g region align offset`.
+pub(crate) fn aligned(p: Params, region: usize, align: usize, offset: usize) -> Reply {
+    if region == 0 {
+        return Reply::Bad;
+    }
+    if region % 8 != 0 {
+        return Reply::Bad;
+    }
+    if 140737488355328 <= region {
+        return Reply::Bad;
+    }
+    if !good_request(p, 0, align, offset) {
+        return Reply::Bad;
+    }
+    match allocator::shift_address(region, align, offset) {
+        Shifted::Off => Reply::Bad,
+        Shifted::At(a) => Reply::One(a),
+    }
+}

@@ -1,0 +1,355 @@
+// The port's driver of differential runs: reads a script on standard input, makes its calls on the library, and prints the
+// answers. A line that is bad ends the run.
+mod calls;
+mod dump;
+mod fill;
+mod leaves;
+mod lines;
+mod loads;
+mod numbers;
+mod out;
+mod reply;
+mod setup;
+
+use lines::Cursor;
+use lines::Line;
+use model::Params;
+use reply::Reply;
+use setup::Asked;
+
+// Whether a set-up stands, its parameters, and how much of the heap is lent.
+struct Space {
+    stands: bool,
+    p: Params,
+    heap: usize,
+}
+
+// Whether the run goes on, and how many bytes wait in the output buffer.
+struct Told {
+    on: bool,
+    written: usize,
+}
+
+// The same, with what stands after the line.
+struct Heard {
+    told: Told,
+    space: Space,
+}
+
+// What goes from line to line.
+struct Run {
+    on: bool,
+    written: usize,
+    next: Cursor,
+    space: Space,
+}
+
+fn no_params() -> Params {
+    Params {
+        base: 0,
+        bytes: 0,
+        blocks: 0,
+        min: 0,
+        max: 0,
+        offsets: false,
+        unified: false,
+        lower: 0,
+    }
+}
+
+fn no_space() -> Space {
+    Space {
+        stands: false,
+        p: no_params(),
+        heap: 0,
+    }
+}
+
+fn is_bad(r: Reply) -> bool {
+    match r {
+        Reply::Bad => true,
+        _ => false,
+    }
+}
+
+fn is_done(r: Reply) -> bool {
+    match r {
+        Reply::Done => true,
+        _ => false,
+    }
+}
+
+fn tell(r: Reply, o: &mut [u8; out::OUT], n: usize) -> Told {
+    let m = reply::line(o, n, r);
+    Told {
+        on: !is_bad(r),
+        written: m,
+    }
+}
+
+// The only word that may be other than a plain number: an alloc's block.
+fn free_word(letter: u8) -> usize {
+    if letter == b'a' {
+        return 4;
+    }
+    numbers::OFF
+}
+
+// A line on what a set-up lent, but for `K`.
+fn ask(
+    p: Params,
+    line: &[u8; lines::LINE_BYTES],
+    len: usize,
+    o: &mut [u8; out::OUT],
+    n: usize,
+    w: &mut [usize],
+    st: &mut [u8],
+    marks: &mut [u8],
+    heap: &mut [u8],
+) -> Told {
+    let letter = lines::byte(line, 0);
+    let mut v = [0usize; numbers::MOST_WORDS];
+    let f = numbers::words(line, 1, len, free_word(letter), &mut v);
+    if f.count != calls::shape(letter) {
+        return tell(Reply::Bad, o, n);
+    }
+    if letter == b'D' {
+        return Told {
+            on: true,
+            written: dump::all(w, st, marks, heap, o, n),
+        };
+    }
+    if letter == b'H' {
+        return Told {
+            on: true,
+            written: dump::heap_line(heap, o, n),
+        };
+    }
+    tell(
+        calls::answer(p, w, st, marks, heap, letter, &v, f.form),
+        o,
+        n,
+    )
+}
+
+// Lends the parts of the arrays that the set-up gave.
+fn lent_line(
+    s: Space,
+    line: &[u8; lines::LINE_BYTES],
+    len: usize,
+    o: &mut [u8; out::OUT],
+    n: usize,
+    w: &mut [usize],
+    st: &mut [u8],
+    marks: &mut [u8],
+    heap: &mut [u8],
+) -> Told {
+    let p = s.p;
+    let k = setup::least(setup::word_count(p.blocks), w.len());
+    let b = setup::least(p.blocks, st.len());
+    let m = setup::least(s.heap / 64, marks.len());
+    let h = setup::least(s.heap, heap.len());
+    if lines::byte(line, 0) == b'K' {
+        return tell(loads::marks(line, len, &mut marks[..m]), o, n);
+    }
+    ask(
+        p,
+        line,
+        len,
+        o,
+        n,
+        &mut w[..k],
+        &mut st[..b],
+        &mut marks[..m],
+        &mut heap[..h],
+    )
+}
+
+// Calls set-up on parts of the exact lengths.
+fn lend(
+    p: Params,
+    bytes: usize,
+    seed: usize,
+    w: &mut [usize],
+    st: &mut [u8],
+    marks: &mut [u8],
+    heap: &mut [u8],
+) -> Reply {
+    let k = setup::least(setup::word_count(p.blocks), w.len());
+    let b = setup::least(p.blocks, st.len());
+    let m = setup::least(bytes / 64, marks.len());
+    let h = setup::least(bytes, heap.len());
+    if h < bytes {
+        return setup::beyond(p, &w[..k]);
+    }
+    setup::lent(
+        p,
+        &mut w[..k],
+        &mut st[..b],
+        &mut marks[..m],
+        &mut heap[..h],
+        seed,
+    )
+}
+
+fn set_up(
+    line: &[u8; lines::LINE_BYTES],
+    len: usize,
+    o: &mut [u8; out::OUT],
+    n: usize,
+    w: &mut [usize; setup::TABLES],
+    st: &mut [u8; setup::BLOCKS],
+    marks: &mut [u8; setup::MARKS],
+    heap: &mut [u8; setup::HEAP],
+) -> Heard {
+    let mut v = [0usize; numbers::MOST_WORDS];
+    let f = numbers::words(line, 5, len, 7, &mut v);
+    if f.count != 9 {
+        return Heard {
+            told: tell(Reply::Bad, o, n),
+            space: no_space(),
+        };
+    }
+    match setup::given(&v, f.form) {
+        Asked::Bad => Heard {
+            told: tell(Reply::Bad, o, n),
+            space: no_space(),
+        },
+        Asked::Params(p) => {
+            let bytes = setup::heap_bytes(p.blocks, v[1]);
+            let r = lend(p, bytes, v[8], w, st, marks, heap);
+            Heard {
+                told: tell(r, o, n),
+                space: Space {
+                    stands: is_done(r),
+                    p: p,
+                    heap: bytes,
+                },
+            }
+        }
+    }
+}
+
+// A blank line or a comment.
+fn is_skipped(line: &[u8; lines::LINE_BYTES], len: usize) -> bool {
+    if len == 0 {
+        return true;
+    }
+    lines::byte(line, 0) == b'#'
+}
+
+fn hear(
+    s: Space,
+    line: &[u8; lines::LINE_BYTES],
+    len: usize,
+    o: &mut [u8; out::OUT],
+    n: usize,
+    w: &mut [usize; setup::TABLES],
+    st: &mut [u8; setup::BLOCKS],
+    marks: &mut [u8; setup::MARKS],
+    heap: &mut [u8; setup::HEAP],
+) -> Heard {
+    if is_skipped(line, len) {
+        return Heard {
+            told: Told {
+                on: true,
+                written: n,
+            },
+            space: s,
+        };
+    }
+    if setup::is_setup(line, len) {
+        return set_up(line, len, o, n, w, st, marks, heap);
+    }
+    if !s.stands {
+        return Heard {
+            told: tell(Reply::Bad, o, n),
+            space: s,
+        };
+    }
+    Heard {
+        told: lent_line(s, line, len, o, n, w, st, marks, heap),
+        space: s,
+    }
+}
+
+fn after(h: Heard, l: Line) -> Run {
+    let told = h.told;
+    let space = h.space;
+    let next = l.next;
+    if l.last {
+        return Run {
+            on: false,
+            written: told.written,
+            next: next,
+            space: space,
+        };
+    }
+    Run {
+        on: told.on,
+        written: told.written,
+        next: next,
+        space: space,
+    }
+}
+
+fn turn(
+    r: Run,
+    input: &mut [u8; lines::INPUT_BYTES],
+    line: &mut [u8; lines::LINE_BYTES],
+    o: &mut [u8; out::OUT],
+    w: &mut [usize; setup::TABLES],
+    st: &mut [u8; setup::BLOCKS],
+    marks: &mut [u8; setup::MARKS],
+    heap: &mut [u8; setup::HEAP],
+) -> Run {
+    let l = lines::read(input, line, r.next);
+    let h = hear(r.space, line, l.len, o, r.written, w, st, marks, heap);
+    after(h, l)
+}
+
+// The lines are counted down, since nothing says that the input ends.
+fn drive(
+    input: &mut [u8; lines::INPUT_BYTES],
+    line: &mut [u8; lines::LINE_BYTES],
+    o: &mut [u8; out::OUT],
+    w: &mut [usize; setup::TABLES],
+    st: &mut [u8; setup::BLOCKS],
+    marks: &mut [u8; setup::MARKS],
+    heap: &mut [u8; setup::HEAP],
+) {
+    let mut r = Run {
+        on: true,
+        written: 0,
+        next: Cursor { at: 0, end: 0 },
+        space: no_space(),
+    };
+    let mut turns = usize::MAX;
+    while 0 < turns {
+        if !r.on {
+            out::flush(o, r.written);
+            return;
+        }
+        r = turn(r, input, line, o, w, st, marks, heap);
+        turns = turns - 1;
+    }
+}
+
+fn main() {
+    let mut input = [0u8; lines::INPUT_BYTES];
+    let mut line = [0u8; lines::LINE_BYTES];
+    let mut o = [0u8; out::OUT];
+    let mut w = [0usize; setup::TABLES];
+    let mut st = [0u8; setup::BLOCKS];
+    let mut marks = [0u8; setup::MARKS];
+    let mut heap = [0u8; setup::HEAP];
+    drive(
+        &mut input,
+        &mut line,
+        &mut o,
+        &mut w,
+        &mut st,
+        &mut marks,
+        &mut heap,
+    );
+}

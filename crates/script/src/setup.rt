@@ -1,0 +1,173 @@
+// `setup base log_block_bytes blocks MIN MAX use_offset unified L seed`.
+use crate::fill;
+use crate::lines;
+use crate::numbers;
+use crate::reply;
+use crate::reply::Reply;
+use model::PagesAnswer;
+use model::Params;
+use model::Refusal;
+use native_ms::block_list;
+use native_ms::global;
+ghost use Prim.Native.Nat.{_≤_};
+
+// What is lent: 4 MiB of arena at most, and the tables of 1,024 blocks.
+pub(crate) const BLOCKS: usize = 1024;
+
+pub(crate) const TABLES: usize = 9102;
+
+pub(crate) const MARKS: usize = 65536;
+
+pub(crate) const HEAP: usize = 4194304;
+
+// Stands for each L that is off: no multiple of 8, or over 64 either way.
+const OFF_LOWER: i64 = 65;
+
+pub(crate) enum Asked {
+    Params(Params),
+    Bad,
+}
+
+enum Signed {
+    Is(i64),
+    Bad,
+}
+
+pub(crate) fn is_setup(line: &[u8; lines::LINE_BYTES], len: usize) -> bool {
+    if len < 5 {
+        return false;
+    }
+    if lines::byte(line, 0) != b's' {
+        return false;
+    }
+    if lines::byte(line, 1) != b'e' {
+        return false;
+    }
+    if lines::byte(line, 2) != b't' {
+        return false;
+    }
+    if lines::byte(line, 3) != b'u' {
+        return false;
+    }
+    lines::byte(line, 4) == b'p'
+}
+
+// The number of a minus sign and a size.
+fn negative(size: usize) -> i64 {
+    match size {
+        8 => -8,
+        16 => -16,
+        24 => -24,
+        32 => -32,
+        40 => -40,
+        48 => -48,
+        56 => -56,
+        64 => -64,
+        _ => OFF_LOWER,
+    }
+}
+
+// L, if it is in a signed word.
+fn lower(form: u8, size: usize) -> Signed {
+    if form == numbers::DASH {
+        return Signed::Bad;
+    }
+    if 9223372036854775808 < size {
+        return Signed::Bad;
+    }
+    if form == numbers::NEGATIVE {
+        return Signed::Is(negative(size));
+    }
+    if size == 9223372036854775808 {
+        return Signed::Bad;
+    }
+    if 64 < size {
+        return Signed::Is(OFF_LOWER);
+    }
+    Signed::Is(size as i64)
+}
+
+fn flag(x: usize) -> bool {
+    x <= 1
+}
+
+// The parameters, whether good or off.
+pub(crate) fn given(v: &[usize; numbers::MOST_WORDS], form: u8) -> Asked {
+    let log = v[1];
+    if 63 < log {
+        return Asked::Bad;
+    }
+    if !flag(v[5]) {
+        return Asked::Bad;
+    }
+    if !flag(v[6]) {
+        return Asked::Bad;
+    }
+    match lower(form, v[7]) {
+        Signed::Bad => Asked::Bad,
+        Signed::Is(l) => Asked::Params(Params {
+            base: v[0],
+            bytes: 1 << log,
+            blocks: v[2],
+            min: v[3],
+            max: v[4],
+            offsets: v[5] == 1,
+            unified: v[6] == 1,
+            lower: l,
+        }),
+    }
+}
+
+// The bytes of the heap, and 0 where the parameters are off for sure.
+pub(crate) fn heap_bytes(blocks: usize, log: usize) -> usize {
+    if BLOCKS < blocks {
+        return 0;
+    }
+    if 16 < log {
+        return 0;
+    }
+    blocks << log
+}
+
+// How many table words there are; none where the parameters are off for sure.
+pub(crate) fn word_count(blocks: usize) -> usize {
+    if BLOCKS < blocks {
+        return 0;
+    }
+    2958 + 6 * blocks
+}
+
+// A length within an array of m: a part of it can be lent.
+pub(crate) fn least(n: usize, m: usize) -> usize
+    ensures { λ r. ⌜ r ≤ m ⌝ }
+{
+    if n < m { n } else { m }
+}
+
+// Fills what is lent, and calls set-up.
+pub(crate) fn lent(
+    p: Params,
+    w: &mut [usize],
+    st: &mut [u8],
+    marks: &mut [u8],
+    heap: &mut [u8],
+    seed: usize,
+) -> Reply {
+    fill::table_words(w);
+    fill::table_bytes(st);
+    fill::table_bytes(marks);
+    fill::heap(heap, seed);
+    reply::of_answer(global::set_up(p, w, st, marks, heap))
+}
+
+// Past the capacity: pages used, over words of the right length, says whether the parameters are good.
+pub(crate) fn beyond(p: Params, w: &[usize]) -> Reply {
+    let none = [0usize; 49];
+    match block_list::pages_used(p, w, &none) {
+        PagesAnswer::Pages(_) => Reply::Bad,
+        PagesAnswer::Refused(r) => match r {
+            Refusal::BadSetup => Reply::Refused(r),
+            _ => Reply::Bad,
+        },
+    }
+}
