@@ -12,3 +12,4 @@ pub mod Requests
 pub mod BlockList
 pub mod Pigeon
 pub mod Linked
+pub mod Text

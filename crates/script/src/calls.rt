@@ -15,7 +15,7 @@ use native_ms::block_list;
 use native_ms::free_list_allocator;
 use native_ms::global;
 
-// How many words stand behind a line's letter; OFF if there is no such line.
+// How many words stand behind a line's letter; where there is no such line, more than any line has.
 pub(crate) fn shape(letter: u8) -> usize {
     match letter {
         b'p' | b's' | b'D' | b'H' => 0,

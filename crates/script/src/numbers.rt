@@ -139,6 +139,10 @@ fn word(line: &[u8; lines::LINE_BYTES], at: usize, len: usize, free: bool) -> Pi
     if lines::byte(line, at) != b' ' {
         return Piece::Off;
     }
+    // Past the line's end stand bytes of an earlier one.
+    if len <= at + 1 {
+        return Piece::Off;
+    }
     if free {
         if lines::byte(line, at + 1) == b'-' {
             return negative(line, at + 2, len);
@@ -161,7 +165,7 @@ fn no_words() -> Taken {
     }
 }
 
-// Takes the words from `at` on apart. Only the word number `free` may be other than a plain number.
+// Takes the words from `from` on apart. Only the word number `free` may be other than a plain number.
 pub(crate) fn words(
     line: &[u8; lines::LINE_BYTES],
     from: usize,

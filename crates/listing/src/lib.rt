@@ -1,0 +1,47 @@
+// The leaves of the census program: what a trace's bytes say, and how a listing's bytes are made. specs/ ties each to the
+// model's Census.
+use model::Offer;
+
+pub mod lines;
+mod numbers;
+pub mod print;
+mod words;
+
+// What a word says: a number, or nothing that is one.
+pub enum Number {
+    Value(usize),
+    None,
+}
+
+// What a line asks. `Shared` is the shared release, `Bad` a line of another form.
+pub enum Line {
+    Bind(usize),
+    Destroy(usize),
+    Alloc {
+        holder: usize,
+        size: usize,
+        align: usize,
+        offset: usize,
+        offer: Offer,
+    },
+    Prepare,
+    Mark {
+        place: usize,
+        block: usize,
+    },
+    Release(usize),
+    Shared,
+    Bad,
+}
+
+// What an alloc's last word says: an offer, or nothing that is one.
+pub enum Offered {
+    Offer(Offer),
+    None,
+}
+
+// What a trace holds at a place: a line, from its first byte to before its newline, with the place of the next; or no more.
+pub enum NextLine {
+    Line { from: usize, to: usize, next: usize },
+    End,
+}
