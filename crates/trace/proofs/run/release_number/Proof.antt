@@ -1,0 +1,27 @@
+-- `release_number` meets its contract. Assumes nothing.
+use Rattle.model.specs.Answers.{releaseReply}
+use borrow.Author.Needs.{needs}
+use Rattle.trace.proofs.run.release_number.Statement.{statement}
+use Rattle.trace.proofs.run.release_number.Tie as tie
+
+enum-known-x : tie.Need-enum-known-x
+enum-known-x c = search needs
+
+enum-told : tie.Need-enum-told
+enum-told c = search needs
+
+returns : tie.Need-returns
+unfolding releaseReply
+returns c = search needs
+
+refusal-number-requires : tie.Need-refusal-number-requires
+refusal-number-requires c κs = search needs
+
+--@ returns-2 c = rw (@x .given .1) (@refusal-number .ensures)
+returns-2 : tie.Need-returns-2
+unfolding releaseReply
+returns-2 c = rw (c .before .before .x .given .1) (c .refusal-number .ensures)
+
+pub release-number-spec : {M : Type 1} → statement M
+release-number-spec =
+    tie.close (tie.spec enum-known-x enum-told returns refusal-number-requires returns-2)

@@ -1,0 +1,4 @@
+pub mod Run
+pub mod Sections
+pub mod Room
+pub mod Census

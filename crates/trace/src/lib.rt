@@ -1,0 +1,73 @@
+// A trace run on the native mark-sweep space, and its listing: the work of the census program.
+use listing::print;
+use native_ms::global;
+ghost use Prim.Native.Nat.{_≤_};
+ghost use lib.ListN.{length};
+ghost use Rattle.model.specs.Census.{census};
+ghost use Rattle.native_ms.specs.Promise.{lend};
+ghost use Rattle.laws.specs.Text.{Printed};
+ghost use Rattle.trace.specs.Census.{listingText, listedFrom, Listed};
+
+mod chain;
+mod run;
+mod sections;
+
+// No listing is longer.
+pub const LISTING_BYTES: usize = 700000;
+
+// The three sections of what stands after a trace's lines.
+fn listing(
+    out: &mut [u8],
+    lines: &[usize],
+    numbers: &[usize],
+    words: &[usize],
+    states: &[u8],
+    heap: &[u8],
+) -> usize
+    ensures { λ r. ⌜ Printed (now (out .entry)) (now (out .exit)) 0 r (listingText (now (lines .entry)) (now (numbers .entry)) (now (words .entry)) (now (states .entry)) (now (heap .entry))) ⌝ }
+{
+    let refused = print::refused_section(out, 0, lines, numbers);
+    let blocks = sections::blocks_section(out, refused, words, states);
+    sections::free_section(out, blocks, words, states, heap)
+}
+
+// Sets up on what is lent, runs the trace and lists what stands then.
+fn run_and_list(
+    trace: &[u8],
+    out: &mut [u8],
+    words: &mut [usize],
+    states: &mut [u8],
+    marks: &mut [u8],
+    heap: &mut [u8],
+    lines: &mut [usize],
+    numbers: &mut [usize],
+) -> usize
+    requires { ⌜ (256 ≤ length (now lines)) × (256 ≤ length (now numbers)) ⌝ }
+    ensures { λ r. ⌜ Printed (now (out .entry)) (now (out .exit)) 0 r (listedFrom (lend (now (words .entry)) (now (states .entry)) (now (marks .entry)) (now (heap .entry))) (now (trace .entry))) ⌝ }
+{
+    global::set_up(run::params(), words, states, marks, heap);
+    let n = run::run(trace, words, states, marks, heap, lines, numbers);
+    listing(out, &lines[..n], &numbers[..n], words, states, heap)
+}
+
+// The listing of a trace, as many of its bytes as the buffer holds. The answer is how many; one of LISTING_BYTES holds all.
+pub fn census(trace: &[u8], out: &mut [u8]) -> usize
+    ensures { λ r. ⌜ Listed (now (out .entry)) (now (out .exit)) r (census (now (trace .entry))) ⌝ }
+{
+    let mut words = [0usize; 2982];
+    let mut states = [0u8; 4];
+    let mut marks = [0u8; 256];
+    let mut heap = [0u8; 16384];
+    let mut lines = [0usize; 256];
+    let mut numbers = [0usize; 256];
+    run_and_list(
+        trace,
+        out,
+        &mut words,
+        &mut states,
+        &mut marks,
+        &mut heap,
+        &mut lines,
+        &mut numbers,
+    )
+}

@@ -1,0 +1,132 @@
+// The sections on blocks and free cells.
+use crate::chain;
+use listing::print;
+use words::states;
+use words::tables;
+ghost use mathlib.Core.Path.{_≡_};
+ghost use mathlib.Core.List.{map};
+ghost use lib.ListN.{length};
+ghost use Rattle.model.specs.Tables.{view};
+ghost use Rattle.model.specs.Sound.{setNamed};
+ghost use Rattle.model.specs.Census.{joined, blockRow, allFreeRows};
+ghost use Rattle.laws.specs.Text.{Printed};
+ghost use Rattle.trace.specs.Sections.{tablesRead, isOccupied, occupiedIn, blocksText, freeText};
+
+// Whether the block is not Unallocated.
+fn is_occupied(states: &[u8], b: usize) -> bool
+    ensures { λ r. ⌜ r ≡ isOccupied (now (states .entry)) b ⌝ }
+{
+    states::state(states, b) != 0
+}
+
+// In each loop over the blocks the test comes last in a turn, so that the turn's two ends never meet.
+fn count_blocks(states: &[u8]) -> usize
+    ensures { λ r. ⌜ r ≡ length (occupiedIn (now (states .entry))) ⌝ }
+{
+    let mut n: usize = 0;
+    let mut next: usize = 0;
+    while next < 4 {
+        let b = next;
+        next = next + 1;
+        if is_occupied(states, b) {
+            n = n + 1;
+        }
+    }
+    n
+}
+
+fn wide(x: u8) -> usize
+    ensures { λ r. ⌜ r ≡ x ⌝ }
+{
+    x as usize
+}
+
+// The set of the list that the block names; 0 if it names none.
+fn set_named(words: &[usize], b: usize) -> usize
+    ensures { λ r. ⌜ r ≡ setNamed (view (now (words .entry))) b ⌝ }
+{
+    let list = tables::list(words, b);
+    if list == 0 {
+        return 0;
+    }
+    (list - 1) / 49
+}
+
+fn block_row(out: &mut [u8], at: usize, words: &[usize], states: &[u8], b: usize) -> usize
+    ensures { λ r. ⌜ Printed (now (out .entry)) (now (out .exit)) at r (blockRow (tablesRead (now (words .entry)) (now (states .entry))) b) ⌝ }
+{
+    let state = wide(states::state(states, b));
+    let size = tables::size(words, b);
+    let list = print::list_letter(set_named(words, b));
+    let holder = tables::tls(words, b);
+    print::block_row(out, at, b, state, size, list, holder)
+}
+
+fn block_rows(out: &mut [u8], at: usize, words: &[usize], states: &[u8]) -> usize
+    ensures { λ r. ⌜ Printed (now (out .entry)) (now (out .exit)) at r (joined (map (blockRow (tablesRead (now (words .entry)) (now (states .entry)))) (occupiedIn (now (states .entry))))) ⌝ }
+{
+    let mut place = at;
+    let mut next: usize = 0;
+    while next < 4 {
+        let b = next;
+        next = next + 1;
+        if is_occupied(states, b) {
+            place = block_row(out, place, words, states, b);
+        }
+    }
+    place
+}
+
+// The blocks that are not Unallocated.
+pub(crate) fn blocks_section(out: &mut [u8], at: usize, words: &[usize], states: &[u8]) -> usize
+    ensures { λ r. ⌜ Printed (now (out .entry)) (now (out .exit)) at r (blocksText (now (words .entry)) (now (states .entry))) ⌝ }
+{
+    let n = count_blocks(states);
+    let place = print::blocks_head(out, at, n);
+    block_rows(out, place, words, states)
+}
+
+fn count_cells(words: &[usize], states: &[u8], heap: &[u8]) -> usize
+    ensures { λ r. ⌜ r ≡ length (allFreeRows (tablesRead (now (words .entry)) (now (states .entry))) (now (heap .entry)) (occupiedIn (now (states .entry)))) ⌝ }
+{
+    let mut n: usize = 0;
+    let mut next: usize = 0;
+    while next < 4 {
+        let b = next;
+        next = next + 1;
+        if is_occupied(states, b) {
+            n = n + chain::count(words, heap, b);
+        }
+    }
+    n
+}
+
+fn cell_rows(out: &mut [u8], at: usize, words: &[usize], states: &[u8], heap: &[u8]) -> usize
+    ensures { λ r. ⌜ Printed (now (out .entry)) (now (out .exit)) at r (joined (allFreeRows (tablesRead (now (words .entry)) (now (states .entry))) (now (heap .entry)) (occupiedIn (now (states .entry))))) ⌝ }
+{
+    let mut place = at;
+    let mut next: usize = 0;
+    while next < 4 {
+        let b = next;
+        next = next + 1;
+        if is_occupied(states, b) {
+            place = chain::rows(out, place, words, heap, b);
+        }
+    }
+    place
+}
+
+// The free cells of each, along its chain.
+pub(crate) fn free_section(
+    out: &mut [u8],
+    at: usize,
+    words: &[usize],
+    states: &[u8],
+    heap: &[u8],
+) -> usize
+    ensures { λ r. ⌜ Printed (now (out .entry)) (now (out .exit)) at r (freeText (now (words .entry)) (now (states .entry)) (now (heap .entry))) ⌝ }
+{
+    let n = count_cells(words, states, heap);
+    let place = print::free_head(out, at, n);
+    cell_rows(out, place, words, states, heap)
+}
