@@ -1,10 +1,12 @@
+pub mod Records
 pub mod Lower
 pub mod Chains
 pub mod TakeCell
 pub mod Search
+pub mod Tests
 pub mod Heads
 pub mod Ending
-pub mod AllocCall
 pub mod Abandoned
 pub mod Releases
 pub mod SpaceCalls
+pub mod AllocCall

@@ -9,14 +9,17 @@ use native.Mathlib.Omega.{arith}
 use lib.Dec.{eqb}
 use lib.ListN.{getD, set}
 use borrow.Author.Tests.{eq-eqb, ne-eqb}
+use mir.Syntax.{w64}
+use mir.Val.{Fits}
 use Rattle.model.specs.declared.Params.{Params}
 use Rattle.model.specs.Base.{if_then_else_, eachBelow, count}
-use Rattle.model.specs.Params.{blockAt, listOf, available, unswept, consumed, localSets}
+use Rattle.model.specs.Params.{goodParams, blockAt, listOf, available, unswept, consumed, localSets}
 use Rattle.model.specs.Tables.{Words}
 use Rattle.model.specs.BlockList.{remove, append}
 use Rattle.model.specs.Block.{Unallocated, Unmarked, clearBlock}
 use Rattle.model.specs.Events.{Event, eventHeap, eventsHeap, isRelease, releases}
 use Rattle.model.specs.Global.{Freed, freed, afterRelease, releaseFrom, releaseBlocks, appendTo, releaseBin, releaseHolder, abandonBlocks, sweepLaterBin, sweepLater}
+use Rattle.laws.specs.Params.{good-bounds}
 use Rattle.native_ms.specs.Released.{Out, out, total, attemptRelease, releasedBins}
 
 -- n more
@@ -307,11 +310,24 @@ from-few (suc k) p l a t s =
     (releaseFrom k p l next (clearBlock b (remove p l b t)) (set s b Unallocated)) (releaseFrom k p l next t s)
     (few-none k t s) (from-few k p l next (clearBlock b (remove p l b t)) (set s b Unallocated)) (from-few k p l next t s)
 
-pub blocks-few : (k : ℕ) (p : Params) (l a : ℕ) (t : Words) (s : List ℕ) {r : ℕ} {t₁ : Words} {s₁ : List ℕ} → out r t₁ s₁ ≡ total (releaseFrom k p l a t s) → r ≤ k
+blocks-few : (k : ℕ) (p : Params) (l a : ℕ) (t : Words) (s : List ℕ) {r : ℕ} {t₁ : Words} {s₁ : List ℕ}
+    → out r t₁ s₁ ≡ total (releaseFrom k p l a t s) → r ≤ k
 unfolding total
 blocks-few k p l a t s {r} e =
     let n : r ≡ releases (releaseFrom k p l a t s .events) = ap (λ (o : Out). o .number) e in
     omega (arith, from-few k p l a t s)
+
+pub blocks-low : (p : Params) → goodParams p ≡ true
+    → (l a : ℕ) (t : Words) (s : List ℕ) {r : ℕ} {t₁ : Words} {s₁ : List ℕ}
+    → out r t₁ s₁ ≡ total (releaseFrom (p .blocks) p l a t s) → r ≤ 1024
+blocks-low p g l a t s e = omega (arith, blocks-few (p .blocks) p l a t s e, good-bounds p g .blocks-high)
+
+-- sums of a bin fit a word
+pub two-fit : {m n : ℕ} → m ≤ 1024 → n ≤ 1024 → Fits w64 (m + n)
+two-fit h l = omega arith
+
+pub three-fit : {m n o : ℕ} → m ≤ 1024 → n ≤ 1024 → o ≤ 1024 → Fits w64 (m + n + o)
+three-fit h l k = omega arith
 
 -- what adds at most k
 unfoldable pub AddsAtMost : ℕ → (Freed → Freed) → Type 0

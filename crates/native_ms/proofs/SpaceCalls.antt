@@ -12,130 +12,26 @@ use borrow.Author.Tests.{eq-eqb, ne-eqb, eqb-true, leb-true, lt-ltb, le-ltb, lt-
 use borrow.Author.Count.{below-more}
 use lib.Seq.{ext-getD, getD-set-same, getD-set-other}
 use Rattle.model.specs.declared.Params.{Params}
-use Rattle.model.specs.declared.Refusal.{Refusal}
-use Rattle.model.specs.declared.Refusal.the-variants.{BadSetup, BadTables, WrongPhase, BadHolder, BadObject}
+use Rattle.model.specs.declared.Refusal.the-variants.{BadSetup, WrongPhase, BadHolder, BadObject}
 use Rattle.model.specs.Base.{eachBelow, flag}
 use Rattle.model.specs.Params.{goodParams, fits, wordCount, heapBytes, start, minusLower, inHeap, localSets, listOf, available, unswept, consumed}
 use Rattle.model.specs.Memory.{marked, setMark, cleared}
 use Rattle.model.specs.Tables.{Words, Tables, tablesOf, view, flat, setBound, setPhase, setReleased, withReleased}
-use Rattle.model.specs.Events.{Event, eventsHeap, releases}
+use Rattle.model.specs.Events.{releases}
 use Rattle.model.specs.BlockList.{append}
 use Rattle.model.specs.Global.{freshWords, freshTables, isHolder, isBound, hasReleased, bindHolder, destroyHolder, abandonBin, abandonBlocks, unmarkedState, prepared, markPlace, Freed, releaseHolder, sweepLater, allReleased, mergeBin, merge, partReleased}
-use Rattle.model.specs.Sound.{sound, stateOf}
-use Rattle.model.specs.Calls.{answered, refused, Call, bind, destroy, prepare, mark, release, sharedRelease, says, refuses, changes, goodObject, mayRelease, releasePlan, planSound, plan, finish, step, call, setUp}
-use Rattle.laws.specs.Below.{and-left, and-right, or-left, or-right, or-neither}
+use Rattle.model.specs.Sound.{stateOf}
+use Rattle.model.specs.Calls.{answered, refused, Call, bind, destroy, prepare, mark, release, sharedRelease, says, changes, goodObject, mayRelease, releasePlan, planSound, setUp}
+use Rattle.laws.specs.Below.{and-left, and-right, or-left}
 use Rattle.laws.specs.Base.{if-true, if-false}
 use Rattle.laws.specs.Params.{good-bounds, start-in, block-small}
-use Rattle.laws.specs.Tables.{words-flat, flat-view}
 use Rattle.native_ms.specs.Promise.{lend, Promised, SetUpPromised}
 use Rattle.native_ms.specs.Released.{Out, out, total}
 use Rattle.native_ms.specs.Space.{lengthsFit, inBlock, collected}
+use Rattle.native_ms.specs.declared.global.Tested.the-variants.{Passed}
+use Rattle.native_ms.specs.Checked.{refusedIf, phaseTest, boundTests, bindTests, markTests, releaseTests, sharedTests}
+use Rattle.native_ms.proofs.Tests.{fit-words, fits-same, passed-if, passed-not, last-passed, Passing, says-so, says-done, planAfter, plan-one, plan-two}
 use Rattle.native_ms.proofs.Releases.{Quiet}
-
-pub fits-bad : (p : Params) (w s m h : ℕ) {g : Bool} → g ≡ goodParams p → g ≡ false → false ≡ lengthsFit p w s m h
-unfolding lengthsFit
-fits-bad p w s m h e f = rw (← e, f)
-
-pub fits-good : (p : Params) (w s m h : ℕ) {g r : Bool} → g ≡ goodParams p → g ≡ true → r ≡ (eqb w (wordCount p) && eqb s (p .blocks) && eqb m (heapBytes p / 64) && eqb h (heapBytes p)) → r ≡ lengthsFit p w s m h
-unfolding lengthsFit
-fits-good p w s m h e f q = rw (← e, f, q)
-
-pub fit-good : (p : Params) (w s m h : ℕ) {f : Bool} → f ≡ lengthsFit p w s m h → f ≡ true → goodParams p ≡ true
-unfolding lengthsFit
-fit-good p w s m h e z = and-left _ _ (and-left _ _ (and-left _ _ (and-left _ _ (sym e ∙ z))))
-
--- the words are long enough for all that comes before the block tables
-pub fit-long : (p : Params) (w s m h : ℕ) {f : Bool} {n : ℕ} → f ≡ lengthsFit p w s m h → f ≡ true → n ≡ w → 2958 ≤ n
-unfolding lengthsFit wordCount
-fit-long p w s m h e z q =
-    let g = goodParams p in
-    let a = eqb w (wordCount p) in
-    let b = eqb s (p .blocks) in
-    let c = eqb m (heapBytes p / 64) in
-    let l = eqb-true w (wordCount p) (and-right g a (and-left (g && a) b (and-left (g && a && b) c (and-left _ _ (sym e ∙ z))))) in
-    omega arith
-
--- what was lent fits, and its tables are sound
-pub record Open (p : Params) (w s m h : List ℕ) : Type 0 where
-  pub fit : fits p (lend w s m h) ≡ true
-  pub good : goodParams p ≡ true
-  pub long : length w ≡ 2958 + 6 * p .blocks
-  pub sane : sound p (tablesOf (view w) s m) ≡ true
-
-module _ (p : Params) (w s m h : List ℕ) {f : Bool} (ef : f ≡ lengthsFit p (length w) (length s) (length m) (length h)) where
-  pub fits-same : f ≡ fits p (lend w s m h)
-  unfolding lengthsFit fits
-  fits-same = ef
-
-  pub good-fit : f ≡ true → goodParams p ≡ true
-  unfolding lengthsFit
-  good-fit e = fit-good p (length w) (length s) (length m) (length h) ef e
-
-  pub long-fit : f ≡ true → length w ≡ 2958 + 6 * p .blocks
-  unfolding lengthsFit wordCount
-  long-fit e =
-      let g = goodParams p in
-      let a = eqb (length w) (wordCount p) in
-      let b = eqb (length s) (p .blocks) in
-      let c = eqb (length m) (heapBytes p / 64) in
-      eqb-true _ _ (and-right g a (and-left (g && a) b (and-left (g && a && b) c (and-left _ _ (sym ef ∙ e)))))
-
-  pub states-fit : f ≡ true → length s ≡ p .blocks
-  unfolding lengthsFit
-  states-fit e =
-      let x = goodParams p && eqb (length w) (wordCount p) in
-      let b = eqb (length s) (p .blocks) in
-      let c = eqb (length m) (heapBytes p / 64) in
-      eqb-true _ _ (and-right x b (and-left (x && b) c (and-left _ _ (sym ef ∙ e))))
-
-  pub marks-fit : f ≡ true → length m ≡ heapBytes p / 64
-  unfolding lengthsFit
-  marks-fit e =
-      let x = goodParams p && eqb (length w) (wordCount p) && eqb (length s) (p .blocks) in
-      let c = eqb (length m) (heapBytes p / 64) in
-      eqb-true _ _ (and-right x c (and-left _ _ (sym ef ∙ e)))
-
-  pub bad-setup : (c : Call) → f ≡ false → Promised p (lend w s m h) c (refused BadSetup) (lend w s m h)
-  unfolding call
-  bad-setup c e = let q : fits p (lend w s m h) ≡ false = sym (fits-same) ∙ e in record { reply = rw q; lent = rw q }
-
-  pub bad-set-up : f ≡ false → SetUpPromised p (lend w s m h) (refused BadSetup) (lend w s m h)
-  unfolding setUp
-  bad-set-up e = let q : fits p (lend w s m h) ≡ false = sym (fits-same) ∙ e in record { reply = rw q; lent = rw q }
-
-  module _ {g : Bool} (e : f ≡ true) (eg : (m′ : List ℕ) → g ≡ sound p (tablesOf (view w) s m′)) where
-    pub bad-tables : (c : Call) → g ≡ false → Promised p (lend w s m h) c (refused BadTables) (lend w s m h)
-    unfolding call step plan finish eventsHeap
-    bad-tables c z =
-        let q : fits p (lend w s m h) ≡ true = sym (fits-same) ∙ e in
-        let n : sound p (tablesOf (view w) s m) ≡ false = sym (eg m) ∙ z in
-        let v : flat (view w) ≡ w = flat-view (p .blocks) w (long-fit e) in
-        record { reply = rw (q, n); lent = rw (q, n, v) }
-
-    pub opened : g ≡ true → Open p w s m h
-    opened z = record { fit = sym (fits-same) ∙ e; good = good-fit e; long = long-fit e; sane = sym (eg m) ∙ z }
-
-module _ {p : Params} {w s m h : List ℕ} (o : Open p w s m h) (c : Call) where
-  pub says-no : (r : Refusal) → planSound p (tablesOf (view w) s m) c ≡ refuses (tablesOf (view w) s m) r → Promised p (lend w s m h) c (refused r) (lend w s m h)
-  unfolding call step plan finish eventsHeap
-  says-no r e =
-      let q = o .fit in
-      let n = o .sane in
-      let v : flat (view w) ≡ w = flat-view (p .blocks) w (o .long) in
-      record { reply = rw (q, n, e); lent = rw (q, n, e, v) }
-
-  -- a plan with events that leave the heap alone
-  pub says-so : {t : Tables} {vs : List ℕ} {es : List Event} {w′ s′ m′ : List ℕ} → planSound p (tablesOf (view w) s m) c ≡ record { tables = t; events = es; end = says (answered vs) } → eventsHeap p es h ≡ h → length w′ ≡ length w → view w′ ≡ t .words → s′ ≡ t .states → m′ ≡ t .marks → Promised p (lend w s m h) c (answered vs) (lend w′ s′ m′ h)
-  unfolding call step plan finish
-  says-so {t} {vs} {es} {w′} e quiet lw ew es′ em =
-      let q = o .fit in
-      let n = o .sane in
-      let v : w′ ≡ flat (t .words) = words-flat (p .blocks) w′ w (t .words) (o .long) lw ew in
-      record { reply = rw (q, n, e); lent = rw (q, n, e, v, es′, em, quiet) }
-
-  pub says-done : {t : Tables} {vs : List ℕ} {w′ s′ m′ : List ℕ} → planSound p (tablesOf (view w) s m) c ≡ changes t vs → length w′ ≡ length w → view w′ ≡ t .words → s′ ≡ t .states → m′ ≡ t .marks → Promised p (lend w s m h) c (answered vs) (lend w′ s′ m′ h)
-  unfolding eventsHeap
-  says-done e lw ew es em = says-so e refl lw ew es em
 
 -- ---- holders
 
@@ -143,86 +39,88 @@ pub holder-low : (n : ℕ) {b : Bool} → b ≡ isHolder n → b ≡ true → 1 
 unfolding isHolder
 holder-low n e z = leb-true _ _ (and-left _ _ (sym e ∙ z))
 
-pub holder-high : (n : ℕ) {b : Bool} → b ≡ isHolder n → b ≡ true → n ≤ 8
+holder-high : (n : ℕ) {b : Bool} → b ≡ isHolder n → b ≡ true → n ≤ 8
 unfolding isHolder
 holder-high n e z = leb-true _ _ (and-right (leb 1 n) _ (sym e ∙ z))
 
 -- a bound holder is one
-bound-holder : (t : Words) (n : ℕ) {b : Bool} → b ≡ isBound t n → b ≡ true → isHolder n ≡ true
+bound-holder : (t : Words) (n : ℕ) → isBound t n ≡ true → isHolder n ≡ true
 unfolding isBound
-bound-holder t n e z = and-left _ _ (sym e ∙ z)
+bound-holder t n e = and-left _ _ e
 
-pub bound-low : (t : Words) (n : ℕ) {b : Bool} → b ≡ isBound t n → b ≡ true → 1 ≤ n
-bound-low t n e z = holder-low n (sym (bound-holder t n e z)) refl
+pub bound-low : (t : Words) (n : ℕ) → isBound t n ≡ true → 1 ≤ n
+bound-low t n e = holder-low n (sym (bound-holder t n e)) refl
 
-pub bound-high : (t : Words) (n : ℕ) {b : Bool} → b ≡ isBound t n → b ≡ true → n ≤ 8
-bound-high t n e z = holder-high n (sym (bound-holder t n e z)) refl
+pub bound-high : (t : Words) (n : ℕ) → isBound t n ≡ true → n ≤ 8
+bound-high t n e = holder-high n (sym (bound-holder t n e)) refl
 
 pub sets-low : (n : ℕ) {r : ℕ} → n ≤ 8 → r ≡ localSets n → r ≤ 27
 unfolding localSets
 sets-low n h e = omega arith
 
--- a test of the phase
-phase-other : (t : Words) (k : ℕ) {f : ℕ} → f ≡ t .phase → (f ≡ k → ⊥) → not (eqb (t .phase) k) ≡ true
-phase-other t k ef q = ap not (ne-eqb (t .phase) k (λ e. q (ef ∙ e)))
-
-phase-this : (t : Words) (k : ℕ) {f : ℕ} → f ≡ t .phase → f ≡ k → not (eqb (t .phase) k) ≡ false
-phase-this t k ef q = ap not (eq-eqb (t .phase) k (sym ef ∙ q))
-
 -- ---- bind
 
-module _ (p : Params) (t : Tables) (n : ℕ) {f : ℕ} (ef : f ≡ t .words .phase) where
-  pub bind-phase : (f ≡ 0 → ⊥) → planSound p t (bind n) ≡ refuses t WrongPhase
-  unfolding planSound
-  bind-phase q = if-true _ _ _ (phase-other (t .words) 0 ef q)
+pub bind-plan : (p : Params) (t : Tables) (n : ℕ)
+    → planSound p t (bind n) ≡ planAfter t (bindTests (t .words) n) (changes (bindHolder n t) [])
+unfolding planSound bindTests phaseTest
+bind-plan p t n =
+    plan-two t (changes (bindHolder n t) []) (not (eqb (t .words .phase) 0)) (not (isHolder n) || isBound (t .words) n)
+    WrongPhase BadHolder
 
-  module _ {a : Bool} (q : f ≡ 0) (ea : a ≡ isHolder n) where
-    pub bind-none : a ≡ false → planSound p t (bind n) ≡ refuses t BadHolder
-    unfolding planSound
-    bind-none z = if-false _ _ _ (phase-this (t .words) 0 ef q) ∙ if-true _ _ _ (or-left _ (ap not (sym ea ∙ z)))
+pub bind-low : (t : Words) (n : ℕ) → bindTests t n ≡ Passed → 1 ≤ n
+unfolding bindTests
+bind-low t n e =
+    let y = passed-if (not (isHolder n) || isBound t n) BadHolder (last-passed (phaseTest t 0) _ e) in
+    holder-low n refl (is-true (isHolder n) (isBound t n) y)
+  where
+    is-true : (a b : Bool) → (not a || b) ≡ false → a ≡ true
+    is-true true b e = refl
+    is-true false b e = let z : _≡_ {A = ℕ} 0 1 = cc in absurd (omega arith)
 
-    module _ {b : Bool} (z : a ≡ true) (eb : b ≡ isBound (t .words) n) where
-      pub bind-again : b ≡ true → planSound p t (bind n) ≡ refuses t BadHolder
-      unfolding planSound
-      bind-again y =
-          if-false _ _ _ (phase-this (t .words) 0 ef q) ∙ if-true _ _ _ (or-right (not (isHolder n)) (sym eb ∙ y))
-
-      pub bind-new : b ≡ false → planSound p t (bind n) ≡ changes (bindHolder n t) []
-      unfolding planSound
-      bind-new y =
-          if-false _ _ _ (phase-this (t .words) 0 ef q) ∙ if-false _ _ _ (or-neither (ap not (sym ea ∙ z)) (sym eb ∙ y))
-
-pub bind-done : {p : Params} {w s m h : List ℕ} (n : ℕ) {w′ : List ℕ} → Open p w s m h → planSound p (tablesOf (view w) s m) (bind n) ≡ changes (bindHolder n (tablesOf (view w) s m)) [] → length w′ ≡ length w → view w′ ≡ setBound (n - 1) 1 (view w) → Promised p (lend w s m h) (bind n) (answered []) (lend w′ s m h)
+pub bind-done : {p : Params} {w s m h : List ℕ} (n : ℕ) {w′ : List ℕ}
+    → Passing p w s m h (bind n) (changes (bindHolder n (tablesOf (view w) s m)) []) → length w′ ≡ length w
+    → view w′ ≡ setBound (n - 1) 1 (view w) → Promised p (lend w s m h) (bind n) (answered []) (lend w′ s m h)
 unfolding bindHolder
-bind-done n o e l v = says-done o (bind n) e l v refl refl
+bind-done n a l v = says-done (a .open-to) (bind n) (a .plan-is) l v refl refl
 
 -- ---- destroy
 
-module _ (p : Params) (t : Tables) (n : ℕ) {f : ℕ} (ef : f ≡ t .words .phase) where
-  pub destroy-phase : (f ≡ 0 → ⊥) → planSound p t (destroy n) ≡ refuses t WrongPhase
-  unfolding planSound
-  destroy-phase q = if-true _ _ _ (phase-other (t .words) 0 ef q)
+pub destroy-plan : (p : Params) (t : Tables) (n : ℕ)
+    → planSound p t (destroy n) ≡ planAfter t (boundTests (t .words) n) (changes (destroyHolder p n t) [])
+unfolding planSound boundTests phaseTest
+destroy-plan p t n =
+    plan-two t (changes (destroyHolder p n t) []) (not (eqb (t .words .phase) 0)) (not (isBound (t .words) n))
+    WrongPhase BadHolder
 
-  module _ {b : Bool} (q : f ≡ 0) (eb : b ≡ isBound (t .words) n) where
-    pub destroy-none : b ≡ false → planSound p t (destroy n) ≡ refuses t BadHolder
-    unfolding planSound
-    destroy-none z = if-false _ _ _ (phase-this (t .words) 0 ef q) ∙ if-true _ _ _ (ap not (sym eb ∙ z))
+pub bound-by : (t : Words) (n : ℕ) → boundTests t n ≡ Passed → isBound t n ≡ true
+unfolding boundTests
+bound-by t n e = passed-not (isBound t n) BadHolder (last-passed (phaseTest t 0) _ e)
 
-    pub destroy-some : b ≡ true → planSound p t (destroy n) ≡ changes (destroyHolder p n t) []
-    unfolding planSound
-    destroy-some z = if-false _ _ _ (phase-this (t .words) 0 ef q) ∙ if-false _ _ _ (ap not (sym eb ∙ z))
-
-pub destroy-done : {p : Params} {w s m h : List ℕ} (n : ℕ) {owner : ℕ} {t₁ : Words} {w′ : List ℕ} → Open p w s m h → planSound p (tablesOf (view w) s m) (destroy n) ≡ changes (destroyHolder p n (tablesOf (view w) s m)) [] → length w′ ≡ length w → owner ≡ localSets n → t₁ ≡ abandonBlocks p 24 owner (view w) → view w′ ≡ setBound (n - 1) 0 t₁ → Promised p (lend w s m h) (destroy n) (answered []) (lend w′ s m h)
+pub destroy-done : {p : Params} {w s m h : List ℕ} (n : ℕ) {owner : ℕ} {t₁ : Words} {w′ : List ℕ}
+    → Passing p w s m h (destroy n) (changes (destroyHolder p n (tablesOf (view w) s m)) []) → length w′ ≡ length w
+    → owner ≡ localSets n → t₁ ≡ abandonBlocks p 24 owner (view w) → view w′ ≡ setBound (n - 1) 0 t₁
+    → Promised p (lend w s m h) (destroy n) (answered []) (lend w′ s m h)
 unfolding destroyHolder
-destroy-done {p} {w} n {owner} {t₁} o e l eo e₁ v =
-    says-done o (destroy n) e l
+destroy-done {p} {w} n {owner} {t₁} a l eo e₁ v =
+    says-done (a .open-to) (destroy n) (a .plan-is) l
     (v ∙ ap (setBound (n - 1) 0) (e₁ ∙ ap (λ (k : ℕ). abandonBlocks p 24 k (view w)) eo)) refl refl
 
 -- ---- lists of an owner, bin by bin
 
-pub list-low : (k bin : ℕ) {l : ℕ} → k ≤ 29 → bin < 49 → l ≡ listOf k bin → l < 1470
+pub list-low : (k bin : ℕ) {l : ℕ} → k < 30 → bin < 49 → l ≡ listOf k bin → l < 1470
 unfolding listOf
 list-low k bin hk hb e = omega arith
+
+-- an owner's three sets
+module _ {owner : ℕ} (h : owner ≤ 27) where
+  pub owner-first : owner < 30
+  owner-first = omega arith
+
+  pub owner-second : owner + 1 < 30
+  owner-second = omega arith
+
+  pub owner-third : owner + 2 < 30
+  owner-third = omega arith
 
 pub abandon-bin : (p : Params) (to from bin : ℕ) {a u c fa fu fc : ℕ} (t : Words) {t₁ t₂ t₃ : Words} → a ≡ listOf to bin → u ≡ listOf (to + 1) bin → c ≡ listOf (to + 2) bin → fa ≡ listOf from bin → fu ≡ listOf (from + 1) bin → fc ≡ listOf (from + 2) bin → t₁ ≡ append p a fa t → t₂ ≡ append p c fc t₁ → t₃ ≡ append p u fu t₂ → t₃ ≡ abandonBin p to from bin t
 unfolding abandonBin available unswept consumed
@@ -284,18 +182,19 @@ pub unmark-zero : unmarkedState 0 ≡ 0
 unfolding unmarkedState
 unmark-zero = refl
 
-module _ (p : Params) (t : Tables) {f : ℕ} (ef : f ≡ t .words .phase) where
-  pub prepare-phase : (f ≡ 0 → ⊥) → planSound p t prepare ≡ refuses t WrongPhase
-  unfolding planSound
-  prepare-phase q = if-true _ _ _ (phase-other (t .words) 0 ef q)
+pub prepare-plan : (p : Params) (t : Tables)
+    → planSound p t prepare ≡ planAfter t (phaseTest (t .words) 0) (changes (prepared t) [])
+unfolding planSound phaseTest
+prepare-plan p t = plan-one t (changes (prepared t) []) (not (eqb (t .words .phase) 0)) WrongPhase
 
-  pub prepare-yes : f ≡ 0 → planSound p t prepare ≡ changes (prepared t) []
-  unfolding planSound
-  prepare-yes q = if-false _ _ _ (phase-this (t .words) 0 ef q)
-
-pub prepare-done : {p : Params} {w s m h : List ℕ} {w′ s′ m′ : List ℕ} → Open p w s m h → planSound p (tablesOf (view w) s m) prepare ≡ changes (prepared (tablesOf (view w) s m)) [] → length w′ ≡ length w → (2940 < length w → view w′ ≡ setPhase 1 (view w)) → s′ ≡ map unmarkedState s → m′ ≡ cleared m → Promised p (lend w s m h) prepare (answered []) (lend w′ s′ m′ h)
+pub prepare-done : {p : Params} {w s m h : List ℕ} {w′ s′ m′ : List ℕ}
+    → Passing p w s m h prepare (changes (prepared (tablesOf (view w) s m)) []) → length w′ ≡ length w
+    → (2940 < length w → view w′ ≡ setPhase 1 (view w)) → s′ ≡ map unmarkedState s → m′ ≡ cleared m
+    → Promised p (lend w s m h) prepare (answered []) (lend w′ s′ m′ h)
 unfolding prepared
-prepare-done {w = w} o e l v es em = says-done o prepare e l (v (let long = o .long in omega arith)) es em
+prepare-done {w = w} a l v es em =
+    let long = a .open-to .long in
+    says-done (a .open-to) prepare (a .plan-is) l (v (omega arith)) es em
 
 -- ---- set-up
 
@@ -329,48 +228,67 @@ fresh-flat : (p : Params) (k : ℕ) → k ≡ 2958 + 6 * p .blocks → flat (fre
 unfolding flat freshWords zeros
 fresh-flat p k e = flat-zeros 1470 1470 8 9 (p .blocks) k (omega arith)
 
-pub set-up-done : (p : Params) (w s m h : List ℕ) {f : Bool} {w′ s′ m′ : List ℕ} → f ≡ lengthsFit p (length w) (length s) (length m) (length h) → f ≡ true → w′ ≡ replicate (length w) 0 → s′ ≡ cleared s → m′ ≡ cleared m → SetUpPromised p (lend w s m h) (answered []) (lend w′ s′ m′ h)
-unfolding setUp freshTables cleared
-set-up-done p w s m h ef e ew es em =
-    let q : fits p (lend w s m h) ≡ true = sym (fits-same p w s m h ef) ∙ e in
-    let v : w′-is w ≡ flat (freshWords p) = sym (fresh-flat p (length w) (long-fit p w s m h ef e)) in
-    let ls : length s ≡ p .blocks = states-fit p w s m h ef e in
-    let lm : length m ≡ heapBytes p / 64 = marks-fit p w s m h ef e in
-    record { reply = rw q; lent = rw (q, ew, es, em, ls, lm, ← v) }
-  where
-    w′-is : List ℕ → List ℕ
-    w′-is l = replicate (length l) 0
+module _ (p : Params) (w s m h : List ℕ) {f : Bool} (ef : f ≡ lengthsFit p (length w) (length s) (length m) (length h)) where
+  is-fit : f ≡ fits p (lend w s m h)
+  is-fit = ef ∙ fits-same p w s m h
+
+  states-fit : f ≡ true → length s ≡ p .blocks
+  unfolding lengthsFit
+  states-fit e =
+      let x = goodParams p && eqb (length w) (wordCount p) in
+      let b = eqb (length s) (p .blocks) in
+      let c = eqb (length m) (heapBytes p / 64) in
+      eqb-true _ _ (and-right x b (and-left (x && b) c (and-left _ _ (sym ef ∙ e))))
+
+  marks-fit : f ≡ true → length m ≡ heapBytes p / 64
+  unfolding lengthsFit
+  marks-fit e =
+      let x = goodParams p && eqb (length w) (wordCount p) && eqb (length s) (p .blocks) in
+      let c = eqb (length m) (heapBytes p / 64) in
+      eqb-true _ _ (and-right x c (and-left _ _ (sym ef ∙ e)))
+
+  pub bad-set-up : f ≡ false → SetUpPromised p (lend w s m h) (refused BadSetup) (lend w s m h)
+  unfolding setUp
+  bad-set-up e = let q : fits p (lend w s m h) ≡ false = sym is-fit ∙ e in record { reply = rw q; lent = rw q }
+
+  pub set-up-done : {w′ s′ m′ : List ℕ} → f ≡ true → w′ ≡ replicate (length w) 0 → s′ ≡ cleared s → m′ ≡ cleared m
+      → SetUpPromised p (lend w s m h) (answered []) (lend w′ s′ m′ h)
+  unfolding setUp freshTables cleared
+  set-up-done e ew es em =
+      let q : fits p (lend w s m h) ≡ true = sym is-fit ∙ e in
+      let v : replicate (length w) 0 ≡ flat (freshWords p) =
+      sym (fresh-flat p (length w) (fit-words p (length w) (length s) (length m) (length h) ef e)) in
+      let ls : length s ≡ p .blocks = states-fit e in
+      let lm : length m ≡ heapBytes p / 64 = marks-fit e in
+      record { reply = rw q; lent = rw (q, ew, es, em, ls, lm, ← v) }
 
 -- ---- mark
 
-module _ (p : Params) (t : Tables) (place b : ℕ) {f : ℕ} (ef : f ≡ t .words .phase) where
-  pub mark-phase : (f ≡ 1 → ⊥) → planSound p t (mark place b) ≡ refuses t WrongPhase
-  unfolding planSound
-  mark-phase q = if-true _ _ _ (phase-other (t .words) 1 ef q)
+-- the tests look at words and states alone
+pub mark-plan : (p : Params) (t : Words) (s m : List ℕ) (place b : ℕ)
+    → planSound p (tablesOf t s m) (mark place b) ≡ planAfter (tablesOf t s m) (markTests p (tablesOf t s []) place b) (changes (markPlace p place b (tablesOf t s m)) (flag (not (marked p m place)) ∷ []))
+unfolding planSound markTests phaseTest goodObject stateOf
+mark-plan p t s m place b =
+    let u : Tables = tablesOf t s m in
+    plan-two u (changes (markPlace p place b u) (flag (not (marked p m place)) ∷ []))
+    (not (eqb (t .phase) 1)) (not (goodObject p u place b)) WrongPhase BadObject
 
-  module _ {g : Bool} (q : f ≡ 1) (eg : g ≡ goodObject p t place b) where
-    pub mark-object : g ≡ false → planSound p t (mark place b) ≡ refuses t BadObject
-    unfolding planSound
-    mark-object z = if-false _ _ _ (phase-this (t .words) 1 ef q) ∙ if-true _ _ _ (ap not (sym eg ∙ z))
-
-    pub mark-yes : g ≡ true → planSound p t (mark place b) ≡ changes (markPlace p place b t) (flag (not (marked p (t .marks) place)) ∷ [])
-    unfolding planSound
-    mark-yes z = if-false _ _ _ (phase-this (t .words) 1 ef q) ∙ if-false _ _ _ (ap not (sym eg ∙ z))
-
-module _ {p : Params} {w s m h : List ℕ} (place b : ℕ) (o : Open p w s m h) (e : planSound p (tablesOf (view w) s m) (mark place b) ≡ changes (markPlace p place b (tablesOf (view w) s m)) (flag (not (marked p m place)) ∷ [])) {x : Bool} (ex : x ≡ marked p m place) where
+module _ {p : Params} {w s m h : List ℕ} (place b : ℕ)
+    (a : Passing p w s m h (mark place b) (changes (markPlace p place b (tablesOf (view w) s m)) (flag (not (marked p m place)) ∷ [])))
+    {x : Bool} (ex : x ≡ marked p m place) where
   pub mark-old : x ≡ true → Promised p (lend w s m h) (mark place b) (answered (0 ∷ [])) (lend w s m h)
   unfolding markPlace flag
   mark-old z =
       let y : marked p m place ≡ true = sym ex ∙ z in
-      let c : planSound p (tablesOf (view w) s m) (mark place b) ≡ changes (tablesOf (view w) s m) (0 ∷ []) = e ∙ rw y in
-      says-done o (mark place b) c refl refl refl refl
+      let c : planSound p (tablesOf (view w) s m) (mark place b) ≡ changes (tablesOf (view w) s m) (0 ∷ []) = a .plan-is ∙ rw y in
+      says-done (a .open-to) (mark place b) c refl refl refl refl
 
   pub mark-new : {s′ m′ : List ℕ} → x ≡ false → s′ ≡ set s b 254 → m′ ≡ setMark p m place → Promised p (lend w s m h) (mark place b) (answered (1 ∷ [])) (lend w s′ m′ h)
   unfolding markPlace flag
   mark-new z es em =
       let y : marked p m place ≡ false = sym ex ∙ z in
-      let c : planSound p (tablesOf (view w) s m) (mark place b) ≡ changes (tablesOf (view w) (set s b 254) (setMark p m place)) (1 ∷ []) = e ∙ rw y in
-      says-done o (mark place b) c refl refl es em
+      let c : planSound p (tablesOf (view w) s m) (mark place b) ≡ changes (tablesOf (view w) (set s b 254) (setMark p m place)) (1 ∷ []) = a .plan-is ∙ rw y in
+      says-done (a .open-to) (mark place b) c refl refl es em
 
 -- whether a place can be marked
 
@@ -431,50 +349,38 @@ already-none t n e z = rw (← e, z)
 pub already-holder : (t : Words) (n : ℕ) {a r : Bool} → a ≡ isHolder n → a ≡ true → r ≡ hasReleased t n → r ≡ (isHolder n && hasReleased t n)
 already-holder t n e z q = rw (← e, z, q)
 
-module _ (p : Params) (t : Tables) (n : ℕ) {a : Bool} (ea : a ≡ mayRelease (t .words)) where
-  pub release-phase : a ≡ false → planSound p t (release n) ≡ refuses t WrongPhase
-  unfolding planSound
-  release-phase z = if-true _ _ _ (or-left _ (ap not (sym ea ∙ z)))
+pub release-plan : (p : Params) (t : Tables) (n : ℕ)
+    → planSound p t (release n) ≡ planAfter t (releaseTests (t .words) n) (releasePlan p n t (releaseHolder p n (t .words) (t .states)))
+unfolding planSound releaseTests
+release-plan p t n =
+    plan-two t (releasePlan p n t (releaseHolder p n (t .words) (t .states)))
+    (not (mayRelease (t .words)) || (isHolder n && hasReleased (t .words) n)) (not (isBound (t .words) n)) WrongPhase BadHolder
 
-  module _ {b : Bool} (z : a ≡ true) (eb : b ≡ (isHolder n && hasReleased (t .words) n)) where
-    pub release-again : b ≡ true → planSound p t (release n) ≡ refuses t WrongPhase
-    unfolding planSound
-    release-again y = if-true _ _ _ (or-right (not (mayRelease (t .words))) (sym eb ∙ y))
+pub release-bound : (t : Words) (n : ℕ) → releaseTests t n ≡ Passed → isBound t n ≡ true
+unfolding releaseTests
+release-bound t n e =
+    passed-not (isBound t n) BadHolder
+    (last-passed (refusedIf (not (mayRelease t) || (isHolder n && hasReleased t n)) WrongPhase) _ e)
 
-    module _ {c : Bool} (y : b ≡ false) (ec : c ≡ isBound (t .words) n) where
-      pub release-none : c ≡ false → planSound p t (release n) ≡ refuses t BadHolder
-      unfolding planSound
-      release-none x =
-          if-false _ _ _ (or-neither (ap not (sym ea ∙ z)) (sym eb ∙ y)) ∙ if-true _ _ _ (ap not (sym ec ∙ x))
+pub shared-plan : (p : Params) (t : Tables)
+    → planSound p t sharedRelease ≡ planAfter t (sharedTests (t .words)) (releasePlan p 0 t (sweepLater p (t .words) (t .states)))
+unfolding planSound sharedTests
+shared-plan p t =
+    plan-one t (releasePlan p 0 t (sweepLater p (t .words) (t .states)))
+    (not (mayRelease (t .words)) || hasReleased (t .words) 0) WrongPhase
 
-      pub release-yes : c ≡ true → planSound p t (release n) ≡ releasePlan p n t (releaseHolder p n (t .words) (t .states))
-      unfolding planSound
-      release-yes x =
-          if-false _ _ _ (or-neither (ap not (sym ea ∙ z)) (sym eb ∙ y)) ∙ if-false _ _ _ (ap not (sym ec ∙ x))
-
-module _ (p : Params) (t : Tables) {a : Bool} (ea : a ≡ mayRelease (t .words)) where
-  pub shared-phase : a ≡ false → planSound p t sharedRelease ≡ refuses t WrongPhase
-  unfolding planSound
-  shared-phase z = if-true _ _ _ (or-left _ (ap not (sym ea ∙ z)))
-
-  module _ {b : Bool} (z : a ≡ true) (eb : b ≡ hasReleased (t .words) 0) where
-    pub shared-again : b ≡ true → planSound p t sharedRelease ≡ refuses t WrongPhase
-    unfolding planSound
-    shared-again y = if-true _ _ _ (or-right (not (mayRelease (t .words))) (sym eb ∙ y))
-
-    pub shared-yes : b ≡ false → planSound p t sharedRelease ≡ releasePlan p 0 t (sweepLater p (t .words) (t .states))
-    unfolding planSound
-    shared-yes y = if-false _ _ _ (or-neither (ap not (sym ea ∙ z)) (sym eb ∙ y))
-
-pub release-done : {p : Params} {w s m h : List ℕ} (c : Call) (part : ℕ) (f : Freed) {n : ℕ} {t₁ : Words} {w′ s′ : List ℕ} → Open p w s m h → planSound p (tablesOf (view w) s m) c ≡ releasePlan p part (tablesOf (view w) s m) f → Quiet p (f .events) → out n t₁ s′ ≡ total f → length w′ ≡ length w → view w′ ≡ partReleased p part t₁ → Promised p (lend w s m h) c (answered (n ∷ [])) (lend w′ s′ m h)
+pub release-done : {p : Params} {w s m h : List ℕ} (c : Call) (part : ℕ) (f : Freed) {n : ℕ} {t₁ : Words} {w′ s′ : List ℕ}
+    → Passing p w s m h c (releasePlan p part (tablesOf (view w) s m) f) → Quiet p (f .events) → out n t₁ s′ ≡ total f
+    → length w′ ≡ length w → view w′ ≡ partReleased p part t₁
+    → Promised p (lend w s m h) c (answered (n ∷ [])) (lend w′ s′ m h)
 unfolding releasePlan Quiet total
-release-done {p} {w} {s} {m} {h} c part f {n} {t₁} {w′} {s′} o e quiet q l v =
+release-done {p} {w} {s} {m} {h} c part f {n} {t₁} {w′} {s′} a quiet q l v =
     let en : n ≡ releases (f .events) = ap (λ (x : Out). x .number) q in
     let ew : t₁ ≡ f .words = ap (λ (x : Out). x .words) q in
     let es : s′ ≡ f .states = ap (λ (x : Out). x .states) q in
     let d : planSound p (tablesOf (view w) s m) c ≡ record { tables = tablesOf (partReleased p part (f .words)) (f .states) m; events = f .events; end = says (answered (n ∷ [])) } =
-    e ∙ rw (← en) in
-    says-so o c d (quiet h) l (v ∙ ap (partReleased p part) ew) es refl
+    a .plan-is ∙ rw (← en) in
+    says-so (a .open-to) c d (quiet h) l (v ∙ ap (partReleased p part) ew) es refl
 
 -- ---- the end of a collection
 

@@ -1,22 +1,23 @@
 -- The blocks on one list and on 48 lists, as the code counts them: a count, or that a walk goes wrong.
 -- Each law is one way on or out of a walk. Assumes nothing.
 use Prim.Native.Nat.{ℕ, zero, suc, _+_, _-_, _*_, _/_, _<_, _≤_}
-use mathlib.Core.Path.{_≡_, refl, sym, ap, _∙_}
-use mathlib.Core.Bool.{Bool, true, false, not, _&&_}
+use mathlib.Core.Path.{_≡_, refl, sym, ap, _∙_, subst, subst⁻¹}
+use mathlib.Core.Bool.{Bool, true, false, _&&_}
 use mathlib.Core.List.{List, [], _∷_}
 use native.Mathlib.Nat.{add-zero, zero-add, suc-mul, mul-le-mul, not-suc-le-zero}
 use native.Mathlib.Numerals.{add-one}
 use native.Mathlib.Omega.{arith}
 use lib.Dec.{eqb}
 use lib.ListN.{length, getD}
-use borrow.Author.Tests.{eq-eqb, ne-eqb}
+use borrow.Author.Tests.{eq-eqb, ne-eqb, eqb-true}
 use Rattle.model.specs.declared.Params.{Params}
 use Rattle.model.specs.Base.{if_then_else_, allBelow, sumBelow}
 use Rattle.model.specs.declared.Refusal.the-variants.{BadSetup, BadTables}
 use Rattle.model.specs.Params.{goodParams, wordCount, blockAt, isStart}
 use Rattle.model.specs.Tables.{view}
 use Rattle.model.specs.BlockList.{walk, ends, pagesUsed, pagesEnd}
-use Rattle.model.specs.Calls.{answered, refused, pages}
+use Rattle.model.specs.Calls.{Reply, answered, refused, pages}
+use Rattle.laws.specs.Below.{and-three}
 use Rattle.laws.specs.Params.{Bounds}
 use Rattle.native_ms.specs.declared.block_list.Counted.{Counted}
 use Rattle.native_ms.specs.declared.block_list.Counted.the-variants.{Blocks, Bad}
@@ -144,7 +145,7 @@ module _ (p : Params) (next firsts : List ℕ) {r : Counted} (e : r ≡ countedB
       let y = counted-yes (pagesEnd p next firsts) n (0 + all) (sym h ∙ e) in
       record { good = y .good; same = y .same ∙ zero-add all }
 
-  pub bins-few : {n : ℕ} → r ≡ Blocks n → n ≤ 48 * p .blocks
+  bins-few : {n : ℕ} → r ≡ Blocks n → n ≤ 48 * p .blocks
   unfolding all
   bins-few h =
       omega (arith, walks-yes h .same, sum-few 48 (λ i. length (walk (p .blocks) p next (getD firsts (i + 1) 0))) (p .blocks) (λ i. walk-few (p .blocks) p next (getD firsts (i + 1) 0)))
@@ -158,29 +159,161 @@ pub pages-fit : (p : Params) (n : ℕ) → Bounds p → n ≤ 48 * p .blocks →
 pages-fit p n g h =
     mul-le-mul {n₁ = p .bytes / 4096} {m₁ = n} {n₂ = 16} {m₂ = 49152} (omega (arith, g .bytes-high)) (omega (arith, g .blocks-high))
 
--- ---- the answers of pages used, by the tests that lead there
+-- ---- the same, one list after the other, as a loop over list records goes
 
+abbrev pub countOf : Counted → ℕ
+countOf (Blocks n) = n
+countOf Bad = 0
+
+pub count-known : {c : Counted} {n b : ℕ} → c ≡ Blocks n → countOf c ≤ b → n ≤ b
+count-known {b} e h = subst (λ (d : Counted). countOf d ≤ b) e h
+
+-- c, and the blocks from the address a on
+unfoldable pub countedMore : Params → List ℕ → Counted → ℕ → Counted
+countedMore p next (Blocks n) a = countedFrom (p .blocks) p next n a
+countedMore p next Bad a = Bad
+
+-- c, and the blocks on the lists of the bins 1 to k
+unfoldable pub countedOn : ℕ → Params → List ℕ → List ℕ → Counted → Counted
+countedOn k p next firsts (Blocks n) = countedBins k p next firsts n
+countedOn k p next firsts Bad = Bad
+
+module _ (p : Params) (next : List ℕ) (a : ℕ) where
+  pub more-bad : {c : Counted} → c ≡ Bad → Bad ≡ countedMore p next c a
+  unfolding countedMore
+  more-bad h = rw h
+
+  module _ {c r : Counted} {n : ℕ} (h : c ≡ Blocks n) (e : r ≡ countedFrom (p .blocks) p next 0 a) where
+    pub more-no : r ≡ Bad → Bad ≡ countedMore p next c a
+    unfolding countedMore countedFrom
+    more-no hr = rw (h, walk-no p next a (p .blocks) e hr)
+
+    pub more-yes : {m : ℕ} → r ≡ Blocks m → Blocks (n + m) ≡ countedMore p next c a
+    unfolding countedMore countedFrom
+    more-yes hr = let y = walk-yes p next a (p .blocks) e hr in rw (h, y .good, ← y .same)
+
+  more-few : (c : Counted) → countOf (countedMore p next c a) ≤ countOf c + p .blocks
+  unfolding countedMore countedFrom
+  more-few (Blocks n) = go (ends (p .blocks) p next a)
+    where
+      go : (t : Bool) → countOf (counted t (n + length (walk (p .blocks) p next a))) ≤ n + p .blocks
+      go true = omega (arith, walk-few (p .blocks) p next a)
+      go false = omega arith
+  more-few Bad = omega arith
+
+module _ (p : Params) (next firsts : List ℕ) where
+  pub on-start : (k : ℕ) → countedOn k p next firsts (Blocks 0) ≡ countedBins k p next firsts 0
+  unfolding countedOn
+  on-start k = refl
+
+  pub on-end : (c : Counted) → c ≡ countedOn 0 p next firsts c
+  unfolding countedOn
+  on-end (Blocks n) = bins-end p next firsts n 0 (omega arith)
+  on-end Bad = refl
+
+  pub on-step : (k : ℕ) → 0 < k → (c : Counted)
+      → countedOn (k - 1) p next firsts (countedMore p next c (getD firsts k 0)) ≡ countedOn k p next firsts c
+  unfolding countedOn countedMore
+  on-step k s Bad = refl
+  on-step k s (Blocks n) = go (countedFrom (p .blocks) p next 0 (getD firsts k 0)) refl
+    where
+      go : (r : Counted) → r ≡ countedFrom (p .blocks) p next 0 (getD firsts k 0)
+          → countedOn (k - 1) p next firsts (countedMore p next (Blocks n) (getD firsts k 0)) ≡ countedBins k p next firsts n
+      go Bad e =
+          ap (countedOn (k - 1) p next firsts) (sym (more-no p next (getD firsts k 0) {c = Blocks n} refl e refl))
+          ∙ bins-bad p next firsts n k s e refl
+      go (Blocks m) e =
+          ap (countedOn (k - 1) p next firsts) (sym (more-yes p next (getD firsts k 0) {c = Blocks n} refl e refl))
+          ∙ bins-step p next firsts n k s e refl
+
+pub all-few : (p : Params) (next firsts : List ℕ) (c : Counted) → c ≡ countedBins 48 p next firsts 0 → countOf c ≤ 48 * p .blocks
+all-few p next firsts (Blocks n) e = bins-few p next firsts e refl
+all-few p next firsts Bad e = omega arith
+
+-- what is counted, with all blocks for each bin left, is at most all blocks for each of 48 bins
+pub few-step : (p : Params) (next : List ℕ) (a k : ℕ) (c : Counted) → 0 < k → countOf c + k * p .blocks ≤ 48 * p .blocks
+    → countOf (countedMore p next c a) + (k - 1) * p .blocks ≤ 48 * p .blocks
+few-step p next a zero c s h = absurd (not-suc-le-zero s)
+few-step p next a (suc k) c s h =
+    let d : suc k - 1 ≡ k = omega arith in
+    subst⁻¹ (λ (j : ℕ). countOf (countedMore p next c a) + j * p .blocks ≤ 48 * p .blocks) d
+    (omega (arith, more-few p next a c, suc-mul k (p .blocks), h))
+
+-- the sizes that pages used asks
+unfoldable pub setFits : Params → List ℕ → ℕ → Bool
+setFits p words n = goodParams p && eqb (length words) (wordCount p) && eqb n 49
+
+abbrev pub binsIn : Bool → ℕ
+binsIn fits = if fits then 48 else 0
+
+pub bins-some : (t : Bool) {k : ℕ} → 0 < k → k ≤ binsIn t → (t ≡ true) × (k ≤ 48)
+bins-some true s h = (refl, h)
+bins-some false s h = absurd (omega arith)
+
+pub few-start : (t : Bool) (b : ℕ) → 0 + binsIn t * b ≤ 48 * b
+few-start true b = omega arith
+few-start false b = omega arith
+
+unfoldable pub countedReply : Params → Counted → Reply
+countedReply p (Blocks n) = answered (p .bytes / 4096 * n ∷ [])
+countedReply p Bad = refused BadTables
+
+abbrev pub pagesSaid : Params → Bool → Counted → Reply
+pagesSaid p fits c = if fits then countedReply p c else refused BadSetup
+
+module _ (p : Params) (words : List ℕ) (n : ℕ) where
+  pub fits-params : goodParams p ≡ false → false ≡ setFits p words n
+  unfolding setFits
+  fits-params h = rw h
+
+  pub fits-words : goodParams p ≡ true → (length words ≡ 2958 + 6 * p .blocks → ⊥) → false ≡ setFits p words n
+  unfolding setFits wordCount
+  fits-words g h = rw (g, ne-eqb (length words) (2958 + 6 * p .blocks) h)
+
+  pub fits-records : goodParams p ≡ true → length words ≡ 2958 + 6 * p .blocks → eqb n 49 ≡ setFits p words n
+  unfolding setFits wordCount
+  fits-records g h = rw (g, eq-eqb (length words) (2958 + 6 * p .blocks) h)
+
+  pub fits-good : setFits p words n ≡ true → goodParams p ≡ true
+  unfolding setFits
+  fits-good h = and-three (goodParams p) (eqb (length words) (wordCount p)) (eqb n 49) h .0
+
+  pub fits-count : setFits p words n ≡ true → n ≡ 49
+  unfolding setFits
+  fits-count h = eqb-true n 49 (and-three (goodParams p) (eqb (length words) (wordCount p)) (eqb n 49) h .2)
+
+-- the answer, by the tests that lead there
+module _ (p : Params) {t : Bool} where
+  pub said-off : (c : Counted) → t ≡ false → refused BadSetup ≡ pagesSaid p t c
+  said-off c h = rw h
+
+  pub said-bad : {c : Counted} → t ≡ true → c ≡ Bad → refused BadTables ≡ pagesSaid p t c
+  unfolding countedReply
+  said-bad h e = rw (h, e)
+
+  pub said-pages : {c : Counted} {n : ℕ} → t ≡ true → c ≡ Blocks n → answered (p .bytes / 4096 * n ∷ []) ≡ pagesSaid p t c
+  unfolding countedReply
+  said-pages h e = rw (h, e)
+
+pub pages-said : (p : Params) (words firsts : List ℕ) (c : Counted)
+    → c ≡ countedBins (binsIn (setFits p words (length firsts))) p (view words .next) firsts 0
+    → pagesSaid p (setFits p words (length firsts)) c ≡ pages p words firsts
+unfolding pages setFits countedReply
+pages-said p words firsts c e = go (setFits p words (length firsts)) refl c e
+  where
+    go : (t : Bool) → setFits p words (length firsts) ≡ t → (c : Counted)
+        → c ≡ countedBins (binsIn t) p (view words .next) firsts 0 → pagesSaid p t c ≡ pages p words firsts
+    go false h c e = rw h
+    go true h Bad e = rw (h, walks-no p (view words .next) firsts e refl)
+    go true h (Blocks m) e = rw (h, walks-yes p (view words .next) firsts e refl .good, used p (view words .next) firsts e refl)
+
+-- the same where all bins are counted at once
 module _ (p : Params) (words firsts : List ℕ) where
-  pub pages-params : goodParams p ≡ false → refused BadSetup ≡ pages p words firsts
-  unfolding pages
-  pages-params h = rw h
+  pub pages-off : setFits p words (length firsts) ≡ false → refused BadSetup ≡ pages p words firsts
+  unfolding pages setFits
+  pages-off h = rw h
 
-  module _ (g : goodParams p ≡ true) where
-    pub pages-words : (length words ≡ 2958 + 6 * p .blocks → ⊥) → refused BadSetup ≡ pages p words firsts
-    unfolding pages wordCount
-    pages-words h = rw (g, ne-eqb (length words) (2958 + 6 * p .blocks) h)
-
-    module _ (lw : length words ≡ 2958 + 6 * p .blocks) where
-      pub pages-firsts : (length firsts ≡ 49 → ⊥) → refused BadSetup ≡ pages p words firsts
-      unfolding pages wordCount
-      pages-firsts h = rw (g, eq-eqb (length words) (2958 + 6 * p .blocks) lw, ne-eqb (length firsts) 49 h)
-
-      module _ (lf : length firsts ≡ 49) {r : Counted} (e : r ≡ countedBins 48 p (view words .next) firsts 0) where
-        pub pages-bad : r ≡ Bad → refused BadTables ≡ pages p words firsts
-        unfolding pages wordCount
-        pages-bad h = rw (g, eq-eqb (length words) (2958 + 6 * p .blocks) lw, eq-eqb (length firsts) 49 lf, walks-no p (view words .next) firsts e h)
-
-        pub pages-counted : {n : ℕ} → r ≡ Blocks n → answered (p .bytes / 4096 * n ∷ []) ≡ pages p words firsts
-        unfolding pages wordCount
-        pages-counted h =
-            rw (g, eq-eqb (length words) (2958 + 6 * p .blocks) lw, eq-eqb (length firsts) 49 lf, walks-yes p (view words .next) firsts e h .good, used p (view words .next) firsts e h)
+  pub pages-on : (c : Counted) → setFits p words (length firsts) ≡ true → c ≡ countedBins 48 p (view words .next) firsts 0
+      → pagesSaid p (setFits p words (length firsts)) c ≡ pages p words firsts
+  pages-on c h e =
+      pages-said p words firsts c (e ∙ ap (λ (t : Bool). countedBins (binsIn t) p (view words .next) firsts 0) (sym h))

@@ -1,6 +1,7 @@
 pub mod Raised
 pub mod Block
 pub mod Counted
+pub mod Records
 pub mod SoundWalk
 pub mod SoundLaws
 pub mod SoundTests

@@ -12,7 +12,7 @@ ghost use mathlib.Core.Path.{_≡_};
 ghost use mathlib.Core.Bool.{true, false};
 ghost use Prim.Native.Nat.{_+_, _*_, _^_, _≤_};
 ghost use Rattle.model.specs.Base.{anyBelow};
-ghost use Rattle.model.specs.Params.{goodParams, lowerOk, biased, plusLower, minusLower};
+ghost use Rattle.model.specs.Params.{goodParams, lowerOk, biased, plusLower};
 ghost use Rattle.model.specs.Memory.{marked};
 ghost use Rattle.model.specs.SizeClasses.{wordsIn};
 ghost use Rattle.model.specs.Tables.{view};
@@ -50,19 +50,6 @@ fn plus_lower(p: Params, a: usize) -> Address
         return Address(0);
     }
     Address(v - 64)
-}
-
-// a − L, for a place.
-pub(crate) fn minus_lower(p: Params, a: usize) -> usize
-    requires { ⌜ (goodParams p ≡ true) × (a ≤ 2 ^ 60) ⌝ }
-    ensures { λ r. ⌜ r ≡ minusLower p a ⌝ }
-{
-    let l = biased(p.lower);
-    let v = a + 64;
-    if v < l {
-        return 0;
-    }
-    v - l
 }
 
 // Whether the simple sweep will do: a cell's address is that of its object.

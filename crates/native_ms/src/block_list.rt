@@ -10,14 +10,15 @@ use model::Refusal;
 use words::tables;
 ghost use mathlib.Core.Path.{_≡_};
 ghost use mathlib.Core.Bool.{true};
-ghost use Prim.Native.Nat.{_<_};
+ghost use Prim.Native.Nat.{_<_, _≤_, _*_};
 ghost use lib.ListN.{length};
 ghost use Rattle.model.specs.Params.{goodParams};
 ghost use Rattle.model.specs.Tables.{view};
 ghost use Rattle.model.specs.BlockList.{popped, push, pop, remove, relabel, link, append};
 ghost use Rattle.model.specs.Calls.{pages};
 ghost use Rattle.model.specs.Answers.{pagesReply};
-ghost use Rattle.native_ms.specs.Counted.{countedFrom, countedBins};
+ghost use Rattle.native_ms.specs.Counted.{countedFrom, countedBins, countOf, countedMore, setFits, binsIn, pagesSaid};
+ghost use Rattle.native_ms.specs.Records.{withRecord, recordAt, held, onRecord, heldPopped, popOn, heldBoth, appendOn, firsts};
 
 // Adds the block at the head of the list l.
 pub(crate) fn push(p: Params, w: &mut [usize], l: usize, b: Block)
@@ -224,21 +225,213 @@ fn count_bins(p: Params, w: &[usize], firsts: &[usize]) -> Counted
     Counted::Blocks(n)
 }
 
-// The pages of the blocks on one set's lists, by the first block of each. Bin 0 is not counted.
-pub fn pages_used(p: Params, words: &[usize], firsts: &[usize]) -> PagesAnswer
-    ensures { λ r. ⌜ pagesReply r ≡ pages p (now (words .entry)) (now (firsts .entry)) ⌝ }
+// A list as a caller lends it: its first and last block by address, 0 for none, and its cell size.
+pub struct BlockList {
+    pub first: Address,
+    pub last: Address,
+    pub size: usize,
+}
+
+// The record's ends stand at the list l of the words, so that the operations on numbers work on them.
+fn put_record(w: &mut [usize], l: usize, r: BlockList)
+    ensures { λ _. ⌜ view (now (w .exit)) ≡ withRecord l r (view (now (w .entry))) ⌝ }
+{
+    let first = r.first;
+    let last = r.last;
+    tables::set_first(w, l, first.0);
+    tables::set_last(w, l, last.0);
+}
+
+// The record with the ends that stand at the list l.
+fn record_at(w: &[usize], l: usize, r: BlockList) -> BlockList
+    ensures { λ s. ⌜ s ≡ recordAt l (r .size) (view (now (w .entry))) ⌝ }
+{
+    let first = Address(tables::first(w, l));
+    let last = Address(tables::last(w, l));
+    let mut s = r;
+    s.first = first;
+    s.last = last;
+    s
+}
+
+// The operations on a record by value. The methods below are these, through a reference.
+pub(crate) fn pushed(r: BlockList, p: Params, w: &mut [usize], l: usize, b: Block) -> BlockList
+    requires { ⌜ (goodParams p ≡ true) × (l < 1470) ⌝ }
+    ensures { λ s. ⌜ held s (view (now (w .exit))) ≡ onRecord l (push p l (b .0)) r (view (now (w .entry))) ⌝ }
+{
+    put_record(w, l, r);
+    push(p, w, l, b);
+    record_at(w, l, r)
+}
+
+pub(crate) fn removed(r: BlockList, p: Params, w: &mut [usize], l: usize, b: Block) -> BlockList
+    requires { ⌜ (goodParams p ≡ true) × (l < 1470) ⌝ }
+    ensures { λ s. ⌜ held s (view (now (w .exit))) ≡ onRecord l (remove p l (b .0)) r (view (now (w .entry))) ⌝ }
+{
+    put_record(w, l, r);
+    remove(p, w, l, b);
+    record_at(w, l, r)
+}
+
+// The record that pop leaves, and where the block it took starts.
+struct PoppedRecord {
+    list: BlockList,
+    at: Address,
+}
+
+fn popped_record(r: BlockList, p: Params, w: &mut [usize], l: usize) -> PoppedRecord
+    requires { ⌜ (goodParams p ≡ true) × (l < 1470) ⌝ }
+    ensures { λ s. ⌜ heldPopped (s .list) (popped (s .at .0) (view (now (w .exit)))) ≡ popOn p l r (view (now (w .entry))) ⌝ }
+{
+    put_record(w, l, r);
+    let at = pop(p, w, l);
+    let list = record_at(w, l, r);
+    PoppedRecord { list, at }
+}
+
+// The two records that append leaves.
+struct AppendedRecords {
+    list: BlockList,
+    other: BlockList,
+}
+
+fn appended(
+    r: BlockList,
+    o: BlockList,
+    p: Params,
+    w: &mut [usize],
+    l: usize,
+    other: usize,
+) -> AppendedRecords
+    requires { ⌜ (goodParams p ≡ true) × (l < 1470) ⌝ }
+    ensures { λ s. ⌜ heldBoth (s .list) (s .other) (view (now (w .exit))) ≡ appendOn p l other r o (view (now (w .entry))) ⌝ }
+{
+    put_record(w, l, r);
+    put_record(w, other, o);
+    append(p, w, l, other);
+    let list = record_at(w, l, r);
+    let other = record_at(w, other, o);
+    AppendedRecords { list, other }
+}
+
+// The four operations on the records that the caller lends. The words keep their ends too, at the lists' numbers.
+impl BlockList {
+    pub(crate) fn push(&mut self, p: Params, w: &mut [usize], l: usize, b: Block)
+        requires { ⌜ (goodParams p ≡ true) × (l < 1470) ⌝ }
+        ensures { λ _. ⌜ held (now (self .exit)) (view (now (w .exit))) ≡ onRecord l (push p l (b .0)) (now (self .entry)) (view (now (w .entry))) ⌝ }
+    {
+        *self = pushed(*self, p, w, l, b);
+    }
+
+    pub(crate) fn pop(&mut self, p: Params, w: &mut [usize], l: usize) -> Address
+        requires { ⌜ (goodParams p ≡ true) × (l < 1470) ⌝ }
+        ensures { λ r. ⌜ heldPopped (now (self .exit)) (popped (r .0) (view (now (w .exit)))) ≡ popOn p l (now (self .entry)) (view (now (w .entry))) ⌝ }
+    {
+        let r = popped_record(*self, p, w, l);
+        *self = r.list;
+        r.at
+    }
+
+    pub(crate) fn remove(&mut self, p: Params, w: &mut [usize], l: usize, b: Block)
+        requires { ⌜ (goodParams p ≡ true) × (l < 1470) ⌝ }
+        ensures { λ _. ⌜ held (now (self .exit)) (view (now (w .exit))) ≡ onRecord l (remove p l (b .0)) (now (self .entry)) (view (now (w .entry))) ⌝ }
+    {
+        *self = removed(*self, p, w, l, b);
+    }
+
+    pub(crate) fn append(
+        &mut self,
+        other: &mut BlockList,
+        p: Params,
+        w: &mut [usize],
+        l: usize,
+        o: usize,
+    )
+        requires { ⌜ (goodParams p ≡ true) × (l < 1470) ⌝ }
+        ensures { λ _. ⌜ heldBoth (now (self .exit)) (now (other .exit)) (view (now (w .exit)))
+            ≡ appendOn p l o (now (self .entry)) (now (other .entry)) (view (now (w .entry))) ⌝ }
+    {
+        let r = appended(*self, *other, p, w, l, o);
+        *self = r.list;
+        *other = r.other;
+    }
+}
+
+// Whether the parameters, the words and a set of n records are of the right size.
+fn set_fits(p: Params, words: &[usize], n: usize) -> bool
+    ensures { λ r. ⌜ r ≡ setFits p (now (words .entry)) n ⌝ }
 {
     if !params::good_params(p) {
-        return PagesAnswer::Refused(Refusal::BadSetup);
+        return false;
     }
     if words.len() != 2958 + 6 * p.blocks {
+        return false;
+    }
+    n == 49
+}
+
+// The last bin to walk, down to 1: none where something is off.
+fn bins_in(p: Params, words: &[usize], n: usize) -> usize
+    ensures { λ r. ⌜ r ≡ binsIn (setFits p (now (words .entry)) n) ⌝ }
+{
+    if set_fits(p, words, n) {
+        return 48;
+    }
+    0
+}
+
+// The blocks on one list more.
+fn count_more(p: Params, words: &[usize], list: BlockList, count: Counted) -> Counted
+    requires { ⌜ (goodParams p ≡ true) × (countOf count ≤ 48 * p .blocks) ⌝ }
+    ensures { λ r. ⌜ r ≡ countedMore p (view (now (words .entry)) .next) count (list .first .0) ⌝ }
+{
+    match count {
+        Counted::Bad => Counted::Bad,
+        Counted::Blocks(n) => {
+            match count_blocks(p, words, list.first) {
+                Counted::Bad => Counted::Bad,
+                Counted::Blocks(m) => Counted::Blocks(n + m),
+            }
+        }
+    }
+}
+
+// What is answered of a set of n records whose blocks were counted.
+fn pages_answer(p: Params, words: &[usize], n: usize, count: Counted) -> PagesAnswer
+    requires { ⌜ countOf count ≤ 48 * p .blocks ⌝ }
+    ensures { λ r. ⌜ pagesReply r ≡ pagesSaid p (setFits p (now (words .entry)) n) count ⌝ }
+{
+    if !set_fits(p, words, n) {
         return PagesAnswer::Refused(Refusal::BadSetup);
     }
-    if firsts.len() != 49 {
-        return PagesAnswer::Refused(Refusal::BadSetup);
-    }
-    match count_bins(p, words, firsts) {
+    match count {
         Counted::Bad => PagesAnswer::Refused(Refusal::BadTables),
-        Counted::Blocks(n) => PagesAnswer::Pages(p.bytes / 4096 * n),
+        Counted::Blocks(m) => PagesAnswer::Pages(p.bytes / 4096 * m),
     }
+}
+
+// The pages of the blocks on the 49 lists of one set, by the records the caller lends. Bin 0 is not counted.
+pub fn pages_used(p: Params, words: &[usize], records: &[BlockList]) -> PagesAnswer
+    ensures { λ r. ⌜ pagesReply r ≡ pages p (now (words .entry)) (firsts (now (records .entry))) ⌝ }
+{
+    let n = records.len();
+    let mut k = bins_in(p, words, n);
+    let mut count = Counted::Blocks(0);
+    while 0 < k {
+        count = count_more(p, words, records[k], count);
+        k = k - 1;
+    }
+    pages_answer(p, words, n, count)
+}
+
+// The same for a caller that holds the first blocks and no records.
+pub fn pages_of_firsts(p: Params, words: &[usize], firsts: &[usize]) -> PagesAnswer
+    ensures { λ r. ⌜ pagesReply r ≡ pages p (now (words .entry)) (now (firsts .entry)) ⌝ }
+{
+    let n = firsts.len();
+    if !set_fits(p, words, n) {
+        return PagesAnswer::Refused(Refusal::BadSetup);
+    }
+    let count = count_bins(p, words, firsts);
+    pages_answer(p, words, n, count)
 }

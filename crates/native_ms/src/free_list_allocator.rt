@@ -7,9 +7,9 @@ use crate::allocator::Raised;
 use crate::block;
 use crate::block::Taken;
 use crate::block_list;
-use crate::params;
+use crate::global;
+use crate::global::Tested;
 use crate::size_class;
-use crate::sound;
 use model::Address;
 use model::AllocAnswer;
 use model::Block;
@@ -33,7 +33,7 @@ ghost use Rattle.native_ms.specs.Closing.{ListNumber, Filed, seen, close
 ghost use Rattle.native_ms.specs.Promise.{lend, Promised};
 ghost use Rattle.native_ms.specs.Abandoned.{nextOf, popAbandoned, TakenOver};
 ghost use Rattle.native_ms.specs.Ending.{ended, closedSearch, acquireGlobal, Freshened, stepped, servedBy, Ready};
-ghost use Rattle.native_ms.specs.Checked.{checked};
+ghost use Rattle.native_ms.specs.Checked.{requestTests, allocTests};
 
 // The first set of the abandoned lists.
 const ABANDONED: usize = 24;
@@ -390,27 +390,18 @@ fn good_offer(p: Params, st: &[u8], offer: Offer) -> bool
     }
 }
 
-// The tests of a request on sound tables, in document 01's order.
+// The tests of what is asked for, in document 01's order.
 fn check_request(
     p: Params,
-    w: &[usize],
     st: &[u8],
-    holder: usize,
     size: usize,
     align: usize,
     offset: usize,
     offer: Offer,
 ) -> Checked
     requires { ⌜ goodParams p ≡ true ⌝ }
-    ensures { λ r. ⌜ r ≡ checked p (view (now (w .entry))) (now (st .entry)) holder size align offset offer ⌝ }
+    ensures { λ r. ⌜ ((t : Words) → r ≡ requestTests p t (now (st .entry)) size align offset offer) ⌝ }
 {
-    let phase = tables::phase(w);
-    if phase != 0 {
-        return Checked::Refused(Refusal::WrongPhase);
-    }
-    if !sound::is_bound(w, holder) {
-        return Checked::Refused(Refusal::BadHolder);
-    }
     if !allocator::good_request(p, size, align, offset) {
         return Checked::Refused(Refusal::BadRequest);
     }
@@ -422,6 +413,27 @@ fn check_request(
             }
             Checked::Bin(size_class::mi_bin_from_size(s))
         }
+    }
+}
+
+// All tests of an alloc.
+fn check_alloc(
+    p: Params,
+    w: &[usize],
+    st: &[u8],
+    marks: usize,
+    heap: usize,
+    holder: usize,
+    size: usize,
+    align: usize,
+    offset: usize,
+    offer: Offer,
+) -> Checked
+    ensures { λ r. ⌜ r ≡ allocTests p (now (w .entry)) (now (st .entry)) marks heap holder size align offset offer ⌝ }
+{
+    match global::check_bound(p, w, st, marks, heap, holder) {
+        Tested::Refused(r) => Checked::Refused(r),
+        Tested::Passed => check_request(p, st, size, align, offset, offer),
     }
 }
 
@@ -477,16 +489,18 @@ pub fn alloc(
 ) -> AllocAnswer
     ensures { λ r. ⌜ Promised p (lend (now (words .entry)) (now (states .entry)) (now (marks .entry)) (now (heap .entry))) (alloc holder size align offset offer) (allocReply r) (lend (now (words .exit)) (now (states .exit)) (now (marks .entry)) (now (heap .exit))) ⌝ }
 {
-    if !params::good_params(p) {
-        return AllocAnswer::Refused(Refusal::BadSetup);
-    }
-    if !params::lengths_fit(p, words.len(), states.len(), marks.len(), heap.len()) {
-        return AllocAnswer::Refused(Refusal::BadSetup);
-    }
-    if !sound::sound(p, words, states) {
-        return AllocAnswer::Refused(Refusal::BadTables);
-    }
-    match check_request(p, words, states, holder, size, align, offset, offer) {
+    match check_alloc(
+        p,
+        words,
+        states,
+        marks.len(),
+        heap.len(),
+        holder,
+        size,
+        align,
+        offset,
+        offer,
+    ) {
         Checked::Refused(r) => AllocAnswer::Refused(r),
         Checked::Bin(bin) => serve(
             p,

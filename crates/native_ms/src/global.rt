@@ -25,7 +25,7 @@ use words::states;
 use words::tables;
 ghost use mathlib.Core.Path.{_≡_};
 ghost use mathlib.Core.Bool.{true, _&&_};
-ghost use mathlib.Core.List.{List, map};
+ghost use mathlib.Core.List.{List, [], map};
 ghost use Prim.Native.Nat.{ℕ, _<_, _≤_, _^_};
 ghost use lib.ListN.{length, getD, replicate};
 ghost use Rattle.model.specs.Params.{goodParams, minusLower};
@@ -35,7 +35,23 @@ ghost use Rattle.model.specs.Calls.{bind, destroy, prepare, mark, release, shar
 ghost use Rattle.model.specs.Answers.{replyOf, markReply, releaseReply};
 ghost use Rattle.native_ms.specs.Promise.{lend, Promised, SetUpPromised};
 ghost use Rattle.native_ms.specs.Space.{lengthsFit, inBlock, collected};
+ghost use Rattle.native_ms.specs.Checked.{andThen, lentTests, phaseTest, boundTests, bindTests, markTests, releaseTests, sharedTests};
 ghost use Rattle.native_ms.specs.Released.{out, total, attemptRelease, releasedBins};
+
+// The phases.
+const RUNNING: usize = 0;
+
+const MARKING: usize = 1;
+
+const RELEASING: usize = 2;
+
+// How the tests of a call end: passed, or the first refusal.
+pub(crate) enum Tested {
+    Passed,
+    Refused(Refusal),
+}
+
+// ---- tests of more than one call
 
 // Whether parameters and lengths are good.
 pub(crate) fn lent_fits(p: Params, words: usize, states: usize, marks: usize, heap: usize) -> bool
@@ -45,6 +61,56 @@ pub(crate) fn lent_fits(p: Params, words: usize, states: usize, marks: usize, he
         return false;
     }
     params::lengths_fit(p, words, states, marks, heap)
+}
+
+// What every call tests first: parameters and lengths, and that the tables are sound.
+fn check_lent(p: Params, w: &[usize], st: &[u8], marks: usize, heap: usize) -> Tested
+    ensures { λ r. ⌜ r ≡ lentTests p (now (w .entry)) (now (st .entry)) marks heap ⌝ }
+{
+    if !lent_fits(p, w.len(), st.len(), marks, heap) {
+        return Tested::Refused(Refusal::BadSetup);
+    }
+    if !sound::sound(p, w, st) {
+        return Tested::Refused(Refusal::BadTables);
+    }
+    Tested::Passed
+}
+
+// Then that the call is of this phase.
+fn check_phase(p: Params, w: &[usize], st: &[u8], marks: usize, heap: usize, phase: usize) -> Tested
+    ensures { λ r. ⌜ r ≡ andThen (lentTests p (now (w .entry)) (now (st .entry)) marks heap) (phaseTest (view (now (w .entry))) phase) ⌝ }
+{
+    match check_lent(p, w, st, marks, heap) {
+        Tested::Refused(r) => Tested::Refused(r),
+        Tested::Passed => {
+            if tables::phase(w) == phase {
+                return Tested::Passed;
+            }
+            Tested::Refused(Refusal::WrongPhase)
+        }
+    }
+}
+
+// Running, and the holder is bound.
+pub(crate) fn check_bound(
+    p: Params,
+    w: &[usize],
+    st: &[u8],
+    marks: usize,
+    heap: usize,
+    holder: usize,
+) -> Tested
+    ensures { λ r. ⌜ r ≡ andThen (lentTests p (now (w .entry)) (now (st .entry)) marks heap) (boundTests (view (now (w .entry))) holder) ⌝ }
+{
+    match check_phase(p, w, st, marks, heap, RUNNING) {
+        Tested::Refused(r) => Tested::Refused(r),
+        Tested::Passed => {
+            if !sound::is_bound(w, holder) {
+                return Tested::Refused(Refusal::BadHolder);
+            }
+            Tested::Passed
+        }
+    }
 }
 
 // ---- set-up
@@ -80,6 +146,23 @@ pub fn set_up(
 
 // ---- holders
 
+fn check_bind(p: Params, w: &[usize], st: &[u8], marks: usize, heap: usize, holder: usize) -> Tested
+    ensures { λ r. ⌜ r ≡ andThen (lentTests p (now (w .entry)) (now (st .entry)) marks heap) (bindTests (view (now (w .entry))) holder) ⌝ }
+{
+    match check_phase(p, w, st, marks, heap, RUNNING) {
+        Tested::Refused(r) => Tested::Refused(r),
+        Tested::Passed => {
+            if !sound::is_holder(holder) {
+                return Tested::Refused(Refusal::BadHolder);
+            }
+            if sound::is_bound(w, holder) {
+                return Tested::Refused(Refusal::BadHolder);
+            }
+            Tested::Passed
+        }
+    }
+}
+
 // Gives a holder its lists, which are empty.
 pub fn bind(
     p: Params,
@@ -91,23 +174,13 @@ pub fn bind(
 ) -> Answer
     ensures { λ r. ⌜ Promised p (lend (now (words .entry)) (now (states .entry)) (now (marks .entry)) (now (heap .entry))) (bind holder) (replyOf r) (lend (now (words .exit)) (now (states .entry)) (now (marks .entry)) (now (heap .entry))) ⌝ }
 {
-    if !lent_fits(p, words.len(), states.len(), marks.len(), heap.len()) {
-        return Answer::Refused(Refusal::BadSetup);
+    match check_bind(p, words, states, marks.len(), heap.len(), holder) {
+        Tested::Refused(r) => Answer::Refused(r),
+        Tested::Passed => {
+            tables::set_bound(words, holder - 1, 1);
+            Answer::Done
+        }
     }
-    if !sound::sound(p, words, states) {
-        return Answer::Refused(Refusal::BadTables);
-    }
-    if tables::phase(words) != 0 {
-        return Answer::Refused(Refusal::WrongPhase);
-    }
-    if !sound::is_holder(holder) {
-        return Answer::Refused(Refusal::BadHolder);
-    }
-    if sound::is_bound(words, holder) {
-        return Answer::Refused(Refusal::BadHolder);
-    }
-    tables::set_bound(words, holder - 1, 1);
-    Answer::Done
 }
 
 // One bin of three lists goes behind another owner's.
@@ -149,22 +222,15 @@ pub fn destroy(
 ) -> Answer
     ensures { λ r. ⌜ Promised p (lend (now (words .entry)) (now (states .entry)) (now (marks .entry)) (now (heap .entry))) (destroy holder) (replyOf r) (lend (now (words .exit)) (now (states .entry)) (now (marks .entry)) (now (heap .entry))) ⌝ }
 {
-    if !lent_fits(p, words.len(), states.len(), marks.len(), heap.len()) {
-        return Answer::Refused(Refusal::BadSetup);
+    match check_bound(p, words, states, marks.len(), heap.len(), holder) {
+        Tested::Refused(r) => Answer::Refused(r),
+        Tested::Passed => {
+            let from = address::local_sets(holder);
+            abandon_blocks(p, words, 24, from);
+            tables::set_bound(words, holder - 1, 0);
+            Answer::Done
+        }
     }
-    if !sound::sound(p, words, states) {
-        return Answer::Refused(Refusal::BadTables);
-    }
-    if tables::phase(words) != 0 {
-        return Answer::Refused(Refusal::WrongPhase);
-    }
-    if !sound::is_bound(words, holder) {
-        return Answer::Refused(Refusal::BadHolder);
-    }
-    let from = address::local_sets(holder);
-    abandon_blocks(p, words, 24, from);
-    tables::set_bound(words, holder - 1, 0);
-    Answer::Done
 }
 
 // ---- marking
@@ -200,19 +266,15 @@ pub fn prepare(
 ) -> Answer
     ensures { λ r. ⌜ Promised p (lend (now (words .entry)) (now (states .entry)) (now (marks .entry)) (now (heap .entry))) prepare (replyOf r) (lend (now (words .exit)) (now (states .exit)) (now (marks .exit)) (now (heap .entry))) ⌝ }
 {
-    if !lent_fits(p, words.len(), states.len(), marks.len(), heap.len()) {
-        return Answer::Refused(Refusal::BadSetup);
+    match check_phase(p, words, states, marks.len(), heap.len(), RUNNING) {
+        Tested::Refused(r) => Answer::Refused(r),
+        Tested::Passed => {
+            tables::set_phase(words, MARKING);
+            unmark_blocks(states);
+            marks::clear_all(marks);
+            Answer::Done
+        }
     }
-    if !sound::sound(p, words, states) {
-        return Answer::Refused(Refusal::BadTables);
-    }
-    if tables::phase(words) != 0 {
-        return Answer::Refused(Refusal::WrongPhase);
-    }
-    tables::set_phase(words, 1);
-    unmark_blocks(states);
-    marks::clear_all(marks);
-    Answer::Done
 }
 
 // Where the object of a mark place starts: place − L.
@@ -260,6 +322,28 @@ fn good_object(p: Params, st: &[u8], place: Address, b: Block) -> bool
     in_block(p, b, a)
 }
 
+fn check_mark(
+    p: Params,
+    w: &[usize],
+    st: &[u8],
+    marks: usize,
+    heap: usize,
+    place: Address,
+    b: Block,
+) -> Tested
+    ensures { λ r. ⌜ r ≡ andThen (lentTests p (now (w .entry)) (now (st .entry)) marks heap) (markTests p (tablesOf (view (now (w .entry))) (now (st .entry)) []) (place .0) (b .0)) ⌝ }
+{
+    match check_phase(p, w, st, marks, heap, MARKING) {
+        Tested::Refused(r) => Tested::Refused(r),
+        Tested::Passed => {
+            if !good_object(p, st, place, b) {
+                return Tested::Refused(Refusal::BadObject);
+            }
+            Tested::Passed
+        }
+    }
+}
+
 // Marks a place of a block, and says whether the mark is new. A repeated mark changes nothing.
 pub fn mark(
     p: Params,
@@ -272,24 +356,17 @@ pub fn mark(
 ) -> MarkAnswer
     ensures { λ r. ⌜ Promised p (lend (now (words .entry)) (now (states .entry)) (now (marks .entry)) (now (heap .entry))) (mark (place .0) (block .0)) (markReply r) (lend (now (words .entry)) (now (states .exit)) (now (marks .exit)) (now (heap .entry))) ⌝ }
 {
-    if !lent_fits(p, words.len(), states.len(), marks.len(), heap.len()) {
-        return MarkAnswer::Refused(Refusal::BadSetup);
+    match check_mark(p, words, states, marks.len(), heap.len(), place, block) {
+        Tested::Refused(r) => MarkAnswer::Refused(r),
+        Tested::Passed => {
+            if memory::is_marked(p, marks, place) {
+                return MarkAnswer::Marked { new: false };
+            }
+            states::set_state(states, block.0, 254);
+            memory::set_mark(p, marks, place);
+            MarkAnswer::Marked { new: true }
+        }
     }
-    if !sound::sound(p, words, states) {
-        return MarkAnswer::Refused(Refusal::BadTables);
-    }
-    if tables::phase(words) != 1 {
-        return MarkAnswer::Refused(Refusal::WrongPhase);
-    }
-    if !good_object(p, states, place, block) {
-        return MarkAnswer::Refused(Refusal::BadObject);
-    }
-    if memory::is_marked(p, marks, place) {
-        return MarkAnswer::Marked { new: false };
-    }
-    states::set_state(states, block.0, 254);
-    memory::set_mark(p, marks, place);
-    MarkAnswer::Marked { new: true }
 }
 
 // ---- releasing
@@ -443,7 +520,7 @@ fn end_of_gc(p: Params, w: &mut [usize])
 {
     merge(p, w);
     clear_released(w);
-    tables::set_phase(w, 0);
+    tables::set_phase(w, RUNNING);
 }
 
 // A part has released; the last one ends the collection.
@@ -451,7 +528,7 @@ fn part_released(p: Params, w: &mut [usize], part: usize)
     requires { ⌜ (goodParams p ≡ true) × (2958 ≤ length (now w)) ⌝ }
     ensures { λ _. ⌜ view (now (w .exit)) ≡ partReleased p part (view (now (w .entry))) ⌝ }
 {
-    tables::set_phase(w, 2);
+    tables::set_phase(w, RELEASING);
     tables::set_released(w, part, 1);
     let done = sound::all_released(w);
     if done {
@@ -463,10 +540,10 @@ fn may_release(w: &[usize]) -> bool
     ensures { λ r. ⌜ r ≡ mayRelease (view (now (w .entry))) ⌝ }
 {
     let f = tables::phase(w);
-    if f == 1 {
+    if f == MARKING {
         return true;
     }
-    f == 2
+    f == RELEASING
 }
 
 fn released_already(w: &[usize], holder: usize) -> bool
@@ -476,6 +553,33 @@ fn released_already(w: &[usize], holder: usize) -> bool
         return false;
     }
     sound::has_released(w, holder)
+}
+
+fn check_release(
+    p: Params,
+    w: &[usize],
+    st: &[u8],
+    marks: usize,
+    heap: usize,
+    holder: usize,
+) -> Tested
+    ensures { λ r. ⌜ r ≡ andThen (lentTests p (now (w .entry)) (now (st .entry)) marks heap) (releaseTests (view (now (w .entry))) holder) ⌝ }
+{
+    match check_lent(p, w, st, marks, heap) {
+        Tested::Refused(r) => Tested::Refused(r),
+        Tested::Passed => {
+            if !may_release(w) {
+                return Tested::Refused(Refusal::WrongPhase);
+            }
+            if released_already(w, holder) {
+                return Tested::Refused(Refusal::WrongPhase);
+            }
+            if !sound::is_bound(w, holder) {
+                return Tested::Refused(Refusal::BadHolder);
+            }
+            Tested::Passed
+        }
+    }
 }
 
 // A holder's release.
@@ -489,24 +593,31 @@ pub fn release(
 ) -> ReleaseAnswer
     ensures { λ r. ⌜ Promised p (lend (now (words .entry)) (now (states .entry)) (now (marks .entry)) (now (heap .entry))) (release holder) (releaseReply r) (lend (now (words .exit)) (now (states .exit)) (now (marks .entry)) (now (heap .entry))) ⌝ }
 {
-    if !lent_fits(p, words.len(), states.len(), marks.len(), heap.len()) {
-        return ReleaseAnswer::Refused(Refusal::BadSetup);
+    match check_release(p, words, states, marks.len(), heap.len(), holder) {
+        Tested::Refused(r) => ReleaseAnswer::Refused(r),
+        Tested::Passed => {
+            let count = release_holder(p, words, states, holder);
+            part_released(p, words, holder);
+            ReleaseAnswer::Released { blocks: count }
+        }
     }
-    if !sound::sound(p, words, states) {
-        return ReleaseAnswer::Refused(Refusal::BadTables);
+}
+
+fn check_shared_release(p: Params, w: &[usize], st: &[u8], marks: usize, heap: usize) -> Tested
+    ensures { λ r. ⌜ r ≡ andThen (lentTests p (now (w .entry)) (now (st .entry)) marks heap) (sharedTests (view (now (w .entry)))) ⌝ }
+{
+    match check_lent(p, w, st, marks, heap) {
+        Tested::Refused(r) => Tested::Refused(r),
+        Tested::Passed => {
+            if !may_release(w) {
+                return Tested::Refused(Refusal::WrongPhase);
+            }
+            if sound::has_released(w, 0) {
+                return Tested::Refused(Refusal::WrongPhase);
+            }
+            Tested::Passed
+        }
     }
-    if !may_release(words) {
-        return ReleaseAnswer::Refused(Refusal::WrongPhase);
-    }
-    if released_already(words, holder) {
-        return ReleaseAnswer::Refused(Refusal::WrongPhase);
-    }
-    if !sound::is_bound(words, holder) {
-        return ReleaseAnswer::Refused(Refusal::BadHolder);
-    }
-    let count = release_holder(p, words, states, holder);
-    part_released(p, words, holder);
-    ReleaseAnswer::Released { blocks: count }
 }
 
 // The shared part's release.
@@ -519,19 +630,12 @@ pub fn shared_release(
 ) -> ReleaseAnswer
     ensures { λ r. ⌜ Promised p (lend (now (words .entry)) (now (states .entry)) (now (marks .entry)) (now (heap .entry))) sharedRelease (releaseReply r) (lend (now (words .exit)) (now (states .exit)) (now (marks .entry)) (now (heap .entry))) ⌝ }
 {
-    if !lent_fits(p, words.len(), states.len(), marks.len(), heap.len()) {
-        return ReleaseAnswer::Refused(Refusal::BadSetup);
+    match check_shared_release(p, words, states, marks.len(), heap.len()) {
+        Tested::Refused(r) => ReleaseAnswer::Refused(r),
+        Tested::Passed => {
+            let n = sweep_later(p, words, states);
+            part_released(p, words, 0);
+            ReleaseAnswer::Released { blocks: n }
+        }
     }
-    if !sound::sound(p, words, states) {
-        return ReleaseAnswer::Refused(Refusal::BadTables);
-    }
-    if !may_release(words) {
-        return ReleaseAnswer::Refused(Refusal::WrongPhase);
-    }
-    if sound::has_released(words, 0) {
-        return ReleaseAnswer::Refused(Refusal::WrongPhase);
-    }
-    let n = sweep_later(p, words, states);
-    part_released(p, words, 0);
-    ReleaseAnswer::Released { blocks: n }
 }

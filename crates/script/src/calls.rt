@@ -75,7 +75,7 @@ fn pages(p: Params, w: &[usize], set: usize) -> Reply {
     if w.len() < to {
         return Reply::Bad;
     }
-    match block_list::pages_used(p, w, &w[from..to]) {
+    match block_list::pages_of_firsts(p, w, &w[from..to]) {
         PagesAnswer::Refused(r) => Reply::Refused(r),
         PagesAnswer::Pages(n) => Reply::One(n),
     }

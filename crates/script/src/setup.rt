@@ -163,7 +163,7 @@ pub(crate) fn lent(
 // Past the capacity: pages used, over words of the right length, says whether the parameters are good.
 pub(crate) fn beyond(p: Params, w: &[usize]) -> Reply {
     let none = [0usize; 49];
-    match block_list::pages_used(p, w, &none) {
+    match block_list::pages_of_firsts(p, w, &none) {
         PagesAnswer::Pages(_) => Reply::Bad,
         PagesAnswer::Refused(r) => match r {
             Refusal::BadSetup => Reply::Refused(r),

@@ -31,7 +31,8 @@ pub record LineRan (l : Lent) (line : Line) (n : ℕ) (l′ : Lent) : Type 0 whe
   pub number : n ≡ lineResult l line .reply .number
   pub lent : l′ ≡ lineResult l line .lent
 
--- the lines of a trace: n of them were refused, which stand at the front of the two lists
+-- the lines of a trace: n of them were refused, which stand at the front of the two lists. What stands behind them is left free:
+-- nobody reads it
 pub record TraceRan (ran : Ran) (n : ℕ) (l′ : Lent) (lines numbers : List ℕ) : Type 0 where
   pub few : n ≤ 256
   pub refusals : refusedFrom (take n lines) (take n numbers) ≡ ran .refusals

@@ -2,6 +2,8 @@
 -- The cell is low enough to be shifted, since free heads stay low in a search.
 use Rattle.model.specs.Answers.{allocReply}
 use Rattle.native_ms.proofs.Ending.{serve-none, serve-bad, serve-cell, cell-low}
+use Rattle.model.specs.FreeListAllocator.{findBlock}
+use Rattle.model.specs.Tables.{tablesOf, view}
 use borrow.Author.Needs.{needs}
 use Rattle.native_ms.proofs.free_list_allocator.serve.Statement.{statement}
 use Rattle.native_ms.proofs.free_list_allocator.serve.Tie as tie
@@ -19,10 +21,10 @@ same-length-2 c = search needs
 same-length-3 : tie.Need-same-length-3
 same-length-3 c = search needs
 
---@ returns c = serve-none _ _ _ _ _ (@find-block .ensures) (@if1 .taken)
+--@ returns c = serve-none (@args .p) (@args .align) (@args .offset) (@args .h .now) (findBlock (@args .p) (@args .holder) (@args .bin) (@args .offer) (tablesOf (view (@args .w .now)) (@args .st .now) (@args .m .now))) (@find-block .ensures) (@if1 .taken)
 returns : tie.Need-returns
 unfolding allocReply
-returns c = serve-none _ _ _ _ _ (c .before .before .before .before .before .before .before .before .find-block .ensures) (c .if1 .taken)
+returns c = serve-none (c .before .before .before .before .before .before .before .before .before .before .before .before .before .before .before .before .args .p) (c .before .before .before .before .before .before .before .before .before .before .before .before .before .before .before .before .args .align) (c .before .before .before .before .before .before .before .before .before .before .before .before .before .before .before .before .args .offset) (c .before .before .before .before .before .before .before .before .before .before .before .before .before .before .before .before .args .h .now) (findBlock (c .before .before .before .before .before .before .before .before .before .before .before .before .before .before .before .before .args .p) (c .before .before .before .before .before .before .before .before .before .before .before .before .before .before .before .before .args .holder) (c .before .before .before .before .before .before .before .before .before .before .before .before .before .before .before .before .args .bin) (c .before .before .before .before .before .before .before .before .before .before .before .before .before .before .before .before .args .offer) (tablesOf (view (c .before .before .before .before .before .before .before .before .before .before .before .before .before .before .before .before .args .w .now)) (c .before .before .before .before .before .before .before .before .before .before .before .before .before .before .before .before .args .st .now) (c .before .before .before .before .before .before .before .before .before .before .before .before .before .before .before .before .args .m .now))) (c .before .before .before .before .before .before .before .before .find-block .ensures) (c .if1 .taken)
 
 --@ block-at-requires c κs = @pre .good
 block-at-requires : tie.Need-block-at-requires
@@ -38,9 +40,9 @@ enum-told c = search needs
 enum-known-cell : tie.Need-enum-known-cell
 enum-known-cell c = search needs
 
---@ align-allocation-requires c κs = (@pre .align-from, @pre .align-to, cell-low _ _ _ _ _ _ _ _ (@pre .good) (@pre .heads) (@find-block .ensures) (@block-alloc .ensures) (@cell .given .1), @pre .offset-low)
+--@ align-allocation-requires c κs = (@pre .align-from, @pre .align-to, cell-low (@args .p) (@args .holder) (@args .bin) (@args .offer) (view (@args .w .now)) (@args .st .now) (@args .h .now) _ (@pre .good) (@pre .heads) (@find-block .ensures) (@block-alloc .ensures) (@cell .given .1), @pre .offset-low)
 align-allocation-requires : tie.Need-align-allocation-requires
-align-allocation-requires c κs = (c .before .before .before .before .before .before .before .before .before .before .before .before .before .before .before .before .before .before .before .before .before .before .before .before .before .before .before .pre .align-from, c .before .before .before .before .before .before .before .before .before .before .before .before .before .before .before .before .before .before .before .before .before .before .before .before .before .before .before .pre .align-to, cell-low _ _ _ _ _ _ _ _ (c .before .before .before .before .before .before .before .before .before .before .before .before .before .before .before .before .before .before .before .before .before .before .before .before .before .before .before .pre .good) (c .before .before .before .before .before .before .before .before .before .before .before .before .before .before .before .before .before .before .before .before .before .before .before .before .before .before .before .pre .heads) (c .before .before .before .before .before .before .before .before .before .before .before .before .before .before .before .before .before .before .before .find-block .ensures) (c .before .before .before .before .before .before .before .block-alloc .ensures) (c .before .cell .given .1), c .before .before .before .before .before .before .before .before .before .before .before .before .before .before .before .before .before .before .before .before .before .before .before .before .before .before .before .pre .offset-low)
+align-allocation-requires c κs = (c .before .before .before .before .before .before .before .before .before .before .before .before .before .before .before .before .before .before .before .before .before .before .before .before .before .before .before .pre .align-from, c .before .before .before .before .before .before .before .before .before .before .before .before .before .before .before .before .before .before .before .before .before .before .before .before .before .before .before .pre .align-to, cell-low (c .before .before .before .before .before .before .before .before .before .before .before .before .before .before .before .before .before .before .before .before .before .before .before .before .before .before .before .args .p) (c .before .before .before .before .before .before .before .before .before .before .before .before .before .before .before .before .before .before .before .before .before .before .before .before .before .before .before .args .holder) (c .before .before .before .before .before .before .before .before .before .before .before .before .before .before .before .before .before .before .before .before .before .before .before .before .before .before .before .args .bin) (c .before .before .before .before .before .before .before .before .before .before .before .before .before .before .before .before .before .before .before .before .before .before .before .before .before .before .before .args .offer) (view (c .before .before .before .before .before .before .before .before .before .before .before .before .before .before .before .before .before .before .before .before .before .before .before .before .before .before .before .args .w .now)) (c .before .before .before .before .before .before .before .before .before .before .before .before .before .before .before .before .before .before .before .before .before .before .before .before .before .before .before .args .st .now) (c .before .before .before .before .before .before .before .before .before .before .before .before .before .before .before .before .before .before .before .before .before .before .before .before .before .before .before .args .h .now) _ (c .before .before .before .before .before .before .before .before .before .before .before .before .before .before .before .before .before .before .before .before .before .before .before .before .before .before .before .pre .good) (c .before .before .before .before .before .before .before .before .before .before .before .before .before .before .before .before .before .before .before .before .before .before .before .before .before .before .before .pre .heads) (c .before .before .before .before .before .before .before .before .before .before .before .before .before .before .before .before .before .before .before .find-block .ensures) (c .before .before .before .before .before .before .before .block-alloc .ensures) (c .before .cell .given .1), c .before .before .before .before .before .before .before .before .before .before .before .before .before .before .before .before .before .before .before .before .before .before .before .before .before .before .before .pre .offset-low)
 
 same-length-4 : tie.Need-same-length-4
 same-length-4 c = search needs
@@ -51,10 +53,10 @@ same-length-5 c = search needs
 same-length-6 : tie.Need-same-length-6
 same-length-6 c = search needs
 
---@ returns-2 c = serve-bad _ _ _ _ _ (@find-block .ensures) (@if1 .left) (@block-at .ensures) (@block-alloc .ensures) (@enum-told .given .1)
+--@ returns-2 c = serve-bad (@args .p) (@args .align) (@args .offset) (@args .h .now) (findBlock (@args .p) (@args .holder) (@args .bin) (@args .offer) (tablesOf (view (@args .w .now)) (@args .st .now) (@args .m .now))) (@find-block .ensures) (@if1 .left) (@block-at .ensures) (@block-alloc .ensures) (@enum-told .given .1)
 returns-2 : tie.Need-returns-2
 unfolding allocReply
-returns-2 c = serve-bad _ _ _ _ _ (c .before .before .before .before .before .before .before .before .before .before .before .before .before .before .before .before .before .before .find-block .ensures) (c .before .before .before .before .before .before .before .before .before .before .if1 .left) (c .before .before .before .before .before .before .before .before .before .block-at .ensures) (c .before .before .before .before .before .before .block-alloc .ensures) (c .enum-told .given .1)
+returns-2 c = serve-bad (c .before .before .before .before .before .before .before .before .before .before .before .before .before .before .before .before .before .before .before .before .before .before .before .before .before .before .args .p) (c .before .before .before .before .before .before .before .before .before .before .before .before .before .before .before .before .before .before .before .before .before .before .before .before .before .before .args .align) (c .before .before .before .before .before .before .before .before .before .before .before .before .before .before .before .before .before .before .before .before .before .before .before .before .before .before .args .offset) (c .before .before .before .before .before .before .before .before .before .before .before .before .before .before .before .before .before .before .before .before .before .before .before .before .before .before .args .h .now) (findBlock (c .before .before .before .before .before .before .before .before .before .before .before .before .before .before .before .before .before .before .before .before .before .before .before .before .before .before .args .p) (c .before .before .before .before .before .before .before .before .before .before .before .before .before .before .before .before .before .before .before .before .before .before .before .before .before .before .args .holder) (c .before .before .before .before .before .before .before .before .before .before .before .before .before .before .before .before .before .before .before .before .before .before .before .before .before .before .args .bin) (c .before .before .before .before .before .before .before .before .before .before .before .before .before .before .before .before .before .before .before .before .before .before .before .before .before .before .args .offer) (tablesOf (view (c .before .before .before .before .before .before .before .before .before .before .before .before .before .before .before .before .before .before .before .before .before .before .before .before .before .before .args .w .now)) (c .before .before .before .before .before .before .before .before .before .before .before .before .before .before .before .before .before .before .before .before .before .before .before .before .before .before .args .st .now) (c .before .before .before .before .before .before .before .before .before .before .before .before .before .before .before .before .before .before .before .before .before .before .before .before .before .before .args .m .now))) (c .before .before .before .before .before .before .before .before .before .before .before .before .before .before .before .before .before .before .find-block .ensures) (c .before .before .before .before .before .before .before .before .before .before .if1 .left) (c .before .before .before .before .before .before .before .before .before .block-at .ensures) (c .before .before .before .before .before .before .block-alloc .ensures) (c .enum-told .given .1)
 
 same-length-7 : tie.Need-same-length-7
 same-length-7 c = search needs
@@ -65,10 +67,10 @@ same-length-8 c = search needs
 same-length-9 : tie.Need-same-length-9
 same-length-9 c = search needs
 
---@ returns-3 c = serve-cell _ _ _ _ _ (@find-block .ensures) (@if1 .left) (@block-at .ensures) (@block-alloc .ensures) (@cell .given .1) (@align-allocation .ensures)
+--@ returns-3 c = serve-cell (@args .p) (@args .align) (@args .offset) (@args .h .now) (findBlock (@args .p) (@args .holder) (@args .bin) (@args .offer) (tablesOf (view (@args .w .now)) (@args .st .now) (@args .m .now))) (@find-block .ensures) (@if1 .left) (@block-at .ensures) (@block-alloc .ensures) (@cell .given .1) (@align-allocation .ensures)
 returns-3 : tie.Need-returns-3
 unfolding allocReply
-returns-3 c = serve-cell _ _ _ _ _ (c .before .before .before .before .before .before .before .before .before .before .before .before .before .before .before .before .before .before .before .before .find-block .ensures) (c .before .before .before .before .before .before .before .before .before .before .before .before .if1 .left) (c .before .before .before .before .before .before .before .before .before .before .before .block-at .ensures) (c .before .before .before .before .before .before .before .before .block-alloc .ensures) (c .before .before .cell .given .1) (c .align-allocation .ensures)
+returns-3 c = serve-cell (c .before .before .before .before .before .before .before .before .before .before .before .before .before .before .before .before .before .before .before .before .before .before .before .before .before .before .before .before .args .p) (c .before .before .before .before .before .before .before .before .before .before .before .before .before .before .before .before .before .before .before .before .before .before .before .before .before .before .before .before .args .align) (c .before .before .before .before .before .before .before .before .before .before .before .before .before .before .before .before .before .before .before .before .before .before .before .before .before .before .before .before .args .offset) (c .before .before .before .before .before .before .before .before .before .before .before .before .before .before .before .before .before .before .before .before .before .before .before .before .before .before .before .before .args .h .now) (findBlock (c .before .before .before .before .before .before .before .before .before .before .before .before .before .before .before .before .before .before .before .before .before .before .before .before .before .before .before .before .args .p) (c .before .before .before .before .before .before .before .before .before .before .before .before .before .before .before .before .before .before .before .before .before .before .before .before .before .before .before .before .args .holder) (c .before .before .before .before .before .before .before .before .before .before .before .before .before .before .before .before .before .before .before .before .before .before .before .before .before .before .before .before .args .bin) (c .before .before .before .before .before .before .before .before .before .before .before .before .before .before .before .before .before .before .before .before .before .before .before .before .before .before .before .before .args .offer) (tablesOf (view (c .before .before .before .before .before .before .before .before .before .before .before .before .before .before .before .before .before .before .before .before .before .before .before .before .before .before .before .before .args .w .now)) (c .before .before .before .before .before .before .before .before .before .before .before .before .before .before .before .before .before .before .before .before .before .before .before .before .before .before .before .before .args .st .now) (c .before .before .before .before .before .before .before .before .before .before .before .before .before .before .before .before .before .before .before .before .before .before .before .before .before .before .before .before .args .m .now))) (c .before .before .before .before .before .before .before .before .before .before .before .before .before .before .before .before .before .before .before .before .find-block .ensures) (c .before .before .before .before .before .before .before .before .before .before .before .before .if1 .left) (c .before .before .before .before .before .before .before .before .before .before .before .block-at .ensures) (c .before .before .before .before .before .before .before .before .block-alloc .ensures) (c .before .before .cell .given .1) (c .align-allocation .ensures)
 
 pub serve-spec : {M : Type 1} → statement M
 serve-spec =

@@ -1,6 +1,5 @@
 -- `global::abandon_bin` appends three lists as `abandonBin` does. Assumes nothing.
-use native.Mathlib.Omega.{arith}
-use Rattle.native_ms.proofs.SpaceCalls.{list-low, abandon-bin}
+use Rattle.native_ms.proofs.SpaceCalls.{list-low, owner-first, owner-second, owner-third, abandon-bin}
 use borrow.Author.Needs.{needs}
 use Rattle.native_ms.proofs.global.abandon_bin.Statement.{statement}
 use Rattle.native_ms.proofs.global.abandon_bin.Tie as tie
@@ -35,17 +34,17 @@ add-list-of-4 c = search needs
 list-of-requires-6 : tie.Need-list-of-requires-6
 list-of-requires-6 c κs = search needs
 
---@ append-requires c κs = (@pre .0, list-low (@args .to) _ (omega (arith, @pre .1)) (@pre .3) (@list-of .ensures))
+--@ append-requires c κs = (@pre .0, list-low (@args .to) _ (owner-first (@pre .1)) (@pre .3) (@list-of .ensures))
 append-requires : tie.Need-append-requires
-append-requires c κs = (c .before .before .before .before .before .before .before .before .pre .0, list-low (c .before .before .before .before .before .before .before .before .args .to) _ (omega (arith, c .before .before .before .before .before .before .before .before .pre .1)) (c .before .before .before .before .before .before .before .before .pre .3) (c .before .before .before .before .before .before .list-of .ensures))
+append-requires c κs = (c .before .before .before .before .before .before .before .before .pre .0, list-low (c .before .before .before .before .before .before .before .before .args .to) _ (owner-first (c .before .before .before .before .before .before .before .before .pre .1)) (c .before .before .before .before .before .before .before .before .pre .3) (c .before .before .before .before .before .before .list-of .ensures))
 
---@ append-requires-2 c κs = (@pre .0, list-low _ _ (omega (arith, @pre .1)) (@pre .3) (@list-of3 .ensures))
+--@ append-requires-2 c κs = (@pre .0, list-low _ _ (owner-third (@pre .1)) (@pre .3) (@list-of3 .ensures))
 append-requires-2 : tie.Need-append-requires-2
-append-requires-2 c κs = (c .before .before .before .before .before .before .before .before .before .before .before .before .pre .0, list-low _ _ (omega (arith, c .before .before .before .before .before .before .before .before .before .before .before .before .pre .1)) (c .before .before .before .before .before .before .before .before .before .before .before .before .pre .3) (c .before .before .before .before .before .before .before .before .list-of3 .ensures))
+append-requires-2 c κs = (c .before .before .before .before .before .before .before .before .before .before .before .before .pre .0, list-low _ _ (owner-third (c .before .before .before .before .before .before .before .before .before .before .before .before .pre .1)) (c .before .before .before .before .before .before .before .before .before .before .before .before .pre .3) (c .before .before .before .before .before .before .before .before .list-of3 .ensures))
 
---@ append-requires-3 c κs = (@pre .0, list-low _ _ (omega (arith, @pre .1)) (@pre .3) (@list-of2 .ensures))
+--@ append-requires-3 c κs = (@pre .0, list-low _ _ (owner-second (@pre .1)) (@pre .3) (@list-of2 .ensures))
 append-requires-3 : tie.Need-append-requires-3
-append-requires-3 c κs = (c .before .before .before .before .before .before .before .before .before .before .before .before .before .before .before .before .pre .0, list-low _ _ (omega (arith, c .before .before .before .before .before .before .before .before .before .before .before .before .before .before .before .before .pre .1)) (c .before .before .before .before .before .before .before .before .before .before .before .before .before .before .before .before .pre .3) (c .before .before .before .before .before .before .before .before .before .before .before .before .before .list-of2 .ensures))
+append-requires-3 c κs = (c .before .before .before .before .before .before .before .before .before .before .before .before .before .before .before .before .pre .0, list-low _ _ (owner-second (c .before .before .before .before .before .before .before .before .before .before .before .before .before .before .before .before .pre .1)) (c .before .before .before .before .before .before .before .before .before .before .before .before .before .before .before .before .pre .3) (c .before .before .before .before .before .before .before .before .before .before .before .before .before .list-of2 .ensures))
 
 same-length : tie.Need-same-length
 same-length c = search needs

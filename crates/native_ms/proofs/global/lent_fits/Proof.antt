@@ -1,7 +1,7 @@
 -- `global::lent_fits` is `fits`, of lengths. Assumes nothing.
 use mathlib.Core.Path.{sym, _∙_}
 use borrow.Author.Tests.{not-true, not-false}
-use Rattle.native_ms.proofs.SpaceCalls.{fits-bad, fits-good}
+use Rattle.native_ms.proofs.Tests.{fits-bad, fits-good}
 use Rattle.native_ms.proofs.global.lent_fits.Statement.{statement}
 use Rattle.native_ms.proofs.global.lent_fits.Tie as tie
 

@@ -1,5 +1,5 @@
 -- `global::merge_bin` appends three lists as `mergeBin` does. Assumes nothing.
-use native.Mathlib.Omega.{arith}
+use lib.Dec.{lit<}
 use Rattle.native_ms.proofs.SpaceCalls.{list-low, merge-bin}
 use borrow.Author.Needs.{needs}
 use Rattle.native_ms.proofs.global.merge_bin.Statement.{statement}
@@ -23,17 +23,17 @@ list-of-requires-5 c κs = search needs
 list-of-requires-6 : tie.Need-list-of-requires-6
 list-of-requires-6 c κs = search needs
 
---@ append-requires c κs = (@pre .0, list-low 24 _ (omega arith) (@pre .1) (@list-of .ensures))
+--@ append-requires c κs = (@pre .0, list-low 24 _ (lit< tt) (@pre .1) (@list-of .ensures))
 append-requires : tie.Need-append-requires
-append-requires c κs = (c .before .before .before .before .before .before .before .before .pre .0, list-low 24 _ (omega arith) (c .before .before .before .before .before .before .before .before .pre .1) (c .before .before .before .before .before .before .list-of .ensures))
+append-requires c κs = (c .before .before .before .before .before .before .before .before .pre .0, list-low 24 _ (lit< tt) (c .before .before .before .before .before .before .before .before .pre .1) (c .before .before .before .before .before .before .list-of .ensures))
 
---@ append-requires-2 c κs = (@pre .0, list-low 25 _ (omega arith) (@pre .1) (@list-of2 .ensures))
+--@ append-requires-2 c κs = (@pre .0, list-low 25 _ (lit< tt) (@pre .1) (@list-of2 .ensures))
 append-requires-2 : tie.Need-append-requires-2
-append-requires-2 c κs = (c .before .before .before .before .before .before .before .before .before .before .before .before .pre .0, list-low 25 _ (omega arith) (c .before .before .before .before .before .before .before .before .before .before .before .before .pre .1) (c .before .before .before .before .before .before .before .before .before .list-of2 .ensures))
+append-requires-2 c κs = (c .before .before .before .before .before .before .before .before .before .before .before .before .pre .0, list-low 25 _ (lit< tt) (c .before .before .before .before .before .before .before .before .before .before .before .before .pre .1) (c .before .before .before .before .before .before .before .before .before .list-of2 .ensures))
 
---@ append-requires-3 c κs = (@pre .0, list-low 26 _ (omega arith) (@pre .1) (@list-of3 .ensures))
+--@ append-requires-3 c κs = (@pre .0, list-low 26 _ (lit< tt) (@pre .1) (@list-of3 .ensures))
 append-requires-3 : tie.Need-append-requires-3
-append-requires-3 c κs = (c .before .before .before .before .before .before .before .before .before .before .before .before .before .before .before .before .pre .0, list-low 26 _ (omega arith) (c .before .before .before .before .before .before .before .before .before .before .before .before .before .before .before .before .pre .1) (c .before .before .before .before .before .before .before .before .before .before .before .before .list-of3 .ensures))
+append-requires-3 c κs = (c .before .before .before .before .before .before .before .before .before .before .before .before .before .before .before .before .pre .0, list-low 26 _ (lit< tt) (c .before .before .before .before .before .before .before .before .before .before .before .before .before .before .before .before .pre .1) (c .before .before .before .before .before .before .before .before .before .before .before .before .list-of3 .ensures))
 
 same-length : tie.Need-same-length
 same-length c = search needs

@@ -1,25 +1,29 @@
--- `global::release` promises `call`, one law for each way out. Assumes nothing.
+-- `global::release` promises `call`, refused or not. Assumes nothing.
 use mathlib.Core.Path.{_∙_}
-use borrow.Author.Tests.{not-true, not-false}
-use Rattle.model.specs.declared.Refusal.the-variants.{WrongPhase, BadHolder}
 use Rattle.model.specs.Answers.{releaseReply}
-use Rattle.native_ms.proofs.SpaceCalls.{fit-good, bad-setup, bad-tables, opened, says-no, bound-low, bound-high, release-phase, release-again, release-none, release-yes, release-done, fit-long}
+use Rattle.native_ms.proofs.Tests.{through, good-through, opened, open-long, passed-by, refused-by}
+use Rattle.native_ms.proofs.SpaceCalls.{bound-low, bound-high, release-plan, release-bound, release-done}
 use Rattle.native_ms.proofs.Releases.{quiet-holder}
 use borrow.Author.Needs.{needs}
 use Rattle.native_ms.proofs.global.release.Statement.{statement}
 use Rattle.native_ms.proofs.global.release.Tie as tie
 
-lent-fits-requires : tie.Need-lent-fits-requires
-lent-fits-requires c κs = tt
+check-release-requires : tie.Need-check-release-requires
+check-release-requires c κs = tt
 
---@ returns c = bad-setup _ _ _ _ _ (@lent-fits .ensures) _ (not-true _ (@if1 .taken))
-returns : tie.Need-returns
-unfolding releaseReply
-returns c = bad-setup _ _ _ _ _ (c .before .lent-fits .ensures) _ (not-true _ (c .if1 .taken))
+enum-known-r : tie.Need-enum-known-r
+enum-known-r c = search needs
 
---@ sound-requires c κs = fit-good _ _ _ _ _ (@lent-fits .ensures) (not-false _ (@if1 .left))
-sound-requires : tie.Need-sound-requires
-sound-requires c κs = fit-good _ _ _ _ _ (c .before .before .before .lent-fits .ensures) (not-false _ (c .before .before .if1 .left))
+enum-told : tie.Need-enum-told
+enum-told c = search needs
+
+--@ release-holder-requires c κs = let t = through (@args .p) _ _ _ _ _ (@check-release .ensures) (@enum-told .given .1) in let b = release-bound _ _ (t .next) in (good-through t, bound-low _ _ b, bound-high _ _ b)
+release-holder-requires : tie.Need-release-holder-requires
+release-holder-requires c κs = let t = through (c .before .before .before .before .before .before .before .before .before .before .before .args .p) _ _ _ _ _ (c .before .before .before .before .check-release .ensures) (c .before .before .enum-told .given .1) in let b = release-bound _ _ (t .next) in (good-through t, bound-low _ _ b, bound-high _ _ b)
+
+--@ part-released-requires c κs = let o = opened (@args .p) _ _ (@args .marks .now) (@args .heap .now) _ (@check-release .ensures) (@enum-told .given .1) in (o .good, open-long o (@release-holder .kept .1 .0))
+part-released-requires : tie.Need-part-released-requires
+part-released-requires c κs = let o = opened (c .before .before .before .before .before .before .before .before .before .before .before .before .before .before .before .before .before .args .p) _ _ (c .before .before .before .before .before .before .before .before .before .before .before .before .before .before .before .before .before .args .marks .now) (c .before .before .before .before .before .before .before .before .before .before .before .before .before .before .before .before .before .args .heap .now) _ (c .before .before .before .before .before .before .before .before .before .before .check-release .ensures) (c .before .before .before .before .before .before .before .before .enum-told .given .1) in (o .good, open-long o (c .before .before .before .before .before .release-holder .kept .1 .0))
 
 same-length : tie.Need-same-length
 same-length c = search needs
@@ -27,13 +31,10 @@ same-length c = search needs
 same-length-2 : tie.Need-same-length-2
 same-length-2 c = search needs
 
---@ returns-2 c = bad-tables _ _ _ _ _ (@lent-fits .ensures) (not-false _ (@if1 .left)) (@sound .ensures) _ (not-true _ (@if2 .taken))
-returns-2 : tie.Need-returns-2
+--@ returns c = refused-by (@args .p) _ _ _ _ _ _ _ (release-plan (@args .p) _ _) (@check-release .ensures) (@r .given .1)
+returns : tie.Need-returns
 unfolding releaseReply
-returns-2 c = bad-tables _ _ _ _ _ (c .before .before .before .before .before .lent-fits .ensures) (not-false _ (c .before .before .before .before .if1 .left)) (c .before .sound .ensures) _ (not-true _ (c .if2 .taken))
-
-may-release-requires : tie.Need-may-release-requires
-may-release-requires c κs = tt
+returns c = refused-by (c .before .before .before .before .before .before .before .before .before .before .args .p) _ _ _ _ _ _ _ (release-plan (c .before .before .before .before .before .before .before .before .before .before .args .p) _ _) (c .before .before .before .check-release .ensures) (c .before .r .given .1)
 
 same-length-3 : tie.Need-same-length-3
 same-length-3 c = search needs
@@ -41,82 +42,23 @@ same-length-3 c = search needs
 same-length-4 : tie.Need-same-length-4
 same-length-4 c = search needs
 
---@ returns-3 c = says-no (opened _ _ _ _ _ (@lent-fits .ensures) (not-false _ (@if1 .left)) (@sound .ensures) (not-false _ (@if2 .left))) _ WrongPhase (release-phase _ _ _ (@may-release .ensures) (not-true _ (@if3 .taken)))
-returns-3 : tie.Need-returns-3
+--@ returns-2 c = release-done _ _ _ (passed-by (@args .p) _ _ _ _ _ _ _ (release-plan (@args .p) _ _) (@check-release .ensures) (@enum-told .given .1)) (quiet-holder (@args .p) _ _ _) (@release-holder .ensures) (@part-released .kept .1 .0 ∙ @release-holder .kept .1 .0) (@part-released .ensures)
+returns-2 : tie.Need-returns-2
 unfolding releaseReply
-returns-3 c = says-no (opened _ _ _ _ _ (c .before .before .before .before .before .before .before .before .lent-fits .ensures) (not-false _ (c .before .before .before .before .before .before .before .if1 .left)) (c .before .before .before .before .sound .ensures) (not-false _ (c .before .before .before .if2 .left))) _ WrongPhase (release-phase _ _ _ (c .before .may-release .ensures) (not-true _ (c .if3 .taken)))
-
-released-already-requires : tie.Need-released-already-requires
-released-already-requires c κs = tt
-
-same-length-5 : tie.Need-same-length-5
-same-length-5 c = search needs
-
-same-length-6 : tie.Need-same-length-6
-same-length-6 c = search needs
-
---@ returns-4 c = says-no (opened _ _ _ _ _ (@lent-fits .ensures) (not-false _ (@if1 .left)) (@sound .ensures) (not-false _ (@if2 .left))) _ WrongPhase (release-again _ _ _ (@may-release .ensures) (not-false _ (@if3 .left)) (@released-already .ensures) (@if4 .taken))
-returns-4 : tie.Need-returns-4
-unfolding releaseReply
-returns-4 c = says-no (opened _ _ _ _ _ (c .before .before .before .before .before .before .before .before .before .before .before .lent-fits .ensures) (not-false _ (c .before .before .before .before .before .before .before .before .before .before .if1 .left)) (c .before .before .before .before .before .before .before .sound .ensures) (not-false _ (c .before .before .before .before .before .before .if2 .left))) _ WrongPhase (release-again _ _ _ (c .before .before .before .before .may-release .ensures) (not-false _ (c .before .before .before .if3 .left)) (c .before .released-already .ensures) (c .if4 .taken))
-
-is-bound-requires : tie.Need-is-bound-requires
-is-bound-requires c κs = tt
-
-same-length-7 : tie.Need-same-length-7
-same-length-7 c = search needs
-
-same-length-8 : tie.Need-same-length-8
-same-length-8 c = search needs
-
---@ returns-5 c = says-no (opened _ _ _ _ _ (@lent-fits .ensures) (not-false _ (@if1 .left)) (@sound .ensures) (not-false _ (@if2 .left))) _ BadHolder (release-none _ _ _ (@may-release .ensures) (not-false _ (@if3 .left)) (@released-already .ensures) (@if4 .left) (@is-bound .ensures) (not-true _ (@if5 .taken)))
-returns-5 : tie.Need-returns-5
-unfolding releaseReply
-returns-5 c = says-no (opened _ _ _ _ _ (c .before .before .before .before .before .before .before .before .before .before .before .before .before .before .lent-fits .ensures) (not-false _ (c .before .before .before .before .before .before .before .before .before .before .before .before .before .if1 .left)) (c .before .before .before .before .before .before .before .before .before .before .sound .ensures) (not-false _ (c .before .before .before .before .before .before .before .before .before .if2 .left))) _ BadHolder (release-none _ _ _ (c .before .before .before .before .before .before .before .may-release .ensures) (not-false _ (c .before .before .before .before .before .before .if3 .left)) (c .before .before .before .before .released-already .ensures) (c .before .before .before .if4 .left) (c .before .is-bound .ensures) (not-true _ (c .if5 .taken)))
-
---@ release-holder-requires c κs = (fit-good _ _ _ _ _ (@lent-fits .ensures) (not-false _ (@if1 .left)), bound-low _ _ (@is-bound .ensures) (not-false _ (@if5 .left)), bound-high _ _ (@is-bound .ensures) (not-false _ (@if5 .left)))
-release-holder-requires : tie.Need-release-holder-requires
-release-holder-requires c κs = (fit-good _ _ _ _ _ (c .before .before .before .before .before .before .before .before .before .before .before .before .before .before .before .before .lent-fits .ensures) (not-false _ (c .before .before .before .before .before .before .before .before .before .before .before .before .before .before .before .if1 .left)), bound-low _ _ (c .before .before .before .is-bound .ensures) (not-false _ (c .before .before .if5 .left)), bound-high _ _ (c .before .before .before .is-bound .ensures) (not-false _ (c .before .before .if5 .left)))
-
---@ part-released-requires c κs = (fit-good _ _ _ _ _ (@lent-fits .ensures) (not-false _ (@if1 .left)), fit-long _ _ _ _ _ (@lent-fits .ensures) (not-false _ (@if1 .left)) (@release-holder .kept .1 .0))
-part-released-requires : tie.Need-part-released-requires
-part-released-requires c κs = (fit-good _ _ _ _ _ (c .before .before .before .before .before .before .before .before .before .before .before .before .before .before .before .before .before .before .before .before .before .before .lent-fits .ensures) (not-false _ (c .before .before .before .before .before .before .before .before .before .before .before .before .before .before .before .before .before .before .before .before .before .if1 .left)), fit-long _ _ _ _ _ (c .before .before .before .before .before .before .before .before .before .before .before .before .before .before .before .before .before .before .before .before .before .before .lent-fits .ensures) (not-false _ (c .before .before .before .before .before .before .before .before .before .before .before .before .before .before .before .before .before .before .before .before .before .if1 .left)) (c .before .before .before .before .before .release-holder .kept .1 .0))
-
-same-length-9 : tie.Need-same-length-9
-same-length-9 c = search needs
-
-same-length-10 : tie.Need-same-length-10
-same-length-10 c = search needs
-
---@ returns-6 c = release-done _ _ _ (opened _ _ _ _ _ (@lent-fits .ensures) (not-false _ (@if1 .left)) (@sound .ensures) (not-false _ (@if2 .left))) (release-yes _ _ _ (@may-release .ensures) (not-false _ (@if3 .left)) (@released-already .ensures) (@if4 .left) (@is-bound .ensures) (not-false _ (@if5 .left))) (quiet-holder _ _ _ _) (@release-holder .ensures) (@part-released .kept .1 .0 ∙ @release-holder .kept .1 .0) (@part-released .ensures)
-returns-6 : tie.Need-returns-6
-unfolding releaseReply
-returns-6 c = release-done _ _ _ (opened _ _ _ _ _ (c .before .before .before .before .before .before .before .before .before .before .before .before .before .before .before .before .before .before .before .before .before .before .before .before .before .lent-fits .ensures) (not-false _ (c .before .before .before .before .before .before .before .before .before .before .before .before .before .before .before .before .before .before .before .before .before .before .before .before .if1 .left)) (c .before .before .before .before .before .before .before .before .before .before .before .before .before .before .before .before .before .before .before .before .before .sound .ensures) (not-false _ (c .before .before .before .before .before .before .before .before .before .before .before .before .before .before .before .before .before .before .before .before .if2 .left))) (release-yes _ _ _ (c .before .before .before .before .before .before .before .before .before .before .before .before .before .before .before .before .before .before .may-release .ensures) (not-false _ (c .before .before .before .before .before .before .before .before .before .before .before .before .before .before .before .before .before .if3 .left)) (c .before .before .before .before .before .before .before .before .before .before .before .before .before .before .before .released-already .ensures) (c .before .before .before .before .before .before .before .before .before .before .before .before .before .before .if4 .left) (c .before .before .before .before .before .before .before .before .before .before .before .before .is-bound .ensures) (not-false _ (c .before .before .before .before .before .before .before .before .before .before .before .if5 .left))) (quiet-holder _ _ _ _) (c .before .before .before .before .before .before .before .before .release-holder .ensures) (c .before .before .part-released .kept .1 .0 ∙ c .before .before .before .before .before .before .before .before .release-holder .kept .1 .0) (c .before .before .part-released .ensures)
+returns-2 c = release-done _ _ _ (passed-by (c .before .before .before .before .before .before .before .before .before .before .before .before .before .before .before .before .before .before .before .before .args .p) _ _ _ _ _ _ _ (release-plan (c .before .before .before .before .before .before .before .before .before .before .before .before .before .before .before .before .before .before .before .before .args .p) _ _) (c .before .before .before .before .before .before .before .before .before .before .before .before .before .check-release .ensures) (c .before .before .before .before .before .before .before .before .before .before .before .enum-told .given .1)) (quiet-holder (c .before .before .before .before .before .before .before .before .before .before .before .before .before .before .before .before .before .before .before .before .args .p) _ _ _) (c .before .before .before .before .before .before .before .before .release-holder .ensures) (c .before .before .part-released .kept .1 .0 ∙ c .before .before .before .before .before .before .before .before .release-holder .kept .1 .0) (c .before .before .part-released .ensures)
 
 pub release-spec : {M : Type 1} → statement M
 release-spec =
     tie.close
     (tie.spec
-    lent-fits-requires
-    returns
-    sound-requires
-    same-length
-    same-length-2
-    returns-2
-    may-release-requires
-    same-length-3
-    same-length-4
-    returns-3
-    released-already-requires
-    same-length-5
-    same-length-6
-    returns-4
-    is-bound-requires
-    same-length-7
-    same-length-8
-    returns-5
+    check-release-requires
+    enum-known-r
+    enum-told
     release-holder-requires
     part-released-requires
-    same-length-9
-    same-length-10
-    returns-6)
+    same-length
+    same-length-2
+    returns
+    same-length-3
+    same-length-4
+    returns-2)
