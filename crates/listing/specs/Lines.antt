@@ -1,16 +1,16 @@
--- The lines of a trace, one after the other: walking them gives the model's `linesOf`. Assumes nothing.
-use mathlib.Core.Path.{_≡_, refl, sym, ap, _∙_}
+-- The lines of a trace, one after the other. Assumes nothing.
+use mathlib.Core.Path.{_≡_, refl, sym}
 use mathlib.Core.Bool.{true, false}
 use mathlib.Core.Logic.{_⊎_, inl, inr}
 use mathlib.Core.List.{List, [], _∷_}
-use Prim.Native.Nat.{ℕ, zero, suc, _+_, _-_, _≤_, _<_}
+use Prim.Native.Nat.{ℕ, suc, _+_, _-_, _≤_, _<_}
 use native.Mathlib.Omega.{arith}
 use lib.Dec.{ltb}
 use lib.ListN.{length, take, drop}
 use lib.Seq.{take-nil}
 use borrow.Author.Tests.{ltb-true, ltb-false, lt-ltb, le-ltb}
 use Rattle.model.specs.Base.{if_then_else_}
-use Rattle.model.specs.Census.{newline, linesOf}
+use Rattle.model.specs.Census.{newline}
 use Rattle.laws.specs.Below.{test}
 use Rattle.laws.specs.Text.{pieceEnd, linesFrom, lines-end, lines-more, lines-last, end-between}
 use Rattle.listing.specs.declared.NextLine.{NextLine}
@@ -90,32 +90,6 @@ next-over s at h = go (test (ltb at (length s)))
     go (inl y) = absurd (not-line _ _ _ (sym (rw y at h)))
     go (inr z) = lines-end s at (ltb-false _ _ z)
 
--- ---- all lines
-
-unfoldable pub through : List ℕ → NextLine → (ℕ → List (List ℕ)) → List (List ℕ)
-through s End f = []
-through s (Line from to next) f = lineBytes s from to ∷ f next
-
--- k lines at most, from a place on, one after the other
-unfoldable pub walk : ℕ → List ℕ → ℕ → List (List ℕ)
-walk zero s at = []
-walk (suc k) s at = through s (nextLine s at) (walk k s)
-
-pub walk-lines : (k : ℕ) (s : List ℕ) (at : ℕ) → walk k s at ≡ take k (linesFrom s at)
-unfolding walk through
-walk-lines zero s at = refl
-walk-lines (suc k) s at = go (nextLine s at) refl (λ n. walk-lines k s n)
-  where
-    go : (n : NextLine) → nextLine s at ≡ n → ((i : ℕ) → walk k s i ≡ take k (linesFrom s i))
-        → through s n (walk k s) ≡ take (suc k) (linesFrom s at)
-    go End e f = rw (next-over s at e)
-    go (Line from to next) e f = rw (next-step s at from to next e .rest, f next)
-
--- "at most 16,384 bytes and 256 lines"
-pub walk-whole : (bytes : List ℕ) → walk 256 (take 16384 bytes) 0 ≡ linesOf bytes
-unfolding linesOf linesFrom
-walk-whole bytes = walk-lines 256 (take 16384 bytes) 0
-
 -- ---- a loop over lines: n are passed, at most `limit` are read
 
 module _ (limit n : ℕ) (s : List ℕ) (at : ℕ) where
@@ -130,23 +104,3 @@ module _ (limit n : ℕ) (s : List ℕ) (at : ℕ) where
 
   pub left-end : limit ≤ n → take (limit - n) (linesFrom s at) ≡ []
   left-end l = let d : limit - n ≡ 0 = omega arith in rw d
-
--- the lines that were counted, and those that are left, are all
-pub record Counted (s : List ℕ) (n at : ℕ) : Type 0 where
-  pub few : n ≤ 256
-  pub whole : n + length (take (256 - n) (linesFrom s at)) ≡ length (take 256 (linesFrom s 0))
-
-pub counted-start : (s : List ℕ) → Counted s 0 0
-counted-start s = record { few = omega arith; whole = omega arith }
-
-module _ (s : List ℕ) (n at : ℕ) (i : Counted s n at) where
-  pub counted-round : (r : NextLine) (from to next : ℕ) → n < 256 → r ≡ nextLine s at → r ≡ Line from to next → Counted s (n + 1) next
-  counted-round r from to next l e g =
-      let f = ap length (left-round 256 n s at from to next l (sym e ∙ g)) in
-      record { few = omega arith; whole = omega (arith, f, i .whole) }
-
-  pub counted-over : (r : NextLine) → r ≡ nextLine s at → r ≡ End → n ≡ length (take 256 (linesFrom s 0))
-  counted-over r e g = omega (arith, ap length (left-none 256 n s at (sym e ∙ g)), i .whole)
-
-  pub counted-end : 256 ≤ n → n ≡ length (take 256 (linesFrom s 0))
-  counted-end l = omega (arith, ap length (left-end 256 n s at l), i .whole)

@@ -9,10 +9,9 @@ use model::Block;
 use model::Offer;
 ghost use mathlib.Core.Path.{_≡_};
 ghost use mathlib.Core.List.{[]};
-ghost use lib.ListN.{getD, length, take};
+ghost use lib.ListN.{getD, take};
 ghost use Rattle.model.specs.Calls.{bind, destroy, release, prepare, sharedRelease};
-ghost use Rattle.model.specs.Census.{pieces, space, lineOf, linesOf};
-ghost use Rattle.laws.specs.Text.{linesFrom};
+ghost use Rattle.model.specs.Census.{pieces, space, lineOf};
 ghost use Rattle.listing.specs.Number.{numberOf};
 ghost use Rattle.listing.specs.Line.{wordsOf, lineFor, asked, askedOne, markAsked, allocAsked, oneNumber, offered};
 ghost use Rattle.listing.specs.Lines.{nextLine};
@@ -48,34 +47,6 @@ pub fn next_line(s: &[u8], at: usize) -> NextLine
         to,
         next: to,
     }
-}
-
-// How many lines the bytes that were read have, of 256 at most.
-fn count_read(s: &[u8]) -> usize
-    ensures { λ r. ⌜ r ≡ length (take 256 (linesFrom (now (s .entry)) 0)) ⌝ }
-{
-    let mut n: usize = 0;
-    let mut at: usize = 0;
-    while n < 256 {
-        let NextLine::Line {
-            from: _,
-            to: _,
-            next,
-        } = next_line(s, at)
-        else {
-            return n;
-        };
-        at = next;
-        n = n + 1;
-    }
-    n
-}
-
-// How many lines of a trace are read.
-pub fn count(s: &[u8]) -> usize
-    ensures { λ r. ⌜ r ≡ length (linesOf (now (s .entry))) ⌝ }
-{
-    count_read(read_part(s))
 }
 
 fn number_at(s: &[u8], k: usize) -> Number

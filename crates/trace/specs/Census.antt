@@ -10,7 +10,7 @@ use Rattle.model.specs.Calls.{Reply, setUp}
 use Rattle.model.specs.Tables.{Words, tablesOf, view}
 use Rattle.model.specs.Sound.{stateOf}
 use Rattle.model.specs.Census.{section, occupied, blockRow, freeRows, allFreeRows, linesOf, censusParams, censusLent, runLines, Ran, listing, census}
-use Rattle.listing.specs.Print.{refusedFrom, refusedRows}
+use Rattle.listing.specs.Print.{refusedRows}
 use Rattle.laws.specs.Text.{placeAfter, Printed, printed-append, length-printed}
 use Rattle.model.specs.Memory.{overwrite}
 use Rattle.trace.specs.Room.{census-few}

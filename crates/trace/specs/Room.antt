@@ -1,19 +1,17 @@
 -- How long a listing can be: a buffer of 700,000 bytes holds each. The bound is a plain one: every number is taken to have
 -- twenty digits, and every block as many cells as bytes. Assumes nothing.
-use mathlib.Core.Path.{_≡_, refl, ap, _∙_}
+use mathlib.Core.Path.{_≡_, refl, ap}
 use mathlib.Core.Bool.{Bool, true, false, not}
 use mathlib.Core.List.{List, [], _∷_, _++_, map}
-use Prim.Native.Nat.{ℕ, zero, suc, _+_, _-_, _*_, _/_, _%_, _≤_, _<_, min}
-use native.Mathlib.Nat.{div-le-self}
+use Prim.Native.Nat.{ℕ, zero, suc, _+_, _-_, _*_, _/_, _%_, _≤_}
 use native.Mathlib.Omega.{arith}
 use lib.Dec.{eqb, ltb}
-use lib.ListN.{length, getD, take, length-append, length-map, length-take}
+use lib.ListN.{length, take, length-append, length-take}
 use Rattle.model.specs.Base.{if_then_else_, filter}
 use Rattle.model.specs.Params.{Lent}
-use Rattle.model.specs.Tables.{Tables, Words}
+use Rattle.model.specs.Tables.{Tables}
 use Rattle.model.specs.Sound.{stateOf}
-use Rattle.model.specs.Block.{Unallocated, isCell, chainFrom, freeChain, cellCount}
-use Rattle.model.specs.Memory.{load}
+use Rattle.model.specs.Block.{Unallocated, freeChain}
 use Rattle.model.specs.Calls.{Result, tablesIn, setUp}
 use Rattle.trace.specs.Sections.{chain-few, joined-append}
 use Rattle.model.specs.Census.{digits, decimal, spaced, joined, section, RefusedLine, refusedRow, upTo, occupied, blockRow, freeRows, allFreeRows, censusParams, linesOf, Ran, runLines, lineResult, lineOf, pieces, newline, space, dropBlankEnd, censusLent, listing, census}

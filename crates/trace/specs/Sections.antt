@@ -13,7 +13,7 @@ use lib.ListN.{length, getD, drop, length-append, drop-of-length-le, List·getD-
 use lib.Seq.{drop-cons, getD-at}
 use borrow.Author.Tests.{lt-ltb, ltb-true}
 use Rattle.model.specs.declared.Params.{Params}
-use Rattle.model.specs.Base.{if_then_else_, filter}
+use Rattle.model.specs.Base.{filter}
 use Rattle.model.specs.Tables.{Words, Tables, tablesOf, view}
 use Rattle.model.specs.Memory.{load}
 use Rattle.model.specs.Block.{Unallocated, cellCount, isCell, chainFrom, freeChain}
