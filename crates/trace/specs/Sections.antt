@@ -9,7 +9,7 @@ use native.Mathlib.Nat.{not-suc-le-zero, suc-mul, mul-le-mul-right, div-le-self}
 use native.Mathlib.Numerals.{add-one}
 use native.Mathlib.Omega.{arith}
 use lib.Dec.{eqb, ltb}
-use lib.ListN.{length, getD, drop, length-append, drop-of-length-le, List·getD-append}
+use lib.ListN.{length, getD, drop, length-append, length-map, drop-of-length-le, List·getD-append}
 use lib.Seq.{drop-cons, getD-at}
 use borrow.Author.Tests.{lt-ltb, ltb-true}
 use Rattle.model.specs.declared.Params.{Params}
@@ -287,13 +287,9 @@ free-section words states heap = rw (occupied-in words states)
 
 -- ---- their rows
 
-length-map : {A B : Type 0} (g : A → B) (l : List A) → length (map g l) ≡ length l
-length-map g [] = refl
-length-map g (x ∷ l) = ap suc (length-map g l)
-
 pub blocks-count : (words states : List ℕ) {n : ℕ} → n ≡ length (occupiedIn states)
     → n ≡ length (map (blockRow (tablesRead words states)) (occupiedIn states))
-blocks-count words states e = e ∙ sym (length-map (blockRow (tablesRead words states)) (occupiedIn states))
+blocks-count words states e = e ∙ sym (length-map (occupiedIn states) (blockRow (tablesRead words states)))
 
 pub total-ones : (bs : List ℕ) → total (λ b. 1) bs ≡ length bs
 unfolding total
