@@ -10,7 +10,7 @@ use lib.Dec.{eqb}
 use borrow.Author.Tests.{eqb-true, eq-eqb}
 use Rattle.laws.specs.Below.{true-not-false}
 pub use Rattle.laws.specs.Below.{and-left, and-right, or-cases, same-test, test as bool-cases, allBelow-at as all-below, allBelow-from as below-all, anyBelow-from as below-any, anyBelow-none as below-none-any}
-use Rattle.model.specs.Base.{if_then_else_, allBelow, anyBelow, member, filter, count, In, Pairwise}
+use Rattle.model.specs.Base.{if_then_else_, allBelow, anyBelow, member, filter, In, Pairwise}
 
 -- ---- tests
 
@@ -105,7 +105,7 @@ in-append x [] m i = inr i
 in-append x (y ∷ l) m (inl e) = inl (inl e)
 in-append x (y ∷ l) m (inr i) = ⊎-elim (λ a. inl (inr a)) (λ b. inr b) (in-append x l m i)
 
--- ---- filter and count
+-- ---- filter
 
 pub in-filter : {A : Type 0} (f : A → Bool) (x : A) (l : List A) → In x (filter f l) → In x l × (f x ≡ true)
 unfolding filter In
@@ -137,16 +137,6 @@ pub pairwise-more : {A : Type 0} (R S : A → A → Type 0) (l : List A) → ((x
 unfolding Pairwise
 pairwise-more R S [] f w = w
 pairwise-more R S (x ∷ l) f w = ((λ y m. f x y (w .0 y m)), pairwise-more R S l f (w .1))
-
-pub count-append : {A : Type 0} (f : A → Bool) (l m : List A) → count f (l ++ m) ≡ count f l + count f m
-unfolding count
-count-append f [] m = omega arith
-count-append f (x ∷ l) m = go (f x) (count-append f l m)
-  where
-    go : (b : Bool) → count f (l ++ m) ≡ count f l + count f m
-        → (if b then suc (count f (l ++ m)) else count f (l ++ m)) ≡ (if b then suc (count f l) else count f l) + count f m
-    go true e = omega arith
-    go false e = e
 
 pub filter-append : {A : Type 0} (f : A → Bool) (l m : List A) → filter f (l ++ m) ≡ filter f l ++ filter f m
 unfolding filter

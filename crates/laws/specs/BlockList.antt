@@ -4,33 +4,57 @@ use Prim.Native.Nat.{ℕ, zero, suc, _-_, _<_, _≤_}
 use mathlib.Core.Path.{_≡_, refl}
 use native.Mathlib.Omega.{arith}
 use native.Mathlib.Nat.{not-suc-le-zero}
+use lib.Dec.{eqb}
 use lib.ListN.{getD}
 use borrow.Author.Tests.{eq-eqb, ne-eqb}
 use Rattle.model.specs.declared.Params.{Params}
+use Rattle.model.specs.Base.{if_then_else_}
 use Rattle.model.specs.Params.{start, blockAt, listWord}
 use Rattle.model.specs.Tables.{Words, setFirst, setLast, setNext, setPrev, setList}
-use Rattle.model.specs.BlockList.{pushOnly, pushAhead, push, popped, popOnly, popAhead, popAt, pop, removeBetween, remove, relabel, link, append}
+use Rattle.model.specs.BlockList.{push, popped, popHead, pop, removeBetween, remove, relabel, link, append}
+
+-- ---- push and pop, case by case
+
+unfoldable pub pushOnly : Params → ℕ → ℕ → Words → Words
+pushOnly p l b t =
+    setList b (listWord l) (setLast l (start p b) (setFirst l (start p b) (setPrev b 0 (setNext b 0 t))))
+
+unfoldable pub pushAhead : Params → ℕ → ℕ → ℕ → Words → Words
+pushAhead p l b head t =
+    setList b (listWord l)
+    (setFirst l (start p b) (setPrev b 0 (setPrev (blockAt p head) (start p b) (setNext b head t))))
+
+unfoldable pub popOnly : ℕ → ℕ → Words → Words
+popOnly l h t = setPrev h 0 (setNext h 0 (setLast l 0 (setFirst l 0 t)))
+
+unfoldable pub popAhead : Params → ℕ → ℕ → ℕ → Words → Words
+popAhead p l h next t =
+    setPrev h 0 (setNext h 0 (setList (blockAt p next) (listWord l) (setPrev (blockAt p next) 0 (setFirst l next t))))
+
+unfoldable pub popAt : Params → ℕ → ℕ → Words → Words
+popAt p l h t =
+    if eqb (getD (t .next) h 0) 0 then popOnly l h t else popAhead p l h (getD (t .next) h 0) t
 
 module _ (p : Params) (l b : ℕ) {a m f : ℕ} (t : Words) (ea : a ≡ start p b) (em : m ≡ listWord l) (ef : f ≡ getD (t .first) l 0) where
   pub push-only : {t₁ t₂ t₃ t₄ t₅ : Words} → f ≡ 0 → t₁ ≡ setNext b 0 t → t₂ ≡ setPrev b 0 t₁ → t₃ ≡ setFirst l a t₂ → t₄ ≡ setLast l a t₃ → t₅ ≡ setList b m t₄ → t₅ ≡ push p l b t
-  unfolding push pushOnly
+  unfolding push
   push-only h e₁ e₂ e₃ e₄ e₅ = rw (← ef, eq-eqb f 0 h, e₅, e₄, e₃, e₂, e₁, ea, em)
 
   pub push-ahead : {j : ℕ} {t₁ t₂ t₃ t₄ t₅ : Words} → (f ≡ 0 → ⊥) → j ≡ blockAt p f → t₁ ≡ setNext b f t → t₂ ≡ setPrev j a t₁ → t₃ ≡ setPrev b 0 t₂ → t₄ ≡ setFirst l a t₃ → t₅ ≡ setList b m t₄ → t₅ ≡ push p l b t
-  unfolding push pushAhead
+  unfolding push
   push-ahead h ej e₁ e₂ e₃ e₄ e₅ = rw (← ef, ne-eqb f 0 h, e₅, e₄, e₃, e₂, e₁, ej, ea, em)
 
 module _ (p : Params) (l : ℕ) {f : ℕ} (t : Words) (ef : f ≡ getD (t .first) l 0) where
   pub pop-none : f ≡ 0 → popped 0 t ≡ pop p l t
-  unfolding pop
+  unfolding pop popHead
   pop-none h = rw (← ef, eq-eqb f 0 h)
 
   pub pop-only : {i x : ℕ} {t₁ t₂ t₃ t₄ : Words} → (f ≡ 0 → ⊥) → i ≡ blockAt p f → x ≡ getD (t .next) i 0 → x ≡ 0 → t₁ ≡ setFirst l 0 t → t₂ ≡ setLast l 0 t₁ → t₃ ≡ setNext i 0 t₂ → t₄ ≡ setPrev i 0 t₃ → popped f t₄ ≡ pop p l t
-  unfolding pop popAt popOnly
+  unfolding pop popHead
   pop-only {x} h ei ex hx e₁ e₂ e₃ e₄ = rw (← ef, ne-eqb f 0 h, ← ei, ← ex, eq-eqb x 0 hx, e₄, e₃, e₂, e₁)
 
   pub pop-ahead : {i x j m : ℕ} {t₁ t₂ t₃ t₄ t₅ : Words} → (f ≡ 0 → ⊥) → i ≡ blockAt p f → x ≡ getD (t .next) i 0 → (x ≡ 0 → ⊥) → j ≡ blockAt p x → m ≡ listWord l → t₁ ≡ setFirst l x t → t₂ ≡ setPrev j 0 t₁ → t₃ ≡ setList j m t₂ → t₄ ≡ setNext i 0 t₃ → t₅ ≡ setPrev i 0 t₄ → popped f t₅ ≡ pop p l t
-  unfolding pop popAt popAhead
+  unfolding pop popHead
   pop-ahead {x} h ei ex hx ej em e₁ e₂ e₃ e₄ e₅ = rw (← ef, ne-eqb f 0 h, ← ei, ← ex, ne-eqb x 0 hx, ← ej, ← em, e₅, e₄, e₃, e₂, e₁)
 
 module _ (p : Params) (l b : ℕ) {q x m jq jx : ℕ} (t : Words) (eq : q ≡ getD (t .prev) b 0) (ex : x ≡ getD (t .next) b 0) (em : m ≡ listWord l) (ejq : jq ≡ blockAt p q) (ejx : jx ≡ blockAt p x) where

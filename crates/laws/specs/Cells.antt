@@ -3,7 +3,7 @@
 use mathlib.Core.Path.{_≡_, refl, sym, ap, _∙_, subst}
 use mathlib.Core.Logic.{_≢_, _⊎_, inl, inr, ⊎-elim}
 use mathlib.Core.Bool.{Bool, true, false, _&&_}
-use mathlib.Core.List.{List, [], _∷_}
+use mathlib.Core.List.{List, [], _∷_, headD}
 use Prim.Native.Nat.{ℕ, zero, suc, _+_, _-_, _*_, _/_, _%_, _^_, _≤_, _<_}
 use native.Mathlib.Nat.{not-suc-le-zero, mul-le-mul-right, suc-mul, div-add-mod', mul-mod-left, le-div-iff-mul-le, div-mul-le-self}
 use native.Mathlib.Decide.{decLt}
@@ -16,7 +16,7 @@ use Rattle.model.specs.declared.Params.{Params}
 use Rattle.model.specs.Base.{if_then_else_, In, Pairwise}
 use Rattle.model.specs.Params.{start, blockAt, inHeap, heapBytes}
 use Rattle.model.specs.Memory.{load, store}
-use Rattle.model.specs.Block.{cellCount, isCell, cellsDown, headOf, linkAll, chainFrom}
+use Rattle.model.specs.Block.{cellCount, isCell, cellsDown, linkAll, chainFrom}
 use Rattle.laws.specs.Below.{and-four, and-both}
 use Rattle.laws.specs.Base.{if-cases, below-last, pairwise-more}
 use Rattle.laws.specs.Params.{Bounds, start-in, start-end, blockAt-within, inHeap-yes}
@@ -236,16 +236,16 @@ Placed p h l = (x : ℕ) → In x l → (p .base ≤ x) × ((x - p .base) + 8 �
 pub length-linkAll : (p : Params) (l h : List ℕ) → length (linkAll p l h) ≡ length h
 unfolding linkAll
 length-linkAll p [] h = refl
-length-linkAll p (a ∷ l) h = length-store p (linkAll p l h) a (headOf l) ∙ length-linkAll p l h
+length-linkAll p (a ∷ l) h = length-store p (linkAll p l h) a (headD l 0) ∙ length-linkAll p l h
 
 -- linking writes the first words of the chain's cells, and nothing else
 pub same-linkAll : (p : Params) (l h : List ℕ) (j m : ℕ) → ((x : ℕ) → In x l → Apart (x - p .base) 8 j m) → Same h (linkAll p l h) j m
 unfolding linkAll In
 same-linkAll p [] h j m w = λ k lo hi. refl
 same-linkAll p (a ∷ l) h j m w =
-    same-trans h (linkAll p l h) (store p (linkAll p l h) a (headOf l)) j m
+    same-trans h (linkAll p l h) (store p (linkAll p l h) a (headD l 0)) j m
     (same-linkAll p l h j m (λ x i. w x (inr i)))
-    (same-store p (linkAll p l h) a (headOf l) j m (w a (inl refl)))
+    (same-store p (linkAll p l h) a (headD l 0) j m (w a (inl refl)))
 
 -- a chain stands on where the bytes of its first words stay
 pub stands-frame : (p : Params) (h h′ : List ℕ) (a : ℕ) (l : List ℕ) → ((x : ℕ) → In x l → Same h h′ (x - p .base) 8)
@@ -258,23 +258,23 @@ stands-frame p h h′ a (x ∷ l) s c = (
       (stands-frame p h h′ (load p h x) l (λ y i. s y (inr i)) (c .1)),
 )
 
-head-small : (p : Params) (h l : List ℕ) → Placed p h l → headOf l < 2 ^ 64
-unfolding headOf In
+head-small : (p : Params) (h l : List ℕ) → Placed p h l → headD l 0 < 2 ^ 64
+unfolding headD In
 head-small p h [] w = omega arith
 head-small p h (x ∷ l) w = w x (inl refl) .2
 
 -- what linking makes: the chain stands
-pub stands-linkAll : (p : Params) (l h : List ℕ) → Placed p h l → Desc 8 l → chainStands p (linkAll p l h) (headOf l) l
-unfolding chainStands linkAll headOf In Pairwise
+pub stands-linkAll : (p : Params) (l h : List ℕ) → Placed p h l → Desc 8 l → chainStands p (linkAll p l h) (headD l 0) l
+unfolding chainStands linkAll headD In Pairwise
 stands-linkAll p [] h w d = refl
 stands-linkAll p (x ∷ l) h w d =
-    let rest : chainStands p (linkAll p l h) (headOf l) l = stands-linkAll p l h (λ y i. w y (inr i)) (d .1) in
+    let rest : chainStands p (linkAll p l h) (headD l 0) l = stands-linkAll p l h (λ y i. w y (inr i)) (d .1) in
     let len : length (linkAll p l h) ≡ length h = length-linkAll p l h in
     let fit : (x - p .base) + 8 ≤ length (linkAll p l h) = omega (arith, w x (inl refl) .1) in
-    let e : load p (store p (linkAll p l h) x (headOf l)) x ≡ headOf l = load-store p (linkAll p l h) x (headOf l) fit (head-small p h l (λ y i. w y (inr i))) in (
+    let e : load p (store p (linkAll p l h) x (headD l 0)) x ≡ headD l 0 = load-store p (linkAll p l h) x (headD l 0) fit (head-small p h l (λ y i. w y (inr i))) in (
       refl,
-      rw e (stands-frame p (linkAll p l h) (store p (linkAll p l h) x (headOf l)) (headOf l) l
-          (λ y i. same-store p (linkAll p l h) x (headOf l) (y - p .base) 8
+      rw e (stands-frame p (linkAll p l h) (store p (linkAll p l h) x (headD l 0)) (headD l 0) l
+          (λ y i. same-store p (linkAll p l h) x (headD l 0) (y - p .base) 8
           (inr (omega (arith, d .0 y i, w y (inr i) .0)))) rest),
     )
 

@@ -10,8 +10,9 @@ use borrow.Author.Tests.{eqb-true, ltb-true, leb-true, eq-eqb, ne-eqb, lt-ltb, l
 use Rattle.model.specs.declared.Params.{Params}
 use Rattle.model.specs.Base.{allBelow, anyBelow}
 use lib.ListN.{length}
-use Rattle.model.specs.Params.{goodParams, Lent, fits, wordCount, powerOfTwo, lowerOk, isZero, heapEnd, heapBytes}
+use Rattle.model.specs.Params.{goodParams, Lent, fits, wordCount, powerOfTwo, lowerOk, heapEnd, heapBytes}
 use Rattle.laws.specs.Below.{and-left, and-right, and-first, and-second, and-three, and-four, and-both, or-cases, or-left, or-right, allBelow-at, anyBelow-at, anyBelow-from, any-miss, same-test}
+use lib.IntN.{natAbs}
 
 pub record Good (p : Params) : Type 0 where
   pub min-is : (p .min ≡ 4) ⊎ (p .min ≡ 8)
@@ -19,7 +20,7 @@ pub record Good (p : Params) : Type 0 where
   pub min-max : p .min ≤ p .max
   pub max-low : p .max ≤ 64
   pub lower-ok : lowerOk (p .lower) ≡ true
-  pub unified-zero : (not (p .unified) || isZero (p .lower)) ≡ true
+  pub unified-zero : (not (p .unified) || eqb (natAbs (p .lower)) 0) ≡ true
   pub bytes-power : powerOfTwo (p .bytes) ≡ true
   pub bytes-from : 4096 ≤ p .bytes
   pub bytes-to : p .bytes ≤ 65536
@@ -37,7 +38,7 @@ abbrev pub max-part : Params → Bool
 max-part p = powerOfTwo (p .max) && leb (p .min) (p .max) && leb (p .max) 64
 
 abbrev pub lower-part : Params → Bool
-lower-part p = lowerOk (p .lower) && (not (p .unified) || isZero (p .lower))
+lower-part p = lowerOk (p .lower) && (not (p .unified) || eqb (natAbs (p .lower)) 0)
 
 abbrev pub bytes-part : Params → Bool
 bytes-part p = powerOfTwo (p .bytes) && leb 4096 (p .bytes) && leb (p .bytes) 65536
@@ -69,8 +70,8 @@ good p e =
       max-power = max .0;
       min-max = leb-true _ _ (max .1);
       max-low = leb-true _ _ (max .2);
-      lower-ok = and-left (lowerOk (p .lower)) (not (p .unified) || isZero (p .lower)) (two .2);
-      unified-zero = and-right (lowerOk (p .lower)) (not (p .unified) || isZero (p .lower)) (two .2);
+      lower-ok = and-left (lowerOk (p .lower)) (not (p .unified) || eqb (natAbs (p .lower)) 0) (two .2);
+      unified-zero = and-right (lowerOk (p .lower)) (not (p .unified) || eqb (natAbs (p .lower)) 0) (two .2);
       bytes-power = bytes .0;
       bytes-from = leb-true _ _ (bytes .1);
       bytes-to = leb-true _ _ (bytes .2);

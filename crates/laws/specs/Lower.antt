@@ -5,12 +5,12 @@ use mathlib.Core.Bool.{Bool, true, false, not, _&&_, _||_}
 use native.Mathlib.Nat.{div-le-self, mod-lt}
 use native.Mathlib.Omega.{arith}
 use lib.Dec.{eqb, lit<}
-use lib.IntN.{ℤ, pos, negsuc, negℤ}
+use lib.IntN.{ℤ, pos, negsuc, negℤ, natAbs}
 use lib.Signed.{ltZ, quotZ, remZ, mag}
 use mir.Syntax.{w64}
 use mir.Val.{ofZ}
 use borrow.Author.Tests.{ltb-true, ltb-false, eq-eqb, ne-eqb, le-leb, lt-leb}
-use Rattle.model.specs.Params.{lowerOk, isZero}
+use Rattle.model.specs.Params.{lowerOk}
 use Rattle.laws.specs.Below.{true-not-false, and-second}
 
 pub lower-under : (l : ℤ) → ltZ l (negsuc 63) ≡ true → lowerOk l ≡ false
@@ -53,16 +53,15 @@ pub lower-eighth : (l : ℤ) → mag l < 2 ^ 63 → mag (quotZ l (pos 8)) < 2 ^ 
 lower-eighth (pos n) h = omega (arith, div-le-self n 8)
 lower-eighth (negsuc n) h = omega (arith, mag-neg (suc n / 8) n (div-le-self (suc n) 8))
 
-pub lower-zero : (l : ℤ) → mag l < 2 ^ 63 → eqb (ofZ w64 l) 0 ≡ isZero l
-unfolding isZero
+pub lower-zero : (l : ℤ) → mag l < 2 ^ 63 → eqb (ofZ w64 l) 0 ≡ eqb (natAbs l) 0
 lower-zero (pos n) h = refl
-lower-zero (negsuc n) h = ne-eqb (2 ^ 64 - suc n) 0 (λ e. omega arith)
+lower-zero (negsuc n) h = ne-eqb (2 ^ 64 - suc n) 0 (λ e. omega arith) ∙ sym (ne-eqb (suc n) 0 (λ e. omega arith))
 
 -- ---- the tests, as code makes them: one law for each way out. z is L, come back from its bits
 
 module _ (u : Bool) (l : ℤ) {z : ℤ} (back : z ≡ l) where
   abbrev pub lowerPart : Bool
-  lowerPart = lowerOk l && (not u || isZero l)
+  lowerPart = lowerOk l && (not u || eqb (natAbs l) 0)
 
   pub lower-below : ltZ z (negsuc 63) ≡ true → false ≡ lowerPart
   lower-below e = rw (lower-under l (subst (λ (x : ℤ). ltZ x (negsuc 63) ≡ true) back e))
@@ -94,5 +93,5 @@ module _ (u : Bool) (l : ℤ) {z : ℤ} (back : z ≡ l) where
   pub eighth-fits : mag l < 2 ^ 63 → mag (quotZ z (pos 8)) < 2 ^ 63
   eighth-fits h = subst (λ (x : ℤ). mag (quotZ x (pos 8)) < 2 ^ 63) (sym back) (lower-eighth l h)
 
-pub lower-back : (u : Bool) {l z : ℤ} {r : Bool} → z ≡ l → r ≡ (lowerOk z && (not u || isZero z)) → r ≡ (lowerOk l && (not u || isZero l))
-lower-back u {l} {z} {r} back e = subst (λ (x : ℤ). r ≡ (lowerOk x && (not u || isZero x))) back e
+pub lower-back : (u : Bool) {l z : ℤ} {r : Bool} → z ≡ l → r ≡ (lowerOk z && (not u || eqb (natAbs z) 0)) → r ≡ (lowerOk l && (not u || eqb (natAbs l) 0))
+lower-back u {l} {z} {r} back e = subst (λ (x : ℤ). r ≡ (lowerOk x && (not u || eqb (natAbs x) 0))) back e

@@ -7,11 +7,11 @@ use mathlib.Core.Logic.{_⊎_, ⊎-elim}
 use native.Mathlib.Nat.{zero-mod, mod-eq-of-lt, mod-mod-of-dvd, dvd-of-mod-eq-zero, mul-le-mul, mul-le-mul-right, mul-add-div-right, mul-mod-left, suc-mul, div-add-mod', div-eq-of-lt, div-lt-iff-lt-mul}
 use native.Mathlib.Omega.{arith}
 use lib.Dec.{eqb, ltb, leb}
-use lib.IntN.{ℤ, pos, negsuc}
+use lib.IntN.{ℤ, pos, negsuc, natAbs}
 use borrow.Author.Tests.{ltb-true, ltb-false, leb-true, eqb-true, lt-ltb, le-ltb, le-leb, lt-leb, eq-eqb, ne-eqb}
 use Rattle.model.specs.declared.Params.{Params}
 use Rattle.model.specs.Base.{allBelow}
-use Rattle.model.specs.Params.{powerOfTwo, lowerOk, isZero, biased, heapBytes, heapEnd, goodParams, start, blockAt, inHeap, isStart}
+use Rattle.model.specs.Params.{powerOfTwo, lowerOk, biased, heapBytes, heapEnd, goodParams, start, blockAt, inHeap, isStart}
 use Rattle.model.specs.Block.{simple}
 use Rattle.laws.specs.Below.{true-not-false, and-left, and-right, and-three, and-both, and-first, and-second, or-cases}
 use Rattle.laws.specs.Good.{Good, good, each-power}
@@ -45,10 +45,10 @@ lower-words (negsuc n) e =
     let s : suc n ≤ 64 = leb-true (suc n) 64 (and-right (eqb (suc n % 8) 0) (leb (suc n) 64) e) in
     omega arith
 
-pub biased-zero : (l : ℤ) → isZero l ≡ true → biased l ≡ 64
-unfolding isZero biased
+pub biased-zero : (l : ℤ) → eqb (natAbs l) 0 ≡ true → biased l ≡ 64
+unfolding biased
 biased-zero (pos n) e = ap (λ (x : ℕ). 64 + x) (eqb-true n 0 e)
-biased-zero (negsuc n) e = absurd (true-not-false (sym e))
+biased-zero (negsuc n) e = absurd (omega (arith, eqb-true (suc n) 0 e))
 
 pub record Bounds (p : Params) : Type 0 where
   pub bytes-low : 4096 ≤ p .bytes
@@ -75,7 +75,7 @@ pub record Bounds (p : Params) : Type 0 where
   pub lower-words : biased (p .lower) % 8 ≡ 0
   pub lower-unified : p .unified ≡ true → biased (p .lower) ≡ 64
 
-unified-zero : (u : Bool) (l : ℤ) → not u || isZero l ≡ true → u ≡ true → biased l ≡ 64
+unified-zero : (u : Bool) (l : ℤ) → not u || eqb (natAbs l) 0 ≡ true → u ≡ true → biased l ≡ 64
 unified-zero true l e q = biased-zero l e
 unified-zero false l e q = absurd (true-not-false (sym q))
 

@@ -8,11 +8,12 @@ use mathlib.Core.List.{List, [], _∷_, _++_}
 use native.Mathlib.Nat.{zero-add, zero-mul, suc-mul, add-assoc}
 use native.Mathlib.Omega.{arith}
 use lib.Dec.{ltb}
-use lib.ListN.{length, take, drop, getD, set, length-append, length-set, length-take, length-drop, take-append-drop, List·getD-eq-default}
+use lib.ListN.{length, take, drop, getD, set, replicate, length-append, length-set, length-take, length-drop, take-append-drop, List·getD-eq-default}
 use lib.Seq.{set-out, set-getD, getD-take, getD-drop, getD-set-same, take-set-le, take-set-lt, drop-set-lt, drop-set-add, drop-drop, drop-cons, take-at, drop-at, take-all}
 use borrow.Author.Tests.{lt-ltb, le-ltb, ltb-true, ltb-false}
 use Rattle.model.specs.Base.{if_then_else_}
 use Rattle.model.specs.Tables.{Words, part, blocksIn, blockTable, view, flat, setFirst, setLast, setBound, setReleased, setNext, setPrev, setFree, setSize, setList, setTls, setPhase}
+use Rattle.laws.specs.Memory.{getD-zeros}
 
 -- the words with v at i of the k words from o on, and as they are if there is no such i
 abbrev pub putIn : ℕ → ℕ → ℕ → ℕ → List ℕ → List ℕ
@@ -54,6 +55,10 @@ getD-part-out o k i w h = List·getD-eq-default (part o k w) 0 (omega (arith, le
 pub getD-part-past : (o k i : ℕ) (w : List ℕ) → length w ≤ o + i → getD (part o k w) i 0 ≡ 0
 getD-part-past o k i w h =
     by-lt i k (λ q. getD-part o k i w q ∙ List·getD-eq-default w 0 h) (λ q. getD-part-out o k i w q)
+
+pub part-zeros : (o k n i : ℕ) → getD (part o k (replicate n 0)) i 0 ≡ 0
+part-zeros o k n i =
+    by-lt i k (λ h. getD-part o k i (replicate n 0) h ∙ getD-zeros n (o + i)) (λ h. getD-part-out o k i (replicate n 0) h)
 
 -- ---- a list cut into pieces of given lengths, and where the j-th of them starts
 

@@ -2,7 +2,7 @@
 -- Assumes nothing.
 use mathlib.Core.Path.{_≡_, refl, sym, ap, _∙_}
 use mathlib.Core.Bool.{Bool, true, false, _&&_}
-use mathlib.Core.List.{List, [], _∷_, _++_}
+use mathlib.Core.List.{List, [], _∷_, _++_, foldl}
 use Prim.Native.Nat.{ℕ, zero, suc, _+_, _-_, _*_, _≤_, _<_, min, max}
 use native.Mathlib.Nat.{not-suc-le-zero, le-of-suc-le-suc}
 use native.Mathlib.Numerals.{add-one}
@@ -14,7 +14,7 @@ use lib.ListN.{length, getD, set, take, drop, length-append, length-take, length
 use lib.Seq.{drop-cons, drop-drop}
 use Rattle.model.specs.Base.{if_then_else_, allBelow}
 use Rattle.model.specs.Memory.{overwrite}
-use Rattle.model.specs.Census.{newline, before, pieces, dropBlankEnd, valueFrom, isDigit}
+use Rattle.model.specs.Census.{newline, before, pieces, dropBlankEnd, isDigit}
 use Rattle.laws.specs.Below.{allBelow-at, allBelow-from, same-test, and-both, and-left, and-right, test}
 use Rattle.laws.specs.Memory.{length-overwrite, overwrite-out, overwrite-nil, overwrite-set}
 
@@ -158,8 +158,11 @@ module _ (s : List ℕ) (at : ℕ) where
 
 -- ---- numbers
 
+-- the value of digits behind others of the value v
+abbrev pub valueFrom : ℕ → List ℕ → ℕ
+valueFrom v cs = foldl (λ (n c : ℕ). 10 * n + (c - 48)) v cs
+
 pub value-ge : (n : ℕ) (cs : List ℕ) → n ≤ valueFrom n cs
-unfolding valueFrom
 value-ge n [] = omega arith
 value-ge n (c ∷ cs) = omega (arith, value-ge (10 * n + (c - 48)) cs)
 

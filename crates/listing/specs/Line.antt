@@ -3,6 +3,7 @@ use mathlib.Core.Path.{_≡_, refl, sym, ap, _∙_}
 use mathlib.Core.Bool.{Bool, true, false, _&&_, _||_}
 use mathlib.Core.Logic.{_⊎_, inl, inr}
 use mathlib.Core.List.{List, []}
+use mathlib.Core.Option.{Option, some, none}
 use Prim.Native.Nat.{ℕ, _+_, _-_, _<_}
 use native.Mathlib.Omega.{arith}
 use lib.Dec.{eqb}
@@ -12,8 +13,7 @@ use Rattle.model.specs.declared.Offer.{Offer}
 use Rattle.model.specs.declared.Offer.the-variants.{Nothing, Fresh}
 use Rattle.model.specs.Base.{if_then_else_, allBelow}
 use Rattle.model.specs.Calls.{Call, bind, destroy, alloc, prepare, mark, release, sharedRelease}
-use Rattle.model.specs.Census.{pieces, space, isNumber, valueOf, isWord, numbersTo, isLine, arg, isAlloc, offerOf, asks, badLine, lineOf}
-use Rattle.model.specs.Census.{Line as CensusLine}
+use Rattle.model.specs.Census.{pieces, space, isNumber, valueOf, isWord, numbersTo, isLine, arg, isAlloc, offerOf, lineOf}
 use Rattle.laws.specs.Below.{test, and-second, allBelow-off}
 use Rattle.listing.specs.Number.{numberOf, is-number, no-number}
 use Rattle.listing.specs.declared.Number.{Number}
@@ -27,35 +27,35 @@ abbrev pub wordsOf : List ℕ → List (List ℕ)
 wordsOf x = pieces space x
 
 -- what an answer asks
-unfoldable pub lineFor : Line → CensusLine
-lineFor (Bind h) = asks (bind h)
-lineFor (Destroy h) = asks (destroy h)
-lineFor (Alloc h size align offset offer) = asks (alloc h size align offset offer)
-lineFor Prepare = asks prepare
-lineFor (Mark place block) = asks (mark place block)
-lineFor (Release h) = asks (release h)
-lineFor Shared = asks sharedRelease
-lineFor Bad = badLine
+unfoldable pub lineFor : Line → Option Call
+lineFor (Bind h) = some (bind h)
+lineFor (Destroy h) = some (destroy h)
+lineFor (Alloc h size align offset offer) = some (alloc h size align offset offer)
+lineFor Prepare = some prepare
+lineFor (Mark place block) = some (mark place block)
+lineFor (Release h) = some (release h)
+lineFor Shared = some sharedRelease
+lineFor Bad = none
 
 -- the one letter of a word; 0 if it has another length
 unfoldable pub letterOf : List ℕ → ℕ
 letterOf w = if eqb (length w) 1 then getD w 0 0 else 0
 
 -- a line of n words whose letter is known: a call, if numbers follow
-unfoldable pub asked : ℕ → List (List ℕ) → Call → CensusLine
-asked n ws c = if eqb (length ws) n && numbersTo n ws then asks c else badLine
+unfoldable pub asked : ℕ → List (List ℕ) → Call → Option Call
+asked n ws c = if eqb (length ws) n && numbersTo n ws then some c else none
 
-abbrev pub askedOne : (ℕ → Call) → List (List ℕ) → CensusLine
+abbrev pub askedOne : (ℕ → Call) → List (List ℕ) → Option Call
 askedOne f ws = asked 2 ws (f (arg ws 1))
 
-abbrev pub markAsked : List (List ℕ) → CensusLine
+abbrev pub markAsked : List (List ℕ) → Option Call
 markAsked ws = asked 3 ws (mark (arg ws 1) (arg ws 2))
 
-unfoldable pub allocAsked : List (List ℕ) → CensusLine
+unfoldable pub allocAsked : List (List ℕ) → Option Call
 allocAsked ws =
     if eqb (length ws) 6 && numbersTo 5 ws && (isWord 45 (getD ws 5 []) || isNumber (getD ws 5 []))
-    then asks (alloc (arg ws 1) (arg ws 2) (arg ws 3) (arg ws 4) (offerOf (getD ws 5 [])))
-    else badLine
+    then some (alloc (arg ws 1) (arg ws 2) (arg ws 3) (arg ws 4) (offerOf (getD ws 5 [])))
+    else none
 
 pub word-letter : (c : ℕ) (w : List ℕ) → 0 < c → isWord c w ≡ eqb (letterOf w) c
 unfolding isWord letterOf
@@ -66,17 +66,17 @@ word-letter c w l = go (eqb (length w) 1)
     go false = sym (ne-eqb 0 c (λ e. omega arith))
 
 -- the lines by their letter
-unfoldable pub lineBy : ℕ → List (List ℕ) → CensusLine
+unfoldable pub lineBy : ℕ → List (List ℕ) → Option Call
 lineBy l ws =
-    if eqb l 98 && eqb (length ws) 2 && numbersTo 2 ws then asks (bind (arg ws 1))
-    else if eqb l 100 && eqb (length ws) 2 && numbersTo 2 ws then asks (destroy (arg ws 1))
+    if eqb l 98 && eqb (length ws) 2 && numbersTo 2 ws then some (bind (arg ws 1))
+    else if eqb l 100 && eqb (length ws) 2 && numbersTo 2 ws then some (destroy (arg ws 1))
     else if eqb l 97 && eqb (length ws) 6 && numbersTo 5 ws && (isWord 45 (getD ws 5 []) || isNumber (getD ws 5 []))
-    then asks (alloc (arg ws 1) (arg ws 2) (arg ws 3) (arg ws 4) (offerOf (getD ws 5 [])))
-    else if eqb l 112 && eqb (length ws) 1 && numbersTo 1 ws then asks prepare
-    else if eqb l 109 && eqb (length ws) 3 && numbersTo 3 ws then asks (mark (arg ws 1) (arg ws 2))
-    else if eqb l 114 && eqb (length ws) 2 && numbersTo 2 ws then asks (release (arg ws 1))
-    else if eqb l 115 && eqb (length ws) 1 && numbersTo 1 ws then asks sharedRelease
-    else badLine
+    then some (alloc (arg ws 1) (arg ws 2) (arg ws 3) (arg ws 4) (offerOf (getD ws 5 [])))
+    else if eqb l 112 && eqb (length ws) 1 && numbersTo 1 ws then some prepare
+    else if eqb l 109 && eqb (length ws) 3 && numbersTo 3 ws then some (mark (arg ws 1) (arg ws 2))
+    else if eqb l 114 && eqb (length ws) 2 && numbersTo 2 ws then some (release (arg ws 1))
+    else if eqb l 115 && eqb (length ws) 1 && numbersTo 1 ws then some sharedRelease
+    else none
 
 pub line-letter : (ws : List (List ℕ)) (l : ℕ) → letterOf (getD ws 0 []) ≡ l → lineBy l ws ≡ lineOf ws
 unfolding lineOf isLine isAlloc lineBy
@@ -95,7 +95,7 @@ line-letter ws l e =
 
 -- a letter of no line
 pub line-other : (ws : List (List ℕ)) (l : ℕ) → letterOf (getD ws 0 []) ≡ l → (l ≡ 98 → ⊥) → (l ≡ 100 → ⊥) → (l ≡ 97 → ⊥)
-    → (l ≡ 112 → ⊥) → (l ≡ 109 → ⊥) → (l ≡ 114 → ⊥) → (l ≡ 115 → ⊥) → badLine ≡ lineOf ws
+    → (l ≡ 112 → ⊥) → (l ≡ 109 → ⊥) → (l ≡ 114 → ⊥) → (l ≡ 115 → ⊥) → none ≡ lineOf ws
 unfolding lineBy
 line-other ws l e b d a p m r s =
     rw (← (line-letter ws l e), ne-eqb l 98 b, ne-eqb l 100 d, ne-eqb l 97 a, ne-eqb l 112 p, ne-eqb l 109 m, ne-eqb l 114 r, ne-eqb l 115 s)
@@ -126,36 +126,36 @@ module _ (ws : List (List ℕ)) where
       allBelow-off (n - 1) _ (k - 1) (omega arith)
       (ap (λ (i : ℕ). isNumber (getD ws i [])) j ∙ no-number (getD ws k []) (sym e ∙ g))
 
-  pub asked-count : (n : ℕ) (c : Call) → (length ws ≡ n → ⊥) → badLine ≡ asked n ws c
+  pub asked-count : (n : ℕ) (c : Call) → (length ws ≡ n → ⊥) → none ≡ asked n ws c
   unfolding asked
   asked-count n c e = rw (ne-eqb (length ws) n e)
 
-  pub asked-off : (n k : ℕ) (c : Call) (r : Number) → r ≡ numberOf (getD ws k []) → r ≡ None → 0 < k → k < n → badLine ≡ asked n ws c
+  pub asked-off : (n k : ℕ) (c : Call) (r : Number) → r ≡ numberOf (getD ws k []) → r ≡ None → 0 < k → k < n → none ≡ asked n ws c
   unfolding asked
   asked-off n k c r e g l m = rw (numbers-off n k r e g l m, and-second (eqb (length ws) n) {b = false} refl)
 
-  pub asked-one : (c : Call) → length ws ≡ 1 → asks c ≡ asked 1 ws c
+  pub asked-one : (c : Call) → length ws ≡ 1 → some c ≡ asked 1 ws c
   unfolding asked numbersTo allBelow
   asked-one c e = rw e
 
-  pub asked-two : (f : ℕ → Call) (r : Number) (h : ℕ) → r ≡ oneNumber ws → r ≡ Value h → asks (f h) ≡ askedOne f ws
+  pub asked-two : (f : ℕ → Call) (r : Number) (h : ℕ) → r ≡ oneNumber ws → r ≡ Value h → some (f h) ≡ askedOne f ws
   unfolding asked numbersTo allBelow oneNumber
   asked-two f r h e g = go (test (eqb (length ws) 2))
     where
-      go : (eqb (length ws) 2 ≡ true) ⊎ (eqb (length ws) 2 ≡ false) → asks (f h) ≡ asked 2 ws (f (arg ws 1))
+      go : (eqb (length ws) 2 ≡ true) ⊎ (eqb (length ws) 2 ≡ false) → some (f h) ≡ asked 2 ws (f (arg ws 1))
       go (inl y) = let a = said 1 r h (rw y at e) g in rw (y, a .0, a .1)
       go (inr z) = absurd (let q : None ≡ Value h = sym (rw z at e) ∙ g in let z : _≡_ {A = ℕ} 0 1 = cc in omega arith)
 
-  pub asked-two-off : (c : Call) (r : Number) → r ≡ oneNumber ws → r ≡ None → badLine ≡ asked 2 ws c
+  pub asked-two-off : (c : Call) (r : Number) → r ≡ oneNumber ws → r ≡ None → none ≡ asked 2 ws c
   unfolding oneNumber
   asked-two-off c r e g = go (test (eqb (length ws) 2))
     where
-      go : (eqb (length ws) 2 ≡ true) ⊎ (eqb (length ws) 2 ≡ false) → badLine ≡ asked 2 ws c
+      go : (eqb (length ws) 2 ≡ true) ⊎ (eqb (length ws) 2 ≡ false) → none ≡ asked 2 ws c
       go (inl y) = asked-off 2 1 c r (rw y at e) g (omega arith) (omega arith)
       go (inr z) = asked-count 2 c (eqb-false (length ws) 2 z)
 
   pub asked-mark : (r q : Number) (a b : ℕ) → length ws ≡ 3 → r ≡ numberOf (getD ws 1 []) → r ≡ Value a
-      → q ≡ numberOf (getD ws 2 []) → q ≡ Value b → asks (mark a b) ≡ markAsked ws
+      → q ≡ numberOf (getD ws 2 []) → q ≡ Value b → some (mark a b) ≡ markAsked ws
   unfolding asked numbersTo allBelow
   asked-mark r q a b n e g e′ g′ =
       let s₁ = said 1 r a e g in
@@ -164,11 +164,11 @@ module _ (ws : List (List ℕ)) where
 
   -- ---- an alloc
 
-  pub alloc-count : (length ws ≡ 6 → ⊥) → badLine ≡ allocAsked ws
+  pub alloc-count : (length ws ≡ 6 → ⊥) → none ≡ allocAsked ws
   unfolding allocAsked
   alloc-count e = rw (ne-eqb (length ws) 6 e)
 
-  pub alloc-off : (k : ℕ) (r : Number) → r ≡ numberOf (getD ws k []) → r ≡ None → 0 < k → k < 5 → badLine ≡ allocAsked ws
+  pub alloc-off : (k : ℕ) (r : Number) → r ≡ numberOf (getD ws k []) → r ≡ None → 0 < k → k < 5 → none ≡ allocAsked ws
   unfolding allocAsked
   alloc-off k r e g l m = rw (numbers-off 5 k r e g l m, and-second (eqb (length ws) 6) {b = false} refl)
 
@@ -193,7 +193,7 @@ module _ (ws : List (List ℕ)) where
       go false true e′ = (refl, cc)
       go false false e′ = absurd (let z : _≡_ {A = ℕ} 0 1 = cc in omega arith)
 
-  pub alloc-offer : (r : Offered) → r ≡ offered (getD ws 5 []) → r ≡ NoOffer → badLine ≡ allocAsked ws
+  pub alloc-offer : (r : Offered) → r ≡ offered (getD ws 5 []) → r ≡ NoOffer → none ≡ allocAsked ws
   unfolding allocAsked
   alloc-offer r e g =
       rw (offer-none (sym e ∙ g), and-second (eqb (length ws) 6 && numbersTo 5 ws) {b = false} refl)
@@ -206,7 +206,7 @@ module _ (ws : List (List ℕ)) where
     pub fourth : (isNumber (getD ws 4 []) ≡ true) × (arg ws 4 ≡ offset)
 
   pub asked-alloc : (h size align offset : ℕ) (o : Offer) (r : Offered) → length ws ≡ 6 → Said h size align offset
-      → r ≡ offered (getD ws 5 []) → r ≡ Gives o → asks (alloc h size align offset o) ≡ allocAsked ws
+      → r ≡ offered (getD ws 5 []) → r ≡ Gives o → some (alloc h size align offset o) ≡ allocAsked ws
   unfolding allocAsked numbersTo allBelow
   asked-alloc h size align offset o r n s e g =
       let p = offer-some o (sym e ∙ g) in

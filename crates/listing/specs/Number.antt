@@ -11,9 +11,9 @@ use lib.ListN.{length, getD, drop, drop-of-length-le}
 use lib.Seq.{drop-cons}
 use borrow.Author.Tests.{ltb-true, ltb-false, lt-ltb, le-ltb, eq-eqb, ne-eqb, le-leb, lt-leb}
 use Rattle.model.specs.Base.{if_then_else_, allBelow}
-use Rattle.model.specs.Census.{isDigit, valueFrom, valueOf, isNumber}
+use Rattle.model.specs.Census.{isDigit, valueOf, isNumber}
 use Rattle.laws.specs.Below.{test, and-second, or-right}
-use Rattle.laws.specs.Text.{allDigits, all-digits, value-ge}
+use Rattle.laws.specs.Text.{allDigits, all-digits, valueFrom, value-ge}
 use Rattle.listing.specs.declared.Number.{Number}
 use Rattle.listing.specs.declared.Number.the-variants.{Value, None}
 
@@ -63,7 +63,7 @@ read-none [] = refl
 read-none (c ∷ cs) = read-none cs
 
 read-whole : (v : ℕ) (cs : List ℕ) → v < 2 ^ 64 → readOn cs (Value v) ≡ whole v cs
-unfolding readOn whole allDigits valueFrom pushed pushDigit
+unfolding readOn whole allDigits pushed pushDigit
 read-whole v [] l = rw (lt-ltb v (2 ^ 64) l)
 read-whole v (c ∷ cs) l =
     go (isDigit c) (test (ltb (10 * v + (c - 48)) (2 ^ 64))) (λ m. read-whole (10 * v + (c - 48)) cs m)

@@ -1,13 +1,13 @@
 -- What the printing functions put, piece by piece. Assumes nothing.
 use mathlib.Core.Path.{_≡_, refl, sym, ap, _∙_}
-use mathlib.Core.List.{List, [], _∷_, _++_, append-assoc, map}
+use mathlib.Core.List.{List, [], _∷_, _++_, append-assoc, map, flatten}
 use Prim.Native.Nat.{ℕ, zero, suc, _+_, _-_, _/_, _%_, _≤_, _<_, min}
 use native.Mathlib.Numerals.{add-one}
 use native.Mathlib.Omega.{arith}
 use lib.ListN.{length, getD, take, drop, drop-of-length-le}
 use lib.Seq.{take-suc, take-all, drop-cons}
 use borrow.Author.Tests.{lt-ltb, le-ltb}
-use Rattle.model.specs.Census.{newline, space, digits, decimal, spaced, joined, section, RefusedLine, refusedRow}
+use Rattle.model.specs.Census.{newline, space, digits, decimal, spaced, section, RefusedLine, refusedRow}
 use Rattle.laws.specs.Text.{Printed, printed-nil, printed-append, Remains, remains-round, remains-end}
 
 -- the same text, written otherwise
@@ -68,14 +68,14 @@ row-last w p = retext (spaced-one w) p
 -- ---- a section: its head, then its rows one after the other
 
 pub print-section : (name : List ℕ) (rows : List (List ℕ)) (n : ℕ) {h h′ h″ : List ℕ} {at q r : ℕ} → n ≡ length rows
-    → Printed h h′ at q (spaced (name ∷ decimal n ∷ [])) → Printed h′ h″ q r (joined rows) → Printed h h″ at r (section name rows)
+    → Printed h h′ at q (spaced (name ∷ decimal n ∷ [])) → Printed h′ h″ q r (flatten rows) → Printed h h″ at r (section name rows)
 unfolding section
 print-section name rows n e p q = printed-append (rw e at p) q
 
 pub rows-round : (x : List ℕ) (xs : List (List ℕ)) {h h′ h″ : List ℕ} {at at′ at″ : ℕ} {whole : List ℕ}
-    → Remains h h′ at at′ whole (joined (x ∷ xs)) → Printed h′ h″ at′ at″ x → Remains h h″ at at″ whole (joined xs)
-unfolding joined
-rows-round x xs i p = remains-round (joined xs) i p
+    → Remains h h′ at at′ whole (flatten (x ∷ xs)) → Printed h′ h″ at′ at″ x → Remains h h″ at at″ whole (flatten xs)
+unfolding flatten
+rows-round x xs i p = remains-round (flatten xs) i p
 
 -- ---- the refused lines, kept as two lists of numbers
 
@@ -97,14 +97,14 @@ refused-count (l ∷ ls) (n ∷ ns) = omega (arith, refused-count ls ns)
 -- a loop over them: what is left from i on, printed here, makes all printed there
 abbrev pub RefusedLeft : List ℕ → List ℕ → List ℕ → List ℕ → ℕ → ℕ → ℕ → Type 0
 RefusedLeft ls ns h h′ at at′ i =
-    Remains h h′ at at′ (joined (refusedRows ls ns)) (joined (refusedRows (drop i ls) (drop i ns)))
+    Remains h h′ at at′ (flatten (refusedRows ls ns)) (flatten (refusedRows (drop i ls) (drop i ns)))
 
-none : (ns : List ℕ) → joined (refusedRows [] ns) ≡ []
-unfolding joined refusedRows refusedFrom
+none : (ns : List ℕ) → flatten (refusedRows [] ns) ≡ []
+unfolding flatten refusedRows refusedFrom
 none ns = refl
 
-nothing : (ls : List ℕ) → joined (refusedRows ls []) ≡ []
-unfolding joined refusedRows refusedFrom
+nothing : (ls : List ℕ) → flatten (refusedRows ls []) ≡ []
+unfolding flatten refusedRows refusedFrom
 nothing [] = refl
 nothing (l ∷ ls) = refl
 
@@ -115,8 +115,8 @@ module _ (ls ns : List ℕ) {h h′ : List ℕ} {at at′ : ℕ} (i : ℕ) (r : 
   refused-round l m p =
       rw (add-one i) (rows-round _ (refusedRows (drop (suc i) ls) (drop (suc i) ns)) (rw (drop-cons ls i 0 l, drop-cons ns i 0 m) at r) p)
 
-  pub refused-over : length ns ≤ i → Printed h h′ at at′ (joined (refusedRows ls ns))
+  pub refused-over : length ns ≤ i → Printed h h′ at at′ (flatten (refusedRows ls ns))
   refused-over m = remains-end (rw (drop-of-length-le ns m, nothing (drop i ls)) at r)
 
-  pub refused-end : length ls ≤ i → Printed h h′ at at′ (joined (refusedRows ls ns))
+  pub refused-end : length ls ≤ i → Printed h h′ at at′ (flatten (refusedRows ls ns))
   refused-end l = remains-end (rw (drop-of-length-le ls l, none (drop i ns)) at r)

@@ -1,10 +1,10 @@
 // The bytes of a listing, put into a lent buffer from a place on. Each answers the place behind what it put; what does not
 // fit is not written, and the place then stops at the end.
-ghost use mathlib.Core.List.{[], _∷_, _++_};
+ghost use mathlib.Core.List.{[], _∷_, _++_, flatten};
 ghost use mathlib.Core.Path.{_≡_};
 ghost use Prim.Native.Nat.{_+_, _<_, min};
 ghost use lib.ListN.{getD};
-ghost use Rattle.model.specs.Census.{digits, decimal, spaced, joined, section, letter};
+ghost use Rattle.model.specs.Census.{digits, decimal, spaced, section, letter};
 ghost use Rattle.laws.specs.Text.{Printed};
 ghost use Rattle.listing.specs.Print.{refusedRows};
 
@@ -121,7 +121,7 @@ fn smaller(a: usize, b: usize) -> usize
 }
 
 fn refused_rows(out: &mut [u8], at: usize, lines: &[usize], numbers: &[usize]) -> usize
-    ensures { λ r. ⌜ Printed (now (out .entry)) (now (out .exit)) at r (joined (refusedRows (now (lines .entry)) (now (numbers .entry)))) ⌝ }
+    ensures { λ r. ⌜ Printed (now (out .entry)) (now (out .exit)) at r (flatten (refusedRows (now (lines .entry)) (now (numbers .entry)))) ⌝ }
 {
     let mut place = at;
     let mut i: usize = 0;

@@ -17,25 +17,20 @@ use Rattle.model.specs.Calls.{Reply, answered, refused}
 
 -- set-up, bind, destroy, prepare
 unfoldable pub replyOf : Answer → Reply
-replyOf Simple.Done = answered []
-replyOf (Simple.Refused r) = refused r
+replyOf = elim [ Simple.Done ↦ answered [] | Simple.Refused r ↦ refused r ]
 
 -- alloc: address, cell size, whether the offer was used, blocks swept
 unfoldable pub allocReply : AllocAnswer → Reply
-allocReply (Alloc.Served a size fresh swept) = answered (a .0 ∷ size ∷ flag fresh ∷ swept ∷ [])
-allocReply (Alloc.Refused r) = refused r
+allocReply = elim [ Alloc.Served a size fresh swept ↦ answered (a .0 ∷ size ∷ flag fresh ∷ swept ∷ []) | Alloc.Refused r ↦ refused r ]
 
 -- mark: whether it was new
 unfoldable pub markReply : MarkAnswer → Reply
-markReply (Mark.Marked new) = answered (flag new ∷ [])
-markReply (Mark.Refused r) = refused r
+markReply = elim [ Mark.Marked new ↦ answered (flag new ∷ []) | Mark.Refused r ↦ refused r ]
 
 -- release and shared release: the blocks released
 unfoldable pub releaseReply : ReleaseAnswer → Reply
-releaseReply (Release.Released n) = answered (n ∷ [])
-releaseReply (Release.Refused r) = refused r
+releaseReply = elim [ Release.Released n ↦ answered (n ∷ []) | Release.Refused r ↦ refused r ]
 
 -- pages used
 unfoldable pub pagesReply : PagesAnswer → Reply
-pagesReply (Pages.Pages n) = answered (n ∷ [])
-pagesReply (Pages.Refused r) = refused r
+pagesReply = elim [ Pages.Pages n ↦ answered (n ∷ []) | Pages.Refused r ↦ refused r ]

@@ -29,10 +29,6 @@ unfoldable pub filter : {A : Type 0} → (A → Bool) → List A → List A
 filter f [] = []
 filter f (x ∷ l) = if f x then (x ∷ filter f l) else filter f l
 
-unfoldable pub count : {A : Type 0} → (A → Bool) → List A → ℕ
-count f [] = 0
-count f (x ∷ l) = if f x then suc (count f l) else count f l
-
 unfoldable pub sumBelow : ℕ → (ℕ → ℕ) → ℕ
 sumBelow zero f = 0
 sumBelow (suc n) f = f n + sumBelow n f
@@ -44,8 +40,7 @@ eachBelow (suc n) f x = f n (eachBelow n f x)
 
 -- a yes as 1
 unfoldable pub flag : Bool → ℕ
-flag true = 1
-flag false = 0
+flag = elim [ true ↦ 1 | false ↦ 0 ]
 
 -- x is an element of the list, as a type
 unfoldable pub In : {A : Type 0} → A → List A → Type 0

@@ -2,7 +2,7 @@
 -- A chain is the list of its cells' addresses, the free head first.
 use Prim.Native.Nat.{ℕ, zero, suc, _+_, _-_, _*_, _/_, _%_}
 use mathlib.Core.Bool.{Bool, true, false, not, _&&_}
-use mathlib.Core.List.{List, [], _∷_}
+use mathlib.Core.List.{List, [], _∷_, headD}
 use lib.Dec.{eqb, ltb, leb}
 use lib.ListN.{getD, set}
 use Rattle.model.specs.declared.Params.{Params}
@@ -39,15 +39,10 @@ cellsDown kept from s zero = []
 cellsDown kept from s (suc k) =
     if kept (from + k * s) then cellsDown kept from s k else ((from + k * s) ∷ cellsDown kept from s k)
 
--- the address of a chain's first cell, 0 for none
-unfoldable pub headOf : List ℕ → ℕ
-headOf [] = 0
-headOf (a ∷ l) = a
-
--- each cell of the chain holds the address of the next: all that init or a sweep writes into the heap
+-- each cell of the chain holds the address of the next, 0 at its end: all that init or a sweep writes into the heap
 unfoldable pub linkAll : Params → List ℕ → List ℕ → List ℕ
 linkAll p [] h = h
-linkAll p (a ∷ l) h = store p (linkAll p l h) a (headOf l)
+linkAll p (a ∷ l) h = store p (linkAll p l h) a (headD l 0)
 
 -- ---- init
 
@@ -57,7 +52,7 @@ initChain p b s = cellsDown (λ a. false) (start p b) s (cellCount p s)
 
 -- the words of a block after init, by the holder h
 unfoldable pub initBlock : Params → ℕ → ℕ → ℕ → Words → Words
-initBlock p b s h t = setTls b h (setSize b s (setFree b (headOf (initChain p b s)) t))
+initBlock p b s h t = setTls b h (setSize b s (setFree b (headD (initChain p b s) 0) t))
 
 -- ---- sweeps
 
@@ -78,7 +73,7 @@ sweepChain p ms b s = cellsDown (keeps p (marked p ms) s) (start p b) s (cellCou
 
 -- "A sweep writes only the first word of freed cells and the free head": the words after a sweep of b
 unfoldable pub sweptWords : Params → List ℕ → ℕ → Words → Words
-sweptWords p ms b t = setFree b (headOf (sweepChain p ms b (getD (t .size) b 0))) t
+sweptWords p ms b t = setFree b (headD (sweepChain p ms b (getD (t .size) b 0)) 0) t
 
 -- ---- release: all words of the block are 0 again, and so is its state
 

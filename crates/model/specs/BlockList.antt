@@ -12,17 +12,12 @@ use Rattle.model.specs.Params.{start, blockAt, isStart, listWord}
 use Rattle.model.specs.Tables.{Words, setFirst, setLast, setNext, setPrev, setList}
 
 -- "push adds at the head": the only block of an empty list, or before its head
-unfoldable pub pushOnly : Params → ℕ → ℕ → Words → Words
-pushOnly p l b t =
-    setList b (listWord l) (setLast l (start p b) (setFirst l (start p b) (setPrev b 0 (setNext b 0 t))))
-
-unfoldable pub pushAhead : Params → ℕ → ℕ → ℕ → Words → Words
-pushAhead p l b head t =
-    setList b (listWord l)
-    (setFirst l (start p b) (setPrev b 0 (setPrev (blockAt p head) (start p b) (setNext b head t))))
-
 unfoldable pub push : Params → ℕ → ℕ → Words → Words
-push p l b t = if eqb (getD (t .first) l 0) 0 then pushOnly p l b t else pushAhead p l b (getD (t .first) l 0) t
+push p l b t =
+    let a : ℕ = start p b in
+    let head : ℕ = getD (t .first) l 0 in
+    if eqb head 0 then setList b (listWord l) (setLast l a (setFirst l a (setPrev b 0 (setNext b 0 t))))
+    else setList b (listWord l) (setFirst l a (setPrev b 0 (setPrev (blockAt p head) a (setNext b head t))))
 
 -- what pop gives: the address of the block taken off, 0 for none, and the words after
 pub record Popped : Type 0 where
@@ -32,22 +27,17 @@ pub record Popped : Type 0 where
 abbrev pub popped : ℕ → Words → Popped
 popped a t = record { at = a; words = t }
 
--- "pop takes the head": h, which was the only block, or which `next` follows
-unfoldable pub popOnly : ℕ → ℕ → Words → Words
-popOnly l h t = setPrev h 0 (setNext h 0 (setLast l 0 (setFirst l 0 t)))
-
-unfoldable pub popAhead : Params → ℕ → ℕ → ℕ → Words → Words
-popAhead p l h next t =
-    setPrev h 0 (setNext h 0 (setList (blockAt p next) (listWord l) (setPrev (blockAt p next) 0 (setFirst l next t))))
-
-unfoldable pub popAt : Params → ℕ → ℕ → Words → Words
-popAt p l h t =
-    if eqb (getD (t .next) h 0) 0 then popOnly l h t else popAhead p l h (getD (t .next) h 0) t
+-- "pop takes the head": b, which was the only block, or which `next` follows
+unfoldable pub popHead : Params → ℕ → ℕ → ℕ → Words → Words
+popHead p l b next t =
+    if eqb next 0 then setPrev b 0 (setNext b 0 (setLast l 0 (setFirst l 0 t)))
+    else setPrev b 0 (setNext b 0 (setList (blockAt p next) (listWord l) (setPrev (blockAt p next) 0 (setFirst l next t))))
 
 unfoldable pub pop : Params → ℕ → Words → Popped
 pop p l t =
-    if eqb (getD (t .first) l 0) 0 then popped 0 t
-    else popped (getD (t .first) l 0) (popAt p l (blockAt p (getD (t .first) l 0)) t)
+    let head : ℕ = getD (t .first) l 0 in
+    if eqb head 0 then popped 0 t
+    else popped head (popHead p l (blockAt p head) (getD (t .next) (blockAt p head) 0) t)
 
 -- the block b, between prev and next, is taken out of the list l; its own words stay
 unfoldable pub removeBetween : Params → ℕ → ℕ → ℕ → Words → Words

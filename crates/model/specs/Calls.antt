@@ -54,15 +54,13 @@ refused r = record { number = refusalNumber r; values = [] }
 
 -- holders, sizes, places and block numbers are as they come
 pub data Call : Type 0 where
-  bind : ℕ → Call
-  destroy : ℕ → Call
+  -- the holder
+  bind destroy release : ℕ → Call
   -- holder, size, align, offset, offer
   alloc : ℕ → ℕ → ℕ → ℕ → Offer → Call
-  prepare : Call
   -- place and block
   mark : ℕ → ℕ → Call
-  release : ℕ → Call
-  sharedRelease : Call
+  prepare sharedRelease : Call
 
 -- how a call ends: by a reply, or by taking a cell of a block, for this align and offset, the offer used or not
 pub data End : Type 0 where
@@ -95,8 +93,7 @@ tooBig p size align = ltb (p .bytes) (raised p size align)
 
 -- "BadOffer: offer out of range or not Unallocated, even if not needed"
 unfoldable pub goodOffer : Params → Tables → Offer → Bool
-goodOffer p t Nothing = true
-goodOffer p t (Fresh b) = ltb (b .0) (p .blocks) && eqb (stateOf t (b .0)) Unallocated
+goodOffer p t = elim [ Nothing ↦ true | Fresh b ↦ ltb (b .0) (p .blocks) && eqb (stateOf t (b .0)) Unallocated ]
 
 -- "BadObject: mark place not in the heap at a multiple of 8, block out of range or Unallocated, or place − L outside that
 -- block"
@@ -111,11 +108,8 @@ goodObject p t place b =
 -- a search's plan: "Exhausted: no cell found and no offer"
 unfoldable pub takePlan : Params → ℕ → ℕ → Search → Plan
 takePlan p align offset s =
-    record {
-      tables = s .tables;
-      events = s .events;
-      end = if eqb (s .at) 0 then says (refused Exhausted) else takes (blockAt p (s .at)) align offset (s .fresh);
-    }
+    let end : End = if eqb (s .at) 0 then says (refused Exhausted) else takes (blockAt p (s .at)) align offset (s .fresh) in
+    record { tables = s .tables; events = s .events; end = end }
 
 unfoldable pub planAlloc : Params → Tables → ℕ → ℕ → ℕ → ℕ → Offer → Plan
 planAlloc p t h size align offset offer =
@@ -133,11 +127,8 @@ mayRelease w = eqb (w .phase) Marking || eqb (w .phase) Releasing
 -- blocks were released, and so a part is done
 unfoldable pub releasePlan : Params → ℕ → Tables → Freed → Plan
 releasePlan p part t f =
-    record {
-      tables = tablesOf (partReleased p part (f .words)) (f .states) (t .marks);
-      events = f .events;
-      end = says (answered (releases (f .events) ∷ []));
-    }
+    let tables : Tables = tablesOf (partReleased p part (f .words)) (f .states) (t .marks) in
+    record { tables = tables; events = f .events; end = says (answered (releases (f .events) ∷ [])) }
 
 unfoldable pub planSound : Params → Tables → Call → Plan
 planSound p t (bind h) =
@@ -183,13 +174,11 @@ unfoldable pub takeCell : Params → Tables → List Event → List ℕ → ℕ 
 takeCell p t es h b align offset fresh =
     let cell : ℕ = getD (t .words .free) b 0 in
     let size : ℕ = getD (t .words .size) b 0 in
-    if linkOk p (t .words) b (load p h cell)
-    then record {
-      reply = answered (alignAllocation cell align offset ∷ size ∷ flag fresh ∷ sweeps es ∷ []);
-      tables = withWords (setFree b (load p h cell) (t .words)) t;
-      heap = eventHeap p (taken cell size) h;
-      events = es ++ (taken cell size ∷ []);
-    }
+    let next : ℕ = load p h cell in
+    let reply : Reply = answered (alignAllocation cell align offset ∷ size ∷ flag fresh ∷ sweeps es ∷ []) in
+    let t′ : Tables = withWords (setFree b next (t .words)) t in
+    let e : Event = taken cell size in
+    if linkOk p (t .words) b next then record { reply = reply; tables = t′; heap = eventHeap p e h; events = es ++ (e ∷ []) }
     else record { reply = refused BadLink; tables = t; heap = h; events = es }
 
 unfoldable pub finish : Params → Tables → List Event → List ℕ → End → Step

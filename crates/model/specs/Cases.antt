@@ -2,26 +2,26 @@
 use Prim.Native.Nat.{ℕ, suc, _-_, _*_}
 use mathlib.Core.Path.{_≡_, refl}
 use mathlib.Core.Bool.{Bool, true, false, _&&_, _||_}
-use mathlib.Core.List.{List, [], _∷_}
+use mathlib.Core.List.{List, [], _∷_, headD, flatten, flatMap}
 use lib.Count.{leadingZeros}
 use lib.Dec.{eqb, ltb, leb}
 use lib.IntN.{pos}
 use lib.ListN.{replicate}
 use Rattle.model.specs.declared.Params.{Params}
 use Rattle.model.specs.declared.Offer.the-variants.{Fresh}
-use Rattle.model.specs.Base.{allBelow, anyBelow, member, filter, count, eachBelow, flag}
-use Rattle.model.specs.Params.{Lent, powerOfTwo, lowerOk, isZero, biased, plusLower, minusLower, heapBytes, heapEnd, goodParams, wordCount, fits, start, blockAt, inHeap, isStart, listOf, listWord, localSets, available, unswept, consumed}
+use Rattle.model.specs.Base.{allBelow, anyBelow, member, filter, eachBelow, flag}
+use Rattle.model.specs.Params.{Lent, powerOfTwo, lowerOk, biased, plusLower, minusLower, heapBytes, heapEnd, goodParams, wordCount, fits, start, blockAt, inHeap, isStart, listOf, listWord, localSets, available, unswept, consumed}
 use Rattle.model.specs.Memory.{loadBytes, bytesOf, overwrite, load, store, zeroed, bitOf, setBit, markIndex, marked, setMark, cleared}
 use Rattle.model.specs.Tables.{Words, view, flat, setFirst, setLast, setBound, setReleased, setNext, setPrev, setFree, setSize, setList, setTls, setPhase, withReleased}
 use Rattle.model.specs.SizeClasses.{fours, classWords, cellBytes, wordsIn, highestBit, binInOctave, binOf, raised, shift, alignAllocation}
-use Rattle.model.specs.BlockList.{pushOnly, pushAhead, push, popOnly, popAhead, popAt, pop, removeBetween, remove, relabel, link, append, walk, blocksOn}
-use Rattle.model.specs.Block.{cellCount, isCell, cellsDown, headOf, linkAll, initChain, initBlock, simple, keeps, sweepChain, sweptWords, clearBlock, chainFrom, freeChain}
+use Rattle.model.specs.BlockList.{push, popHead, pop, removeBetween, remove, relabel, link, append, walk, blocksOn}
+use Rattle.model.specs.Block.{cellCount, isCell, cellsDown, linkAll, initChain, initBlock, simple, keeps, sweepChain, sweptWords, clearBlock, chainFrom, freeChain}
 use Rattle.model.specs.Events.{eventHeap, eventsHeap, isSweep, isRelease, sweeps, releases}
 use Rattle.model.specs.FreeListAllocator.{findFreeBlockWith, recycleLocalBlocks, acquireAbandoned, acquireFresh, findBlock}
-use Rattle.model.specs.Global.{freshWords, freshTables, isHolder, isBound, bindHolder, abandonBin, abandonBlocks, destroyHolder, unmarkedState, prepared, markPlace, releaseFrom, releaseBlocks, appendTo, releaseBin, releaseHolder, sweepLaterBin, sweepLater, hasReleased, allReleased, mergeBin, merge, partReleased}
-use Rattle.model.specs.Sound.{stateOf, stateKnown, blockClear, listNamed, binNamed, setNamed, onListNamed, sizeOk, linkOk, tlsOk, blockSound, linkedFrom, linked, isEmpty, ownerEmpty, unboundEmpty, inGcEmpty, phaseKnown, flagsKnown, releasedFew, releasedSome, releasedEmpty, sound}
+use Rattle.model.specs.Global.{freshWords, freshTables, isHolder, isBound, bindHolder, abandonBin, abandonBlocks, destroyHolder, unmarkedState, prepared, markPlace, releaseFrom, releaseBlocks, appendTo, releaseBin, releaseHolder, sweepLaterBin, sweepLater, hasReleased, allReleased, partReleased}
+use Rattle.model.specs.Sound.{stateOf, stateKnown, blockClear, listNamed, binNamed, setNamed, onListNamed, sizeOk, linkOk, tlsOk, blockSound, linkedFrom, linked, ownerEmpty, unboundEmpty, inGcEmpty, phaseKnown, flagsKnown, releasedFew, releasedSome, releasedEmpty, sound}
 use Rattle.model.specs.Calls.{Reply, bind, alloc, refusalNumber, goodRequest, tooBig, goodOffer, goodObject, takePlan, planAlloc, mayRelease, releasePlan, planSound, plan, takeCell, finish, step, call, setUp}
-use Rattle.model.specs.Census.{before, pieces, dropBlankEnd, linesOf, isDigit, valueFrom, valueOf, isNumber, isWord, numbersTo, isLine, arg, isAlloc, offerOf, lineOf, censusParams, censusLent, lineResult, runLines, digits, decimal, spaced, joined, section, refusedRow, upTo, occupied, letter, blockRow, freeRows, allFreeRows, listing, census}
+use Rattle.model.specs.Census.{before, pieces, dropBlankEnd, linesOf, isDigit, valueOf, isNumber, isWord, numbersTo, isLine, arg, isAlloc, offerOf, lineOf, censusParams, censusLent, lineResult, runLines, digits, decimal, spaced, section, refusedRow, upTo, occupied, letter, blockRow, freeRows, listing, census}
 
 -- what the definitions give, and what 01 says
 pub record Case : Type 0 where
@@ -99,7 +99,7 @@ allRight [] = true
 allRight (c ∷ cs) = same (c .got) (c .want) && allRight cs
 
 pub cases-hold : allRight cases ≡ true
-unfolding cases allRight same firstAlloc leadingZeros allBelow anyBelow member filter count eachBelow flag powerOfTwo lowerOk isZero biased plusLower minusLower heapBytes heapEnd goodParams wordCount fits start blockAt inHeap isStart listOf listWord localSets available unswept consumed loadBytes bytesOf overwrite load store zeroed bitOf setBit markIndex marked setMark cleared view flat setFirst setLast setBound setReleased setNext setPrev setFree setSize setList setTls setPhase withReleased fours classWords cellBytes wordsIn highestBit binInOctave binOf raised shift alignAllocation pushOnly pushAhead push popOnly popAhead popAt pop removeBetween remove relabel link append walk blocksOn cellCount isCell cellsDown headOf linkAll initChain initBlock simple keeps sweepChain sweptWords clearBlock chainFrom freeChain eventHeap eventsHeap isSweep isRelease sweeps releases findFreeBlockWith recycleLocalBlocks acquireAbandoned acquireFresh findBlock freshWords freshTables isHolder isBound bindHolder abandonBin abandonBlocks destroyHolder unmarkedState prepared markPlace releaseFrom releaseBlocks appendTo releaseBin releaseHolder sweepLaterBin sweepLater hasReleased allReleased mergeBin merge partReleased stateOf stateKnown blockClear listNamed binNamed setNamed onListNamed sizeOk linkOk tlsOk blockSound linkedFrom linked isEmpty ownerEmpty unboundEmpty inGcEmpty phaseKnown flagsKnown releasedFew releasedSome releasedEmpty sound refusalNumber goodRequest tooBig goodOffer goodObject takePlan planAlloc mayRelease releasePlan planSound plan takeCell finish step call setUp before pieces dropBlankEnd linesOf isDigit valueFrom valueOf isNumber isWord numbersTo isLine arg isAlloc offerOf lineOf censusParams censusLent lineResult runLines digits decimal spaced joined section refusedRow upTo occupied letter blockRow freeRows allFreeRows listing census
+unfolding cases allRight same firstAlloc leadingZeros allBelow anyBelow member filter eachBelow flag powerOfTwo lowerOk biased plusLower minusLower heapBytes heapEnd goodParams wordCount fits start blockAt inHeap isStart listOf listWord localSets available unswept consumed loadBytes bytesOf overwrite load store zeroed bitOf setBit markIndex marked setMark cleared view flat setFirst setLast setBound setReleased setNext setPrev setFree setSize setList setTls setPhase withReleased fours classWords cellBytes wordsIn highestBit binInOctave binOf raised shift alignAllocation push popHead pop headD removeBetween remove relabel link append walk blocksOn cellCount isCell cellsDown linkAll initChain initBlock simple keeps sweepChain sweptWords clearBlock chainFrom freeChain eventHeap eventsHeap isSweep isRelease sweeps releases findFreeBlockWith recycleLocalBlocks acquireAbandoned acquireFresh findBlock freshWords freshTables isHolder isBound bindHolder abandonBin abandonBlocks destroyHolder unmarkedState prepared markPlace releaseFrom releaseBlocks appendTo releaseBin releaseHolder sweepLaterBin sweepLater hasReleased allReleased partReleased stateOf stateKnown blockClear listNamed binNamed setNamed onListNamed sizeOk linkOk tlsOk blockSound linkedFrom linked ownerEmpty unboundEmpty inGcEmpty phaseKnown flagsKnown releasedFew releasedSome releasedEmpty sound refusalNumber goodRequest tooBig goodOffer goodObject takePlan planAlloc mayRelease releasePlan planSound plan takeCell finish step call setUp before pieces dropBlankEnd linesOf isDigit valueOf isNumber isWord numbersTo isLine arg isAlloc offerOf lineOf censusParams censusLent lineResult runLines digits decimal spaced section refusedRow upTo occupied letter blockRow freeRows flatten flatMap listing census
 cases-hold = refl
 
 -- the whole rule of the classes, once over all counts of words
@@ -108,5 +108,5 @@ unfolding classesRight leastClass allBelow binOf cellBytes classWords fours word
 classes-hold = refl
 
 pub example-holds : same (census exampleTrace) exampleListing ≡ true
-unfolding same exampleTrace exampleListing leadingZeros allBelow anyBelow member filter count eachBelow flag powerOfTwo lowerOk isZero biased plusLower minusLower heapBytes heapEnd goodParams wordCount fits start blockAt inHeap isStart listOf listWord localSets available unswept consumed loadBytes bytesOf overwrite load store zeroed bitOf setBit markIndex marked setMark cleared view flat setFirst setLast setBound setReleased setNext setPrev setFree setSize setList setTls setPhase withReleased fours classWords cellBytes wordsIn highestBit binInOctave binOf raised shift alignAllocation pushOnly pushAhead push popOnly popAhead popAt pop removeBetween remove relabel link append walk blocksOn cellCount isCell cellsDown headOf linkAll initChain initBlock simple keeps sweepChain sweptWords clearBlock chainFrom freeChain eventHeap eventsHeap isSweep isRelease sweeps releases findFreeBlockWith recycleLocalBlocks acquireAbandoned acquireFresh findBlock freshWords freshTables isHolder isBound bindHolder abandonBin abandonBlocks destroyHolder unmarkedState prepared markPlace releaseFrom releaseBlocks appendTo releaseBin releaseHolder sweepLaterBin sweepLater hasReleased allReleased mergeBin merge partReleased stateOf stateKnown blockClear listNamed binNamed setNamed onListNamed sizeOk linkOk tlsOk blockSound linkedFrom linked isEmpty ownerEmpty unboundEmpty inGcEmpty phaseKnown flagsKnown releasedFew releasedSome releasedEmpty sound refusalNumber goodRequest tooBig goodOffer goodObject takePlan planAlloc mayRelease releasePlan planSound plan takeCell finish step call setUp before pieces dropBlankEnd linesOf isDigit valueFrom valueOf isNumber isWord numbersTo isLine arg isAlloc offerOf lineOf censusParams censusLent lineResult runLines digits decimal spaced joined section refusedRow upTo occupied letter blockRow freeRows allFreeRows listing census
+unfolding same exampleTrace exampleListing leadingZeros allBelow anyBelow member filter eachBelow flag powerOfTwo lowerOk biased plusLower minusLower heapBytes heapEnd goodParams wordCount fits start blockAt inHeap isStart listOf listWord localSets available unswept consumed loadBytes bytesOf overwrite load store zeroed bitOf setBit markIndex marked setMark cleared view flat setFirst setLast setBound setReleased setNext setPrev setFree setSize setList setTls setPhase withReleased fours classWords cellBytes wordsIn highestBit binInOctave binOf raised shift alignAllocation push popHead pop headD removeBetween remove relabel link append walk blocksOn cellCount isCell cellsDown linkAll initChain initBlock simple keeps sweepChain sweptWords clearBlock chainFrom freeChain eventHeap eventsHeap isSweep isRelease sweeps releases findFreeBlockWith recycleLocalBlocks acquireAbandoned acquireFresh findBlock freshWords freshTables isHolder isBound bindHolder abandonBin abandonBlocks destroyHolder unmarkedState prepared markPlace releaseFrom releaseBlocks appendTo releaseBin releaseHolder sweepLaterBin sweepLater hasReleased allReleased partReleased stateOf stateKnown blockClear listNamed binNamed setNamed onListNamed sizeOk linkOk tlsOk blockSound linkedFrom linked ownerEmpty unboundEmpty inGcEmpty phaseKnown flagsKnown releasedFew releasedSome releasedEmpty sound refusalNumber goodRequest tooBig goodOffer goodObject takePlan planAlloc mayRelease releasePlan planSound plan takeCell finish step call setUp before pieces dropBlankEnd linesOf isDigit valueOf isNumber isWord numbersTo isLine arg isAlloc offerOf lineOf censusParams censusLent lineResult runLines digits decimal spaced section refusedRow upTo occupied letter blockRow freeRows flatten flatMap listing census
 example-holds = refl

@@ -1,7 +1,8 @@
 -- "The census program": from the bytes of a trace to the bytes of the listing.
 use Prim.Native.Nat.{ℕ, zero, suc, _+_, _-_, _*_, _/_, _%_, _^_}
 use mathlib.Core.Bool.{Bool, true, false, not, _&&_, _||_}
-use mathlib.Core.List.{List, [], _∷_, _++_, map}
+use mathlib.Core.List.{List, [], _∷_, _++_, map, foldl, flatten, flatMap}
+use mathlib.Core.Option.{Option, some, none}
 use lib.Dec.{eqb, ltb, leb}
 use lib.IntN.{pos}
 use lib.ListN.{length, getD, take, replicate}
@@ -26,8 +27,7 @@ space = 32
 
 -- c before the first of the pieces
 unfoldable pub before : ℕ → List (List ℕ) → List (List ℕ)
-before c [] = (c ∷ []) ∷ []
-before c (x ∷ xs) = (c ∷ x) ∷ xs
+before c = elim [ [] ↦ (c ∷ []) ∷ [] | x ∷ xs ↦ (c ∷ x) ∷ xs ]
 
 -- what stands before, between and behind the separators
 unfoldable pub pieces : ℕ → List ℕ → List (List ℕ)
@@ -51,12 +51,8 @@ linesOf bytes = take 256 (dropBlankEnd (pieces newline (take 16384 bytes)))
 unfoldable pub isDigit : ℕ → Bool
 isDigit c = leb 48 c && leb c 57
 
-unfoldable pub valueFrom : ℕ → List ℕ → ℕ
-valueFrom n [] = n
-valueFrom n (c ∷ cs) = valueFrom (10 * n + (c - 48)) cs
-
 unfoldable pub valueOf : List ℕ → ℕ
-valueOf cs = valueFrom 0 cs
+valueOf cs = foldl (λ n c. 10 * n + (c - 48)) 0 cs
 
 unfoldable pub isNumber : List ℕ → Bool
 isNumber cs =
@@ -64,10 +60,6 @@ isNumber cs =
     && (eqb (length cs) 1 || not (eqb (getD cs 0 0) 48)) && ltb (valueOf cs) (2 ^ 64)
 
 -- ---- what a line asks
-
-pub data Line : Type 0 where
-  asks : Call → Line
-  badLine : Line
 
 -- a word of one letter
 unfoldable pub isWord : ℕ → List ℕ → Bool
@@ -95,17 +87,17 @@ unfoldable pub offerOf : List ℕ → Offer
 offerOf w = if isWord 45 w then Nothing else Fresh (record { 0 = valueOf w })
 
 -- "Lines, decimal, one space: `b h`, `d h`, `a h size align offset block` (`-` for none), `p`, `m place block`, `r h`, `s`
--- (shared)."
-unfoldable pub lineOf : List (List ℕ) → Line
+-- (shared)." None of them: none
+unfoldable pub lineOf : List (List ℕ) → Option Call
 lineOf ws =
-    if isLine 98 2 ws then asks (bind (arg ws 1))
-    else if isLine 100 2 ws then asks (destroy (arg ws 1))
-    else if isAlloc ws then asks (alloc (arg ws 1) (arg ws 2) (arg ws 3) (arg ws 4) (offerOf (getD ws 5 [])))
-    else if isLine 112 1 ws then asks prepare
-    else if isLine 109 3 ws then asks (mark (arg ws 1) (arg ws 2))
-    else if isLine 114 2 ws then asks (release (arg ws 1))
-    else if isLine 115 1 ws then asks sharedRelease
-    else badLine
+    if isLine 98 2 ws then some (bind (arg ws 1))
+    else if isLine 100 2 ws then some (destroy (arg ws 1))
+    else if isAlloc ws then some (alloc (arg ws 1) (arg ws 2) (arg ws 3) (arg ws 4) (offerOf (getD ws 5 [])))
+    else if isLine 112 1 ws then some prepare
+    else if isLine 109 3 ws then some (mark (arg ws 1) (arg ws 2))
+    else if isLine 114 2 ws then some (release (arg ws 1))
+    else if isLine 115 1 ws then some sharedRelease
+    else none
 
 -- ---- running it: "Set-up: 4 blocks of 4,096, base 16384, MIN = MAX = 8, unified, no offsets, L 0."
 
@@ -116,16 +108,10 @@ censusParams =
 -- the buffers that are lent, and after set-up
 unfoldable pub censusLent : Lent
 censusLent =
-    record {
-      words = replicate (wordCount censusParams) 0;
-      states = replicate 4 0;
-      marks = replicate 256 0;
-      heap = replicate 16384 0;
-    }
+    record { words = replicate (wordCount censusParams) 0; states = replicate 4 0; marks = replicate 256 0; heap = replicate 16384 0 }
 
-unfoldable pub lineResult : Lent → Line → Result
-lineResult l (asks c) = call censusParams l c
-lineResult l badLine = record { reply = refused BadLine; lent = l }
+unfoldable pub lineResult : Lent → Option Call → Result
+lineResult l = elim [ some c ↦ call censusParams l c | none ↦ record { reply = refused BadLine; lent = l } ]
 
 -- a refused line: its number, and the refusal's
 pub record RefusedLine : Type 0 where
@@ -142,11 +128,8 @@ runLines i [] l = record { refusals = []; lent = l }
 runLines i (x ∷ xs) l =
     let r : Result = lineResult l (lineOf (pieces space x)) in
     let rest : Ran = runLines (i + 1) xs (r .lent) in
-    record {
-      refusals = if eqb (r .reply .number) 0 then rest .refusals
-          else (record { line = i; number = r .reply .number } ∷ rest .refusals);
-      lent = rest .lent;
-    }
+    let refusal : RefusedLine = record { line = i; number = r .reply .number } in
+    record { refusals = if eqb (refusal .number) 0 then rest .refusals else (refusal ∷ rest .refusals); lent = rest .lent }
 
 -- ---- the listing
 
@@ -166,13 +149,9 @@ spaced [] = newline ∷ []
 spaced (w ∷ []) = w ++ (newline ∷ [])
 spaced (w ∷ (v ∷ ws)) = w ++ (space ∷ spaced (v ∷ ws))
 
-unfoldable pub joined : List (List ℕ) → List ℕ
-joined [] = []
-joined (x ∷ xs) = x ++ joined xs
-
 -- "Sections in fixed order, each after its count"
 unfoldable pub section : List ℕ → List (List ℕ) → List ℕ
-section name rows = spaced (name ∷ decimal (length rows) ∷ []) ++ joined rows
+section name rows = spaced (name ∷ decimal (length rows) ∷ []) ++ flatten rows
 
 -- "refused (line, number)"
 unfoldable pub refusedRow : RefusedLine → List ℕ
@@ -203,16 +182,12 @@ blockRow t b =
 unfoldable pub freeRows : Tables → List ℕ → ℕ → List (List ℕ)
 freeRows t h b = map (λ a. spaced (decimal b ∷ decimal a ∷ [])) (freeChain censusParams h b (t .words))
 
-unfoldable pub allFreeRows : Tables → List ℕ → List ℕ → List (List ℕ)
-allFreeRows t h [] = []
-allFreeRows t h (b ∷ bs) = freeRows t h b ++ allFreeRows t h bs
-
 unfoldable pub listing : Ran → List ℕ
 listing r =
     let t : Tables = tablesIn (r .lent) in
     section (114 ∷ 101 ∷ 102 ∷ 117 ∷ 115 ∷ 101 ∷ 100 ∷ []) (map refusedRow (r .refusals))
     ++ (section (98 ∷ 108 ∷ 111 ∷ 99 ∷ 107 ∷ 115 ∷ []) (map (blockRow t) (occupied t))
-    ++ section (102 ∷ 114 ∷ 101 ∷ 101 ∷ []) (allFreeRows t (r .lent .heap) (occupied t)))
+    ++ section (102 ∷ 114 ∷ 101 ∷ 101 ∷ []) (flatMap (freeRows t (r .lent .heap)) (occupied t)))
 
 -- the whole program
 unfoldable pub census : List ℕ → List ℕ

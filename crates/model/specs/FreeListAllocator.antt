@@ -98,13 +98,10 @@ unfoldable pub acquireFresh : Params → ℕ → ℕ → Offer → Found → Tab
 acquireFresh p h bin Nothing f t = inFound f t
 acquireFresh p h bin (Fresh b) f t =
     let s : ℕ = cellBytes p bin in
-    let w : Words = push p (available (localSets h) bin) (b .0) (f .words) in
-    record {
-      at = start p (b .0);
-      fresh = true;
-      tables = tablesOf (initBlock p (b .0) s h w) (set (t .states) (b .0) Unmarked) (t .marks);
-      events = f .events ++ (initialised (b .0) (initChain p (b .0) s) ∷ []);
-    }
+    let w : Words = initBlock p (b .0) s h (push p (available (localSets h) bin) (b .0) (f .words)) in
+    let t′ : Tables = tablesOf w (set (t .states) (b .0) Unmarked) (t .marks) in
+    let events : List Event = f .events ++ (initialised (b .0) (initChain p (b .0) s) ∷ []) in
+    record { at = start p (b .0); fresh = true; tables = t′; events = events }
 
 -- the whole search of the holder h for a block of this bin
 unfoldable pub findBlock : Params → ℕ → ℕ → Offer → Tables → Search

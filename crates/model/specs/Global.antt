@@ -16,9 +16,9 @@ use lib.Dec.{eqb, leb}
 use lib.ListN.{getD, set, replicate}
 use Rattle.model.specs.declared.Params.{Params}
 use Rattle.model.specs.Base.{if_then_else_, allBelow, eachBelow}
-use Rattle.model.specs.Params.{blockAt, heapBytes, localSets, abandoned, inGc, available, unswept, consumed, bins, lists}
+use Rattle.model.specs.Params.{wordCount, blockAt, heapBytes, localSets, abandoned, inGc, available, unswept, consumed, bins}
 use Rattle.model.specs.Memory.{marked, setMark, cleared}
-use Rattle.model.specs.Tables.{Words, Tables, tablesOf, withWords, setPhase, setBound, setReleased, withReleased}
+use Rattle.model.specs.Tables.{Words, view, Tables, tablesOf, withWords, setPhase, setBound, setReleased, withReleased}
 use Rattle.model.specs.BlockList.{remove, append}
 use Rattle.model.specs.Block.{Unallocated, Unmarked, Marked, clearBlock}
 use Rattle.model.specs.Events.{Event, released}
@@ -36,20 +36,7 @@ Releasing = 2
 -- ---- set-up: "Setup zeroes tables and marks, leaves heap bytes and starts in Running with no holder bound."
 
 unfoldable pub freshWords : Params → Words
-freshWords p =
-    record {
-      first = replicate lists 0;
-      last = replicate lists 0;
-      phase = Running;
-      bound = replicate 8 0;
-      released = replicate 9 0;
-      next = replicate (p .blocks) 0;
-      prev = replicate (p .blocks) 0;
-      free = replicate (p .blocks) 0;
-      size = replicate (p .blocks) 0;
-      list = replicate (p .blocks) 0;
-      tls = replicate (p .blocks) 0;
-    }
+freshWords p = view (replicate (wordCount p) 0)
 
 unfoldable pub freshTables : Params → Tables
 freshTables p = tablesOf (freshWords p) (replicate (p .blocks) Unallocated) (replicate (heapBytes p / 64) 0)
@@ -162,17 +149,8 @@ hasReleased t part = eqb (getD (t .released) part 0) 1
 unfoldable pub allReleased : Words → Bool
 allReleased t = hasReleased t 0 && allBelow 8 (λ i. not (isBound t (suc i)) || hasReleased t (suc i))
 
--- "The last merges in-gc into abandoned and returns to Running."
-unfoldable pub mergeBin : Params → ℕ → Words → Words
-mergeBin p bin t =
-    append p (consumed abandoned bin) (consumed inGc bin)
-    (append p (unswept abandoned bin) (unswept inGc bin) (append p (available abandoned bin) (available inGc bin) t))
-
-unfoldable pub merge : Params → Words → Words
-merge p t = eachBelow bins (mergeBin p) t
-
--- a part has released: "the first entering Releasing"; the last ends the collection
+-- a part has released: "the first entering Releasing". "The last merges in-gc into abandoned and returns to Running."
 unfoldable pub partReleased : Params → ℕ → Words → Words
 partReleased p part t =
     let t₁ : Words = setReleased part 1 (setPhase Releasing t) in
-    if allReleased t₁ then setPhase Running (withReleased (replicate 9 0) (merge p t₁)) else t₁
+    if allReleased t₁ then setPhase Running (withReleased (replicate 9 0) (abandonBlocks p abandoned inGc t₁)) else t₁

@@ -1,9 +1,9 @@
 -- "What must change shape": the parameters and what may be lent, where blocks and heap bytes stand, and how lists are numbered.
 use Prim.Native.Nat.{ℕ, suc, _+_, _-_, _*_, _/_, _%_, _^_}
-use mathlib.Core.Bool.{Bool, false, not, _&&_, _||_}
+use mathlib.Core.Bool.{Bool, not, _&&_, _||_}
 use mathlib.Core.List.{List}
 use lib.Dec.{eqb, ltb, leb}
-use lib.IntN.{ℤ, pos, negsuc}
+use lib.IntN.{ℤ, pos, negsuc, natAbs}
 use lib.ListN.{length}
 use Rattle.model.specs.declared.Params.{Params}
 use Rattle.model.specs.Base.{if_then_else_, anyBelow}
@@ -12,19 +12,13 @@ use Rattle.model.specs.Base.{if_then_else_, anyBelow}
 unfoldable pub powerOfTwo : ℕ → Bool
 powerOfTwo x = anyBelow 17 (λ k. eqb x (2 ^ k))
 
--- "L = OBJECT_REF_OFFSET_LOWER_BOUND, a multiple of 8, −64 to 64, and 0 if unified." `negsuc n` is −(n + 1).
+-- "L = OBJECT_REF_OFFSET_LOWER_BOUND, a multiple of 8, −64 to 64, and 0 if unified."
 unfoldable pub lowerOk : ℤ → Bool
-lowerOk (pos n) = eqb (n % 8) 0 && leb n 64
-lowerOk (negsuc n) = eqb (suc n % 8) 0 && leb (suc n) 64
+lowerOk l = eqb (natAbs l % 8) 0 && leb (natAbs l) 64
 
-unfoldable pub isZero : ℤ → Bool
-isZero (pos n) = eqb n 0
-isZero (negsuc n) = false
-
--- L + 64, which is never negative, so that everything below speaks of natural numbers
+-- L + 64, which is never negative, so that everything below speaks of natural numbers. `negsuc n` is −(n + 1)
 unfoldable pub biased : ℤ → ℕ
-biased (pos n) = 64 + n
-biased (negsuc n) = 64 - suc n
+biased = elim [ pos n ↦ 64 + n | negsuc n ↦ 64 - suc n ]
 
 -- a + L and a − L, for an address
 unfoldable pub plusLower : Params → ℕ → ℕ
@@ -46,7 +40,7 @@ unfoldable pub goodParams : Params → Bool
 goodParams p =
     (eqb (p .min) 4 || eqb (p .min) 8)
     && (powerOfTwo (p .max) && leb (p .min) (p .max) && leb (p .max) 64)
-    && (lowerOk (p .lower) && (not (p .unified) || isZero (p .lower)))
+    && (lowerOk (p .lower) && (not (p .unified) || eqb (natAbs (p .lower)) 0))
     && (powerOfTwo (p .bytes) && leb 4096 (p .bytes) && leb (p .bytes) 65536)
     && (leb 1 (p .blocks) && leb (p .blocks) 1024)
     && (ltb 0 (p .base) && eqb (p .base % p .bytes) 0 && leb (heapEnd p) (2 ^ 47))

@@ -5,10 +5,11 @@
 use Prim.Native.Nat.{ℕ, _+_, _-_, _≤_, _<_}
 use mathlib.Core.Path.{_≡_}
 use mathlib.Core.Bool.{Bool, true, false, not, _&&_}
-use mathlib.Core.List.{List, [], _∷_, map}
+use mathlib.Core.List.{List, [], _∷_, map, foldl}
 use lib.Dec.{eqb}
 use lib.ListN.{getD, set}
 use Rattle.model.specs.declared.Params.{Params}
+use Rattle.model.specs.declared.Offer.{Offer}
 use Rattle.model.specs.Base.{if_then_else_, member, filter, any, In, Pairwise}
 use Rattle.model.specs.Params.{Lent, heapEnd, blockAt}
 use Rattle.model.specs.SizeClasses.{alignAllocation}
@@ -27,9 +28,6 @@ pub record Cell : Type 0 where
 pub record Book : Type 0 where
   pub cells : List Cell
   pub places : List ℕ
-
-abbrev pub emptyBook : Book
-emptyBook = record { cells = []; places = [] }
 
 -- "A sweep strikes out the cells it frees, in a refused alloc too; a block release strikes out every cell of that block."
 unfoldable pub frees : Params → Event → Cell → Bool
@@ -51,8 +49,7 @@ bookEvent p h e bk =
     record { cells = entered h e (filter (λ c. not (frees p e c)) (bk .cells)); places = bk .places }
 
 unfoldable pub bookEvents : Params → ℕ → List Event → Book → Book
-bookEvents p h [] bk = bk
-bookEvents p h (e ∷ es) bk = bookEvents p h es (bookEvent p h e bk)
+bookEvents p h es bk = foldl (λ book e. bookEvent p h e book) bk es
 
 abbrev pub aged : Cell → Cell
 aged c = record { start = c .start; size = c .size; holder = c .holder; old = true }
@@ -70,13 +67,7 @@ bookAnswer sharedRelease bk = bk
 
 -- the holder that a cell taken in this call goes to
 unfoldable pub takerOf : Call → ℕ
-takerOf (bind h) = 0
-takerOf (destroy h) = 0
-takerOf (alloc h size align offset offer) = h
-takerOf prepare = 0
-takerOf (mark place b) = 0
-takerOf (release h) = 0
-takerOf sharedRelease = 0
+takerOf = elim [ alloc h size align offset offer ↦ h | bind h ↦ 0 | destroy h ↦ 0 | prepare ↦ 0 | mark a b ↦ 0 | release h ↦ 0 | sharedRelease ↦ 0 ]
 
 -- "It is fed each call and, in order, the sweeps, block releases, cell taken and answer of demand 2's machine in that call"
 unfoldable pub bookAfter : Params → Call → Step → Book → Book
@@ -97,8 +88,7 @@ pub record Write : Type 0 where
   pub byte : ℕ
 
 unfoldable pub written : Params → List Write → List ℕ → List ℕ
-written p [] h = h
-written p (w ∷ ws) h = written p ws (set h (w .address - p .base) (w .byte))
+written p ws h = foldl (λ h′ w. set h′ (w .address - p .base) (w .byte)) h ws
 
 -- holders write, and then a call is made
 pub record Turn : Type 0 where
@@ -127,7 +117,7 @@ turned p s u = record { lent = resultOf p s u .lent; book = bookAfter p (u .call
 
 -- after set-up, on what was lent to it
 unfoldable pub begun : Params → Lent → State
-begun p l = record { lent = setUp p l .lent; book = emptyBook }
+begun p l = record { lent = setUp p l .lent; book = record { cells = []; places = [] } }
 
 -- ---- the premise: each byte is written into a cell that its writer holds then
 
@@ -155,14 +145,8 @@ pub record Seen : Type 0 where
 
 abbrev pub seen : Result → List Event → Seen
 seen r es =
-    record {
-      reply = r .reply;
-      swept = sweeps es;
-      released = releases es;
-      words = r .lent .words;
-      states = r .lent .states;
-      marks = r .lent .marks;
-    }
+    let l : Lent = r .lent in
+    record { reply = r .reply; swept = sweeps es; released = releases es; words = l .words; states = l .states; marks = l .marks }
 
 unfoldable pub trace : Params → State → List Turn → List Seen
 trace p s [] = []
@@ -182,16 +166,10 @@ Zeroed p es h =
 -- A served alloc takes one cell: the size answered is the cell's, and the address answered is its start, shifted, from which
 -- the size asked for lies within the cell. This ties what the book enters to what the caller is told
 unfoldable pub Served : Call → Step → Type 0
-Served (bind h) s = Unit {0}
-Served (destroy h) s = Unit {0}
-Served (alloc h size align offset offer) s =
-    s .reply .number ≡ 0
+Served c s =
+    (h size align offset : ℕ) (offer : Offer) → c ≡ alloc h size align offset offer → s .reply .number ≡ 0
     → (a : ℕ) × (n : ℕ) × In (taken a n) (s .events) × (getD (s .reply .values) 0 0 ≡ alignAllocation a align offset)
     × (getD (s .reply .values) 1 0 ≡ n) × (alignAllocation a align offset + size ≤ a + n)
-Served prepare s = Unit {0}
-Served (mark place b) s = Unit {0}
-Served (release h) s = Unit {0}
-Served sharedRelease s = Unit {0}
 
 -- "no byte lies in two held cells"
 unfoldable pub Apart : Cell → Cell → Type 0

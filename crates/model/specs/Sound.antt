@@ -79,12 +79,9 @@ linkedFrom (suc k) p t l before a =
 unfoldable pub linked : Params → Tables → ℕ → Bool
 linked p t l = linkedFrom (p .blocks) p t l 0 (getD (t .words .first) l 0)
 
-unfoldable pub isEmpty : Words → ℕ → Bool
-isEmpty w l = eqb (getD (w .first) l 0) 0
-
 -- the three sets of an owner are empty
 unfoldable pub ownerEmpty : Words → ℕ → Bool
-ownerEmpty w owner = allBelow (3 * bins) (λ i. isEmpty w (listOf owner i))
+ownerEmpty w owner = allBelow (3 * bins) (λ i. eqb (getD (w .first) (listOf owner i) 0) 0)
 
 -- "unbound holders' lists are empty"
 unfoldable pub unboundEmpty : Words → Bool

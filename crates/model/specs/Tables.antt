@@ -65,52 +65,40 @@ pub record Tables : Type 0 where
 -- ---- one entry, or one field, put in place of the old: records have no update
 
 unfoldable pub setFirst : ℕ → ℕ → Words → Words
-setFirst i v t =
-    record { first = set (t .first) i v; last = t .last; phase = t .phase; bound = t .bound; released = t .released; next = t .next; prev = t .prev; free = t .free; size = t .size; list = t .list; tls = t .tls }
+setFirst i v t = record { first = set (t .first) i v; last = t .last; phase = t .phase; bound = t .bound; released = t .released; next = t .next; prev = t .prev; free = t .free; size = t .size; list = t .list; tls = t .tls }
 
 unfoldable pub setLast : ℕ → ℕ → Words → Words
-setLast i v t =
-    record { first = t .first; last = set (t .last) i v; phase = t .phase; bound = t .bound; released = t .released; next = t .next; prev = t .prev; free = t .free; size = t .size; list = t .list; tls = t .tls }
+setLast i v t = record { first = t .first; last = set (t .last) i v; phase = t .phase; bound = t .bound; released = t .released; next = t .next; prev = t .prev; free = t .free; size = t .size; list = t .list; tls = t .tls }
 
 unfoldable pub setBound : ℕ → ℕ → Words → Words
-setBound i v t =
-    record { first = t .first; last = t .last; phase = t .phase; bound = set (t .bound) i v; released = t .released; next = t .next; prev = t .prev; free = t .free; size = t .size; list = t .list; tls = t .tls }
+setBound i v t = record { first = t .first; last = t .last; phase = t .phase; bound = set (t .bound) i v; released = t .released; next = t .next; prev = t .prev; free = t .free; size = t .size; list = t .list; tls = t .tls }
 
 unfoldable pub setReleased : ℕ → ℕ → Words → Words
-setReleased i v t =
-    record { first = t .first; last = t .last; phase = t .phase; bound = t .bound; released = set (t .released) i v; next = t .next; prev = t .prev; free = t .free; size = t .size; list = t .list; tls = t .tls }
+setReleased i v t = record { first = t .first; last = t .last; phase = t .phase; bound = t .bound; released = set (t .released) i v; next = t .next; prev = t .prev; free = t .free; size = t .size; list = t .list; tls = t .tls }
 
 unfoldable pub setNext : ℕ → ℕ → Words → Words
-setNext i v t =
-    record { first = t .first; last = t .last; phase = t .phase; bound = t .bound; released = t .released; next = set (t .next) i v; prev = t .prev; free = t .free; size = t .size; list = t .list; tls = t .tls }
+setNext i v t = record { first = t .first; last = t .last; phase = t .phase; bound = t .bound; released = t .released; next = set (t .next) i v; prev = t .prev; free = t .free; size = t .size; list = t .list; tls = t .tls }
 
 unfoldable pub setPrev : ℕ → ℕ → Words → Words
-setPrev i v t =
-    record { first = t .first; last = t .last; phase = t .phase; bound = t .bound; released = t .released; next = t .next; prev = set (t .prev) i v; free = t .free; size = t .size; list = t .list; tls = t .tls }
+setPrev i v t = record { first = t .first; last = t .last; phase = t .phase; bound = t .bound; released = t .released; next = t .next; prev = set (t .prev) i v; free = t .free; size = t .size; list = t .list; tls = t .tls }
 
 unfoldable pub setFree : ℕ → ℕ → Words → Words
-setFree i v t =
-    record { first = t .first; last = t .last; phase = t .phase; bound = t .bound; released = t .released; next = t .next; prev = t .prev; free = set (t .free) i v; size = t .size; list = t .list; tls = t .tls }
+setFree i v t = record { first = t .first; last = t .last; phase = t .phase; bound = t .bound; released = t .released; next = t .next; prev = t .prev; free = set (t .free) i v; size = t .size; list = t .list; tls = t .tls }
 
 unfoldable pub setSize : ℕ → ℕ → Words → Words
-setSize i v t =
-    record { first = t .first; last = t .last; phase = t .phase; bound = t .bound; released = t .released; next = t .next; prev = t .prev; free = t .free; size = set (t .size) i v; list = t .list; tls = t .tls }
+setSize i v t = record { first = t .first; last = t .last; phase = t .phase; bound = t .bound; released = t .released; next = t .next; prev = t .prev; free = t .free; size = set (t .size) i v; list = t .list; tls = t .tls }
 
 unfoldable pub setList : ℕ → ℕ → Words → Words
-setList i v t =
-    record { first = t .first; last = t .last; phase = t .phase; bound = t .bound; released = t .released; next = t .next; prev = t .prev; free = t .free; size = t .size; list = set (t .list) i v; tls = t .tls }
+setList i v t = record { first = t .first; last = t .last; phase = t .phase; bound = t .bound; released = t .released; next = t .next; prev = t .prev; free = t .free; size = t .size; list = set (t .list) i v; tls = t .tls }
 
 unfoldable pub setTls : ℕ → ℕ → Words → Words
-setTls i v t =
-    record { first = t .first; last = t .last; phase = t .phase; bound = t .bound; released = t .released; next = t .next; prev = t .prev; free = t .free; size = t .size; list = t .list; tls = set (t .tls) i v }
+setTls i v t = record { first = t .first; last = t .last; phase = t .phase; bound = t .bound; released = t .released; next = t .next; prev = t .prev; free = t .free; size = t .size; list = t .list; tls = set (t .tls) i v }
 
 unfoldable pub setPhase : ℕ → Words → Words
-setPhase v t =
-    record { first = t .first; last = t .last; phase = v; bound = t .bound; released = t .released; next = t .next; prev = t .prev; free = t .free; size = t .size; list = t .list; tls = t .tls }
+setPhase v t = record { first = t .first; last = t .last; phase = v; bound = t .bound; released = t .released; next = t .next; prev = t .prev; free = t .free; size = t .size; list = t .list; tls = t .tls }
 
 unfoldable pub withReleased : List ℕ → Words → Words
-withReleased l t =
-    record { first = t .first; last = t .last; phase = t .phase; bound = t .bound; released = l; next = t .next; prev = t .prev; free = t .free; size = t .size; list = t .list; tls = t .tls }
+withReleased l t = record { first = t .first; last = t .last; phase = t .phase; bound = t .bound; released = l; next = t .next; prev = t .prev; free = t .free; size = t .size; list = t .list; tls = t .tls }
 
 abbrev pub tablesOf : Words → List ℕ → List ℕ → Tables
 tablesOf w s m = record { words = w; states = s; marks = m }

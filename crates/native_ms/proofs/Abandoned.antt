@@ -9,7 +9,7 @@ use lib.Dec.{eqb}
 use lib.ListN.{getD}
 use borrow.Author.Tests.{eq-eqb, ne-eqb}
 use Rattle.model.specs.declared.Params.{Params}
-use Rattle.model.specs.Base.{if_then_else_, count, flag}
+use Rattle.model.specs.Base.{if_then_else_, filter, flag}
 use Rattle.model.specs.Params.{blockAt, localSets, available, unswept, consumed}
 use Rattle.model.specs.Tables.{Words, setTls}
 use Rattle.model.specs.BlockList.{Popped, popped, pop, push}
@@ -102,20 +102,20 @@ module _ (p : Params) (ms : List ℕ) (holder bin : ℕ) where
       go false e = rw e
 
   pub acquire-end : (n : ℕ) (t : Words) (h : List ℕ) (k : ℕ) → k ≤ 0 → seen 0 n t h ≡ closed p n h (acquireAbandoned k p ms holder bin t)
-  unfolding acquireAbandoned eventsHeap sweeps count
+  unfolding acquireAbandoned eventsHeap sweeps filter
   acquire-end n t h zero l = rw (add-zero n)
   acquire-end n t h (suc k) l = absurd (not-suc-le-zero l)
 
   module _ (n : ℕ) (t : Words) (h : List ℕ) {v : ℕ} {t₁ : Words} where
     pub acquire-none : {q : Bool} (k : ℕ) → nextOf v q t₁ ≡ popAbandoned p bin t → 0 < k → v ≡ 0 → seen 0 n t₁ h ≡ closed p n h (acquireAbandoned k p ms holder bin t)
-    unfolding turn eventsHeap sweeps count
+    unfolding turn eventsHeap sweeps filter
     acquire-none zero e l z = absurd (not-suc-le-zero l)
     acquire-none (suc k) e l z = rw (turn-is k t, ← e, eq-eqb v 0 z, add-zero n)
 
     module _ {b m : ℕ} {r : Bool} {t₂ : Words} {h₁ : List ℕ} (nz : v ≡ 0 → ⊥) (eb : b ≡ blockAt p v) where
       pub acquire-found : (k : ℕ) (q : Bool) → nextOf v q t₁ ≡ popAbandoned p bin t → TakenOver p ms holder bin b q t₁ h r t₂ h₁ → m ≡ flag q → 0 < k → r ≡ true
           → seen v (n + m) t₂ h₁ ≡ closed p n h (acquireAbandoned k p ms holder bin t)
-      unfolding turn eventsHeap eventHeap sweeps count isSweep flag
+      unfolding turn eventsHeap eventHeap sweeps filter isSweep flag
       acquire-found zero q e o em l z = absurd (not-suc-le-zero l)
       acquire-found (suc k) true e o em l z =
           rw (turn-is k t, ← e, ne-eqb v 0 nz, ← eb, o .none, o .words, z, o .heap, em, one-more n)
@@ -124,7 +124,7 @@ module _ (p : Params) (ms : List ℕ) (holder bin : ℕ) where
 
       pub acquire-step : (k : ℕ) (q : Bool) → nextOf v q t₁ ≡ popAbandoned p bin t → TakenOver p ms holder bin b q t₁ h r t₂ h₁ → m ≡ flag q → 0 < k → r ≡ false
           → closed p (n + m) h₁ (acquireAbandoned (k - 1) p ms holder bin t₂) ≡ closed p n h (acquireAbandoned k p ms holder bin t)
-      unfolding turn eventsHeap eventHeap sweeps count isSweep flag
+      unfolding turn eventsHeap eventHeap sweeps filter isSweep flag
       acquire-step zero q e o em l z = absurd (not-suc-le-zero l)
       acquire-step (suc k) true e o em l z =
           let d : suc k - 1 ≡ k = omega arith in

@@ -4,7 +4,7 @@ use Prim.Native.Nat.{ℕ, suc, _+_, _*_, _^_, _≤_, _<_}
 use mathlib.Core.Path.{_≡_, refl, sym, ap, _∙_}
 use mathlib.Core.Bool.{Bool, true, false}
 use mathlib.Core.Logic.{_⊎_, inl, inr}
-use mathlib.Core.List.{List, _∷_}
+use mathlib.Core.List.{List, _∷_, headD}
 use native.Mathlib.Nat.{div-zero, mul-le-mul-right, suc-mul, div-mul-le-self}
 use native.Mathlib.Omega.{arith}
 use lib.ListN.{length, getD, set}
@@ -14,7 +14,7 @@ use Rattle.model.specs.Params.{goodParams, start}
 use Rattle.model.specs.Memory.{load, store, zeroed}
 use Rattle.model.specs.Tables.{Words, setNext, setPrev, setFree, setSize, setList, setTls}
 use Rattle.model.specs.Sound.{linkOk}
-use Rattle.model.specs.Block.{simple, cellCount, cellsDown, headOf, linkAll, keeps, initChain, initBlock, sweepChain, sweptWords, clearBlock}
+use Rattle.model.specs.Block.{simple, cellCount, cellsDown, linkAll, keeps, initChain, initBlock, sweepChain, sweptWords, clearBlock}
 use Rattle.laws.specs.Params.{Bounds, good-bounds, start-out, start-end}
 use Rattle.laws.specs.Memory.{length-store}
 use Rattle.laws.specs.Cells.{cellsDown-kept, cellsDown-freed, tri}
@@ -72,7 +72,7 @@ pub record Linking (p : Params) (kept : ℕ → Bool) (from s n k : ℕ) (h₀ :
   pub linked : Linked p (cellsDown kept from s k) h₀ last h
 
 pub linking-start : (p : Params) (kept : ℕ → Bool) (from s n : ℕ) (h : List ℕ) → Linking p kept from s n 0 h from 0 h
-unfolding cellsDown headOf linkAll
+unfolding cellsDown headD linkAll
 linking-start p kept from s n h =
     record { done = omega arith; at = omega arith; same = refl; linked = record { head = refl; heap = refl } }
 
@@ -85,12 +85,12 @@ module _ (p : Params) (kept : ℕ → Bool) (from s n k : ℕ) (h₀ : List ℕ)
         done = omega arith;
         at = omega (arith, r .at);
         same = r .same;
-        linked = record { head = r .linked .head ∙ ap headOf c; heap = r .linked .heap ∙ ap (λ (l : List ℕ). linkAll p l h₀) c };
+        linked = record { head = r .linked .head ∙ ap (λ (l : List ℕ). headD l 0) c; heap = r .linked .heap ∙ ap (λ (l : List ℕ). linkAll p l h₀) c };
       }
 
   pub linking-freed : {h₁ : List ℕ} → kept cell ≡ false → h₁ ≡ store p h cell last
       → Linking p kept from s n (k + 1) h₀ (cell + s) cell h₁
-  unfolding headOf linkAll
+  unfolding headD linkAll
   linking-freed e st =
       let c : (cell ∷ cellsDown kept from s k) ≡ cellsDown kept from s (k + 1) = cellsDown-freed kept from s k (r .at) e in
       record {
@@ -98,7 +98,7 @@ module _ (p : Params) (kept : ℕ → Bool) (from s n k : ℕ) (h₀ : List ℕ)
         at = omega (arith, r .at);
         same = ap length st ∙ length-store p h cell last ∙ r .same;
         linked = record {
-          head = ap headOf c;
+          head = ap (λ (l : List ℕ). headD l 0) c;
           heap = st ∙ (λ i. store p (r .linked .heap i) cell (r .linked .head i)) ∙ ap (λ (l : List ℕ). linkAll p l h₀) c;
         };
       }

@@ -6,7 +6,7 @@ use mathlib.Core.List.{List, [], _∷_, _++_, append-assoc}
 use native.Mathlib.Nat.{add-zero, zero-add, add-assoc}
 use native.Mathlib.Omega.{arith}
 use lib.Dec.{eqb}
-use lib.ListN.{getD, set}
+use lib.ListN.{length, getD, set, length-append}
 use borrow.Author.Tests.{eq-eqb, ne-eqb}
 use Rattle.model.specs.declared.Params.{Params}
 use Rattle.model.specs.declared.Address.{Address}
@@ -14,7 +14,7 @@ use Rattle.model.specs.declared.Block.{Block}
 use Rattle.model.specs.declared.Offer.{Offer}
 use Rattle.model.specs.declared.Offer.the-variants.{Nothing, Fresh}
 use Rattle.model.specs.declared.Refusal.the-variants as Refusal
-use Rattle.model.specs.Base.{if_then_else_, count, flag}
+use Rattle.model.specs.Base.{if_then_else_, filter, flag}
 use Rattle.model.specs.Params.{goodParams, start, blockAt, localSets, available, consumed}
 use Rattle.model.specs.Memory.{load, zeroed}
 use Rattle.model.specs.Tables.{Words, Tables, tablesOf, setFree}
@@ -22,10 +22,10 @@ use Rattle.model.specs.SizeClasses.{cellBytes, alignAllocation}
 use Rattle.model.specs.BlockList.{popped, push}
 use Rattle.model.specs.Block.{Unmarked, linkAll, initChain, initBlock}
 use Rattle.model.specs.Sound.{linkOk}
-use Rattle.model.specs.Events.{Event, initialised, taken, eventHeap, eventsHeap, isSweep, sweeps}
+use Rattle.model.specs.Events.{Event, initialised, eventHeap, eventsHeap, isSweep, sweeps}
 use Rattle.model.specs.FreeListAllocator.{Found, andThen, Search, inFound, findFreeBlockWith, recycleLocalBlocks, acquireAbandoned, acquireFresh, findBlock}
 use Rattle.model.specs.Calls.{answered, refused, says, takes, takePlan, takeCell, finish, Step}
-use Rattle.laws.specs.Base.{count-append}
+use Rattle.laws.specs.Base.{filter-append}
 use Rattle.laws.specs.Params.{good-bounds}
 use Rattle.native_ms.specs.Block.{Initialised, TakenOut, took, takeFree}
 use Rattle.native_ms.specs.declared.block.Taken.{Taken}
@@ -44,7 +44,7 @@ events-append p (e ∷ es) ds h = events-append p es ds (eventHeap p e h)
 
 pub sweeps-append : (es ds : List Event) → sweeps (es ++ ds) ≡ sweeps es + sweeps ds
 unfolding sweeps
-sweeps-append es ds = count-append isSweep es ds
+sweeps-append es ds = ap length (filter-append isSweep es ds) ∙ length-append (filter isSweep es) (filter isSweep ds)
 
 -- a search of these events went on where others had happened
 then-ended : (p : Params) (n : ℕ) (h : List ℕ) (es ds : List Event) (a : ℕ) (f : Bool) (t : Tables)
@@ -52,7 +52,7 @@ then-ended : (p : Params) (n : ℕ) (h : List ℕ) (es ds : List Event) (a : ℕ
 then-ended p n h es ds a f t = rw (sweeps-append es ds, events-append p es ds h, add-assoc)
 
 init-sweeps : (b : ℕ) (chain : List ℕ) → sweeps (initialised b chain ∷ []) ≡ 0
-unfolding sweeps count isSweep
+unfolding sweeps filter isSweep
 init-sweeps b chain = refl
 
 init-heap : (p : Params) (b : ℕ) (chain h : List ℕ) → eventsHeap p (initialised b chain ∷ []) h ≡ linkAll p chain h
@@ -114,7 +114,7 @@ module _ (p : Params) (holder bin n : ℕ) (t : Words) (st ms h : List ℕ) {v s
 
 module _ (p : Params) (holder bin : ℕ) (offer : Offer) (t : Words) (st ms h : List ℕ) {o a c v : ℕ} {t₁ : Words} (eo : o ≡ localSets holder) (ea : a ≡ available o bin) (ec : c ≡ consumed o bin) (e : popped v t₁ ≡ findFreeBlockWith (p .blocks) p a c t) where
   pub find-skimmed : (v ≡ 0 → ⊥) → ended v 0 false (tablesOf t₁ st ms) h ≡ closedSearch p 0 h (findBlock p holder bin offer (tablesOf t st ms))
-  unfolding findBlock eventsHeap sweeps count
+  unfolding findBlock eventsHeap sweeps filter
   find-skimmed z = rw (← eo, ← ea, ← ec, ← e, ne-eqb v 0 z)
 
   module _ (z : v ≡ 0) {x s : ℕ} {t₂ : Words} {h₂ : List ℕ} (r : Searched (p .blocks) (seen x s t₂ h₂) (closed p 0 h (recycleLocalBlocks (p .blocks) p ms o bin t₁))) where

@@ -4,7 +4,7 @@ use Prim.Native.Nat.{ℕ, zero, suc, _+_, _-_, _*_, _/_, _%_, _^_, _<_, _≤_}
 use mathlib.Core.Path.{_≡_, refl, sym, subst}
 use mathlib.Core.Bool.{Bool, true, false, _&&_}
 use mathlib.Core.Logic.{_⊎_, inl, inr, ⊎-elim}
-use mathlib.Core.List.{List, [], _∷_}
+use mathlib.Core.List.{List, [], _∷_, headD}
 use native.Mathlib.Nat.{div-zero, div-mul-le-self, mul-le-mul-right, suc-mul, not-suc-le-zero}
 use native.Mathlib.Omega.{arith}
 use lib.Dec.{eqb, ltb, leb}
@@ -17,13 +17,14 @@ use Rattle.model.specs.Base.{if_then_else_, allBelow, In}
 use Rattle.model.specs.Params.{start, blockAt, localSets, available, unswept, consumed, lists}
 use Rattle.model.specs.Tables.{Words, Tables, setFirst, setLast, setNext, setPrev, setList, setTls, setSize, setFree}
 use Rattle.model.specs.SizeClasses.{cellBytes}
-use Rattle.model.specs.BlockList.{Popped, popped, push, pushOnly, pushAhead, popOnly, popAhead, popAt, pop}
-use Rattle.model.specs.Block.{Unallocated, cellCount, isCell, cellsDown, headOf, initChain, initBlock, sweepChain, sweptWords}
+use Rattle.model.specs.BlockList.{Popped, popped, push, popHead, pop}
+use Rattle.model.specs.Block.{Unallocated, cellCount, isCell, cellsDown, initChain, initBlock, sweepChain, sweptWords}
 use Rattle.model.specs.FreeListAllocator.{Found, found, after, andThen, inFound, sweepOf, findFreeBlockWith, recycleLocalBlocks, acquireAbandoned, acquireFresh, findBlock}
 use Rattle.model.specs.Sound.{stateOf, stateKnown, blockClear, onListNamed, sizeOk, linkOk, tlsOk, blockSound, linked, unboundEmpty, inGcEmpty, phaseKnown, flagsKnown, releasedFew, releasedSome, releasedEmpty, sound}
 use Rattle.laws.specs.Below.{and-left, and-right, or-cases, and-four, allBelow-at, test}
 use Rattle.laws.specs.Params.{Bounds, start-out, start-end}
 use Rattle.laws.specs.Cells.{Free, in-cellsDown}
+use Rattle.laws.specs.BlockList.{pushOnly, pushAhead, popOnly, popAhead, popAt}
 
 abbrev Small : List ℕ → Type 0
 Small l = (b : ℕ) → getD l b 0 < 2 ^ 47
@@ -59,7 +60,7 @@ push-free p l b t = go (eqb (getD (t .first) l 0) 0)
     go false = refl
 
 pub pop-free : (p : Params) (l : ℕ) (t : Words) → pop p l t .words .free ≡ t .free
-unfolding pop popAt popOnly popAhead setFirst setLast setNext setPrev setList
+unfolding pop popHead popAt popOnly popAhead setFirst setLast setNext setPrev setList
 pop-free p l t = go (eqb f 0) (eqb x 0)
   where
     f : ℕ
@@ -96,14 +97,14 @@ module _ (p : Params) (g : Bounds p) where
       go true e = omega (arith, start-end p g b (ltb-true b (p .blocks) e), g .end-high)
       go false e = omega (arith, start-out p b (ltb-false b (p .blocks) e), g .bytes-high)
 
-  chain-low : (kept : ℕ → Bool) (b s : ℕ) → headOf (cellsDown kept (start p b) s (cellCount p s)) < 2 ^ 47
-  unfolding cellCount headOf In
+  chain-low : (kept : ℕ → Bool) (b s : ℕ) → headD (cellsDown kept (start p b) s (cellCount p s)) 0 < 2 ^ 47
+  unfolding cellCount headD In
   chain-low kept b s = go (cellsDown kept (start p b) s (cellCount p s)) (λ a m. cell a (in-cellsDown kept (start p b) s (cellCount p s) a m))
     where
       cell : (a : ℕ) → Free kept (start p b) s (cellCount p s) a → a < 2 ^ 47
       cell a f = omega (arith, f .at, cell-begins (f .k) s (p .bytes) (f .low), start-room b)
 
-      go : (l : List ℕ) → ((a : ℕ) → In a l → a < 2 ^ 47) → headOf l < 2 ^ 47
+      go : (l : List ℕ) → ((a : ℕ) → In a l → a < 2 ^ 47) → headD l 0 < 2 ^ 47
       go [] f = omega arith
       go (a ∷ l) f = f a (inl refl)
 

@@ -7,12 +7,13 @@ use native.Mathlib.Nat.{not-suc-le-zero, zero-add, add-zero, add-assoc}
 use native.Mathlib.Numerals.{add-one}
 use native.Mathlib.Omega.{arith}
 use lib.Dec.{eqb}
-use lib.ListN.{getD, set}
+use lib.ListN.{length, getD, set, length-append}
+use Rattle.laws.specs.Base.{filter-append}
 use borrow.Author.Tests.{eq-eqb, ne-eqb}
 use mir.Syntax.{w64}
 use mir.Val.{Fits}
 use Rattle.model.specs.declared.Params.{Params}
-use Rattle.model.specs.Base.{if_then_else_, eachBelow, count}
+use Rattle.model.specs.Base.{if_then_else_, eachBelow, filter}
 use Rattle.model.specs.Params.{goodParams, blockAt, listOf, available, unswept, consumed, localSets}
 use Rattle.model.specs.Tables.{Words}
 use Rattle.model.specs.BlockList.{remove, append}
@@ -48,13 +49,13 @@ unfolding plus
 plus-none o = ap (λ (k : ℕ). out k (o .words) (o .states)) (zero-add (o .number))
 
 more-none : (n : ℕ) (t : Words) (s : List ℕ) → out n t s ≡ plus n (total (freed t s))
-unfolding plus total releases count
+unfolding plus total releases filter
 more-none n t s = ap (λ (k : ℕ). out k t s) (sym (add-zero n))
 
 total-after : (b : ℕ) (f : Freed) → total (afterRelease b f) ≡ plus 1 (total f)
-unfolding plus total releases count isRelease
+unfolding plus total releases filter isRelease
 total-after b f =
-    let e : suc (count isRelease (f .events)) ≡ 1 + count isRelease (f .events) = omega arith in
+    let e : suc (length (filter isRelease (f .events))) ≡ 1 + length (filter isRelease (f .events)) = omega arith in
     ap (λ (k : ℕ). out k (f .words) (f .states)) e
 
 module _ (p : Params) (l a : ℕ) (t : Words) (s : List ℕ) where
@@ -128,19 +129,9 @@ from-at p l t s e = ap (λ (k : ℕ). total (releaseFrom (p .blocks) p l k t s))
 unfoldable pub Appends : (Freed → Freed) → Type 0
 Appends F = (f : Freed) → total (F f) ≡ plus (releases (f .events)) (total (F (freed (f .words) (f .states))))
 
-one-more : (b : Bool) (n m k : ℕ) → n ≡ m + k → (if b then suc n else n) ≡ (if b then suc m else m) + k
-one-more true n m k q = omega arith
-one-more false n m k q = q
-
-count-append : (es fs : List Event) → count isRelease (es ++ fs) ≡ count isRelease es + count isRelease fs
-unfolding count
-count-append [] fs = sym (zero-add (count isRelease fs))
-count-append (e ∷ es) fs =
-    one-more (isRelease e) (count isRelease (es ++ fs)) (count isRelease es) (count isRelease fs) (count-append es fs)
-
 releases-append : (es fs : List Event) → releases (es ++ fs) ≡ releases es + releases fs
 unfolding releases
-releases-append es fs = count-append es fs
+releases-append es fs = ap length (filter-append isRelease es fs) ∙ length-append (filter isRelease es) (filter isRelease fs)
 
 appends-blocks : (p : Params) (l : ℕ) → Appends (releaseBlocks p l)
 unfolding Appends plus total releaseBlocks
@@ -149,9 +140,9 @@ appends-blocks p l f =
     ap (λ (k : ℕ). out k (g .words) (g .states)) (releases-append (f .events) (g .events))
 
 appends-append : (p : Params) (l o : ℕ) → Appends (appendTo p l o)
-unfolding Appends plus total appendTo releases count
+unfolding Appends plus total appendTo releases filter
 appends-append p l o f =
-    ap (λ (k : ℕ). out k (append p l o (f .words)) (f .states)) (sym (add-zero (count isRelease (f .events))))
+    ap (λ (k : ℕ). out k (append p l o (f .words)) (f .states)) (sym (add-zero (length (filter isRelease (f .events)))))
 
 appends-both : (F G : Freed → Freed) → Appends F → Appends G → Appends (λ f. G (F f))
 unfolding Appends plus total
@@ -183,7 +174,7 @@ shows-next F f {n} {r} {t} {t₁} {s} {s₁} a e q =
     ∙ sym (a f)
 
 pub shows-none : (t : Words) (s : List ℕ) → out 0 t s ≡ total (freed t s)
-unfolding total releases count
+unfolding total releases filter
 shows-none t s = refl
 
 shows-first : (p : Params) (l : ℕ) (t : Words) (s : List ℕ) {o : Out} → o ≡ total (releaseFrom (p .blocks) p l (getD (t .first) l 0) t s) → o ≡ total (releaseBlocks p l (freed t s))
@@ -291,13 +282,13 @@ holder-total p h {owner} {n} t s {t₁} {t₂} {s₁} eo e q =
 -- ---- counts are small
 
 few-events : (k b : ℕ) (x y : Bool) (f g h : Freed) → releases (f .events) ≤ k → releases (g .events) ≤ k → releases (h .events) ≤ k → releases ((if x then f else if y then afterRelease b g else h) .events) ≤ suc k
-unfolding releases count isRelease
+unfolding releases filter isRelease
 few-events k b true y f g h ef eg eh = omega arith
 few-events k b false true f g h ef eg eh = omega arith
 few-events k b false false f g h ef eg eh = omega arith
 
 few-none : (k : ℕ) (t : Words) (s : List ℕ) → releases (freed t s .events) ≤ k
-unfolding releases count
+unfolding releases filter
 few-none k t s = omega arith
 
 from-few : (k : ℕ) (p : Params) (l a : ℕ) (t : Words) (s : List ℕ) → releases (releaseFrom k p l a t s .events) ≤ k

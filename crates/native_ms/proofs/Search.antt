@@ -9,7 +9,7 @@ use native.Mathlib.Omega.{arith}
 use lib.ListN.{getD}
 use borrow.Author.Tests.{eq-eqb, ne-eqb}
 use Rattle.model.specs.declared.Params.{Params}
-use Rattle.model.specs.Base.{count}
+use Rattle.model.specs.Base.{filter}
 use Rattle.model.specs.Params.{blockAt, listOf, localSets, available, unswept, consumed}
 use Rattle.model.specs.Tables.{Words}
 use Rattle.model.specs.BlockList.{popped, pop, push}
@@ -85,26 +85,26 @@ one-more n = omega arith
 
 module _ (p : Params) (ms : List ℕ) (owner bin n : ℕ) (t : Words) (h : List ℕ) where
   pub recycle-end : (k : ℕ) → k ≤ 0 → seen 0 n t h ≡ closed p n h (recycleLocalBlocks k p ms owner bin t)
-  unfolding recycleLocalBlocks eventsHeap sweeps count
+  unfolding recycleLocalBlocks eventsHeap sweeps filter
   recycle-end zero l = rw (add-zero n)
   recycle-end (suc k) l = absurd (not-suc-le-zero l)
 
   module _ {u v : ℕ} {t₁ : Words} (eu : u ≡ unswept owner bin) (e : popped v t₁ ≡ pop p u t) where
     pub recycle-none : (k : ℕ) → 0 < k → v ≡ 0 → seen 0 n t₁ h ≡ closed p n h (recycleLocalBlocks k p ms owner bin t)
-    unfolding recycleLocalBlocks eventsHeap sweeps count
+    unfolding recycleLocalBlocks eventsHeap sweeps filter
     recycle-none zero l z = absurd (not-suc-le-zero l)
     recycle-none (suc k) l z = rw (← eu, ← e, eq-eqb v 0 z, add-zero n)
 
     module _ {a b c : ℕ} {q : Bool} {t₂ t₃ : Words} {h₁ : List ℕ} (nz : v ≡ 0 → ⊥) (eb : b ≡ blockAt p v) (es : Swept p ms b t₁ h t₂ h₁) (ea : a ≡ available owner bin) (ec : c ≡ consumed owner bin) (ef : Filed p a c b t₂ q t₃) where
       pub recycle-found : (k : ℕ) → 0 < k → q ≡ true → seen v (n + 1) t₃ h₁ ≡ closed p n h (recycleLocalBlocks k p ms owner bin t)
-      unfolding recycleLocalBlocks eventsHeap eventHeap sweeps count isSweep
+      unfolding recycleLocalBlocks eventsHeap eventHeap sweeps filter isSweep
       recycle-found zero l z = absurd (not-suc-le-zero l)
       recycle-found (suc k) l z =
           rw (← eu, ← e, ne-eqb v 0 nz, ← eb, ← es .words, ef .none, ef .words, z, ← ea, es .heap, one-more n)
 
       pub recycle-step : (k : ℕ) → 0 < k → q ≡ false
           → closed p (n + 1) h₁ (recycleLocalBlocks (k - 1) p ms owner bin t₃) ≡ closed p n h (recycleLocalBlocks k p ms owner bin t)
-      unfolding recycleLocalBlocks eventsHeap eventHeap sweeps count isSweep
+      unfolding recycleLocalBlocks eventsHeap eventHeap sweeps filter isSweep
       recycle-step zero l z = absurd (not-suc-le-zero l)
       recycle-step (suc k) l z =
           let d : suc k - 1 ≡ k = omega arith in

@@ -7,7 +7,7 @@ use native.Mathlib.Omega.{arith}
 use native.Mathlib.Nat.{not-suc-le-zero}
 use native.Mathlib.Numerals.{add-one}
 use lib.Dec.{eqb, ltb, leb}
-use lib.ListN.{length, getD, set, length-map, List·getD-map, length-take, length-drop, replicate, length-replicate, getD-replicate, replicate-append-replicate}
+use lib.ListN.{length, getD, set, length-map, List·getD-map, length-take, length-drop, replicate, length-replicate, getD-replicate}
 use borrow.Author.Tests.{eq-eqb, ne-eqb, eqb-true, leb-true, lt-ltb, le-ltb, lt-leb, le-leb}
 use borrow.Author.Count.{below-more}
 use lib.Seq.{ext-getD, getD-set-same, getD-set-other}
@@ -19,12 +19,13 @@ use Rattle.model.specs.Memory.{marked, setMark, cleared}
 use Rattle.model.specs.Tables.{Words, Tables, tablesOf, view, flat, setBound, setPhase, setReleased, withReleased}
 use Rattle.model.specs.Events.{releases}
 use Rattle.model.specs.BlockList.{append}
-use Rattle.model.specs.Global.{freshWords, freshTables, isHolder, isBound, hasReleased, bindHolder, destroyHolder, abandonBin, abandonBlocks, unmarkedState, prepared, markPlace, Freed, releaseHolder, sweepLater, allReleased, mergeBin, merge, partReleased}
+use Rattle.model.specs.Global.{freshWords, freshTables, isHolder, isBound, hasReleased, bindHolder, destroyHolder, abandonBin, abandonBlocks, unmarkedState, prepared, markPlace, Freed, releaseHolder, sweepLater, allReleased, partReleased}
 use Rattle.model.specs.Sound.{stateOf}
 use Rattle.model.specs.Calls.{answered, refused, Call, bind, destroy, prepare, mark, release, sharedRelease, says, changes, goodObject, mayRelease, releasePlan, planSound, setUp}
 use Rattle.laws.specs.Below.{and-left, and-right, or-left}
 use Rattle.laws.specs.Base.{if-true, if-false}
 use Rattle.laws.specs.Params.{good-bounds, start-in, block-small}
+use Rattle.laws.specs.Tables.{flat-view}
 use Rattle.native_ms.specs.Promise.{lend, Promised, SetUpPromised}
 use Rattle.native_ms.specs.Released.{Out, out, total}
 use Rattle.native_ms.specs.Space.{lengthsFit, inBlock, collected}
@@ -126,10 +127,6 @@ pub abandon-bin : (p : Params) (to from bin : ℕ) {a u c fa fu fc : ℕ} (t : W
 unfolding abandonBin available unswept consumed
 abandon-bin p to from bin t ea eu ec eda edu edc e₁ e₂ e₃ = rw (e₃, e₂, e₁, ea, eu, ec, eda, edu, edc)
 
-pub merge-bin : (p : Params) (bin : ℕ) {a u c fa fu fc : ℕ} (t : Words) {t₁ t₂ t₃ : Words} → a ≡ listOf 24 bin → u ≡ listOf 25 bin → c ≡ listOf 26 bin → fa ≡ listOf 27 bin → fu ≡ listOf 28 bin → fc ≡ listOf 29 bin → t₁ ≡ append p a fa t → t₂ ≡ append p u fu t₁ → t₃ ≡ append p c fc t₂ → t₃ ≡ mergeBin p bin t
-unfolding mergeBin available unswept consumed
-merge-bin p bin t ea eu ec eda edu edc e₁ e₂ e₃ = rw (e₃, e₂, e₁, ea, eu, ec, eda, edu, edc)
-
 pub each-none : {A : Type 0} (f : ℕ → A → A) (x : A) → x ≡ eachBelow 0 f x
 unfolding eachBelow
 each-none f x = refl
@@ -208,25 +205,11 @@ zeros-end w n i e h z =
     ext-getD 0 w (replicate n 0) (e ∙ sym (length-replicate n 0))
     (λ k q. z k (omega arith) ∙ sym (getD-replicate n k 0 0 (omega arith)))
 
-zeros : ℕ → List ℕ
-zeros n = replicate n 0
-
-zeros-join : (n m : ℕ) → zeros n ++ zeros m ≡ zeros (n + m)
-unfolding zeros
-zeros-join n m = replicate-append-replicate n m 0
-
-zeros-cons : (n : ℕ) → 0 ∷ zeros n ≡ zeros (suc n)
-unfolding zeros
-zeros-cons n = refl
-
--- the eleven parts, all 0
-flat-zeros : (a b c d n k : ℕ) → k ≡ a + (b + suc (c + (d + (n + (n + (n + (n + (n + n)))))))) → zeros a ++ (zeros b ++ (0 ∷ (zeros c ++ (zeros d ++ (zeros n ++ (zeros n ++ (zeros n ++ (zeros n ++ (zeros n ++ zeros n))))))))) ≡ zeros k
-flat-zeros a b c d n k e =
-    rw (zeros-join n n, zeros-join n (n + n), zeros-join n (n + (n + n)), zeros-join n (n + (n + (n + n))), zeros-join n (n + (n + (n + (n + n)))), zeros-join d, zeros-join c, zeros-cons, zeros-join b, zeros-join a, e)
-
 fresh-flat : (p : Params) (k : ℕ) → k ≡ 2958 + 6 * p .blocks → flat (freshWords p) ≡ replicate k 0
-unfolding flat freshWords zeros
-fresh-flat p k e = flat-zeros 1470 1470 8 9 (p .blocks) k (omega arith)
+unfolding freshWords wordCount
+fresh-flat p k e =
+    flat-view (p .blocks) (replicate (2958 + 6 * p .blocks) 0) (length-replicate (2958 + 6 * p .blocks) 0)
+    ∙ ap (λ (n : ℕ). replicate n 0) (sym e)
 
 module _ (p : Params) (w s m h : List ℕ) {f : Bool} (ef : f ≡ lengthsFit p (length w) (length s) (length m) (length h)) where
   is-fit : f ≡ fits p (lend w s m h)
@@ -423,7 +406,7 @@ unreleased-end w i h l g e =
     let q : i ≡ 9 = omega arith in
     e ∙ ap (λ (k : ℕ). unreleased k (view w)) q ∙ unreleased-all (view w) (released-nine w h)
 
-pub collected-at : (p : Params) (t : Words) {t₁ t₂ t₃ : Words} → t₁ ≡ merge p t → t₂ ≡ withReleased (replicate 9 0) t₁ → t₃ ≡ setPhase 0 t₂ → t₃ ≡ collected p t
+pub collected-at : (p : Params) (t : Words) {t₁ t₂ t₃ : Words} → t₁ ≡ abandonBlocks p 24 27 t → t₂ ≡ withReleased (replicate 9 0) t₁ → t₃ ≡ setPhase 0 t₂ → t₃ ≡ collected p t
 unfolding collected
 collected-at p t e₁ e₂ e₃ = e₃ ∙ ap (setPhase 0) (e₂ ∙ ap (withReleased (replicate 9 0)) e₁)
 

@@ -2,7 +2,7 @@
 use Prim.Native.Nat.{ℕ, _+_, _*_, _≤_, _^_}
 use mathlib.Core.Path.{_≡_}
 use mathlib.Core.Bool.{Bool, true}
-use mathlib.Core.List.{List}
+use mathlib.Core.List.{List, headD}
 use lib.ListN.{getD, set}
 use Rattle.model.specs.declared.Params.{Params}
 use Rattle.model.specs.Base.{if_then_else_, anyBelow}
@@ -11,7 +11,7 @@ use Rattle.model.specs.Memory.{load, zeroed, marked}
 use Rattle.model.specs.SizeClasses.{wordsIn}
 use Rattle.model.specs.Tables.{Words, setFree}
 use Rattle.model.specs.Sound.{linkOk}
-use Rattle.model.specs.Block.{Unallocated, cellCount, cellsDown, headOf, linkAll, initChain, initBlock, sweepChain, sweptWords, clearBlock}
+use Rattle.model.specs.Block.{Unallocated, cellCount, cellsDown, linkAll, initChain, initBlock, sweepChain, sweptWords, clearBlock}
 use Rattle.native_ms.specs.declared.block.Taken.{Taken}
 use Rattle.native_ms.specs.declared.block.Taken.the-variants.{BadLink, Cell}
 
@@ -28,7 +28,7 @@ pub record Room (p : Params) (from s n : ℕ) : Type 0 where
 
 -- the chain was linked in the heap h, which is h₁ now, and its head is r
 pub record Linked (p : Params) (chain h : List ℕ) (r : ℕ) (h₁ : List ℕ) : Type 0 where
-  pub head : r ≡ headOf chain
+  pub head : r ≡ headD chain 0
   pub heap : h₁ ≡ linkAll p chain h
 
 -- the cells of b that `kept` does not keep, by the size in the words t
@@ -37,7 +37,7 @@ freed p kept b t = cellsDown (kept (getD (t .size) b 0)) (start p b) (getD (t .s
 
 -- a sweep that keeps what `kept` says, of a cell size and a cell
 pub record SweptBy (p : Params) (kept : ℕ → ℕ → Bool) (b : ℕ) (t : Words) (h : List ℕ) (t₁ : Words) (h₁ : List ℕ) : Type 0 where
-  pub words : t₁ ≡ setFree b (headOf (freed p kept b t)) t
+  pub words : t₁ ≡ setFree b (headD (freed p kept b t) 0) t
   pub heap : h₁ ≡ linkAll p (freed p kept b t) h
 
 -- the sweep that the parameters choose

@@ -16,7 +16,7 @@ use Rattle.model.specs.Tables.{Words}
 use Rattle.model.specs.SizeClasses.{cellBytes}
 use Rattle.model.specs.Block.{isCell}
 use Rattle.model.specs.Global.{isHolder, isBound, hasReleased, allReleased}
-use Rattle.model.specs.Sound.{blockClear, listNamed, binNamed, setNamed, sizeOk, linkOk, tlsOk, isEmpty, ownerEmpty, inGcEmpty, phaseKnown, releasedSome}
+use Rattle.model.specs.Sound.{blockClear, listNamed, binNamed, setNamed, sizeOk, linkOk, tlsOk, ownerEmpty, inGcEmpty, phaseKnown, releasedSome}
 use Rattle.laws.specs.Below.{and-second, same-test}
 use Rattle.laws.specs.Pigeon.{sum-end, sum-step, flag-one, flag-none}
 use Rattle.native_ms.specs.declared.sound.Walked.{Walked}
@@ -341,19 +341,19 @@ unfolding hasReleased
 released-word w part e = rw e
 
 module _ (w : Words) (owner : ℕ) where
-  abbrev pub emptyAt : ℕ → Bool
-  emptyAt i = isEmpty w (listOf owner i)
+  unfoldable pub emptyAt : ℕ → Bool
+  emptyAt i = eqb (getD (w .first) (listOf owner i) 0) 0
 
   pub owner-lists : allBelow 147 emptyAt ≡ ownerEmpty w owner
-  unfolding ownerEmpty
+  unfolding ownerEmpty emptyAt
   owner-lists = refl
 
   pub list-some : (i : ℕ) {f : ℕ} → f ≡ getD (w .first) (49 * owner + i) 0 → (f ≡ 0 → ⊥) → emptyAt i ≡ false
-  unfolding isEmpty listOf
+  unfolding emptyAt listOf
   list-some i {f} e n = rw (← e) (ne-eqb f 0 n)
 
   pub list-none : (i : ℕ) {f : ℕ} → f ≡ getD (w .first) (49 * owner + i) 0 → f ≡ 0 → emptyAt i ≡ true
-  unfolding isEmpty listOf
+  unfolding emptyAt listOf
   list-none i {f} e z = rw (← e) (eq-eqb f 0 z)
 
 module _ (w : Words) (i : ℕ) {x : ℕ} (ex : x ≡ getD (w .bound) i 0) where

@@ -4,9 +4,9 @@ use mathlib.Core.Bool.{Bool, _&&_}
 use lib.Dec.{eqb, ltb, leb}
 use lib.ListN.{replicate}
 use Rattle.model.specs.declared.Params.{Params}
-use Rattle.model.specs.Params.{goodParams, wordCount, heapBytes, start}
+use Rattle.model.specs.Params.{goodParams, wordCount, heapBytes, start, abandoned, inGc}
 use Rattle.model.specs.Tables.{Words, setPhase, withReleased}
-use Rattle.model.specs.Global.{Running, merge}
+use Rattle.model.specs.Global.{Running, abandonBlocks}
 
 -- `fits`, of lengths
 unfoldable pub lengthsFit : Params → ℕ → ℕ → ℕ → ℕ → Bool
@@ -19,4 +19,4 @@ inBlock p b a = leb (start p b) a && ltb a (start p b + p .bytes)
 
 -- the end of a collection
 unfoldable pub collected : Params → Words → Words
-collected p t = setPhase Running (withReleased (replicate 9 0) (merge p t))
+collected p t = setPhase Running (withReleased (replicate 9 0) (abandonBlocks p abandoned inGc t))

@@ -30,7 +30,7 @@ ghost use Prim.Native.Nat.{ℕ, _<_, _≤_, _^_};
 ghost use lib.ListN.{length, getD, replicate};
 ghost use Rattle.model.specs.Params.{goodParams, minusLower};
 ghost use Rattle.model.specs.Tables.{Words, view, tablesOf, withReleased};
-ghost use Rattle.model.specs.Global.{freed, abandonBin, abandonBlocks, unmarkedState, releaseFrom, releaseBin, releaseHolder, sweepLaterBin, sweepLater, isHolder, hasReleased, mergeBin, merge, partReleased};
+ghost use Rattle.model.specs.Global.{freed, abandonBin, abandonBlocks, unmarkedState, releaseFrom, releaseBin, releaseHolder, sweepLaterBin, sweepLater, isHolder, hasReleased, partReleased};
 ghost use Rattle.model.specs.Calls.{bind, destroy, prepare, mark, release, sharedRelease, goodObject, mayRelease};
 ghost use Rattle.model.specs.Answers.{replyOf, markReply, releaseReply};
 ghost use Rattle.native_ms.specs.Promise.{lend, Promised, SetUpPromised};
@@ -475,31 +475,12 @@ fn sweep_later(p: Params, w: &mut [usize], st: &mut [u8]) -> usize
     n
 }
 
-fn merge_bin(p: Params, w: &mut [usize], bin: usize)
-    requires { ⌜ (goodParams p ≡ true) × (bin < 49) ⌝ }
-    ensures { λ _. ⌜ view (now (w .exit)) ≡ mergeBin p bin (view (now (w .entry))) ⌝ }
-{
-    let a = address::list_of(24, bin);
-    let u = address::list_of(25, bin);
-    let c = address::list_of(26, bin);
-    let ga = address::list_of(27, bin);
-    let gu = address::list_of(28, bin);
-    let gc = address::list_of(29, bin);
-    block_list::append(p, w, a, ga);
-    block_list::append(p, w, u, gu);
-    block_list::append(p, w, c, gc);
-}
-
 // The in-gc lists go behind the abandoned ones.
 fn merge(p: Params, w: &mut [usize])
     requires { ⌜ goodParams p ≡ true ⌝ }
-    ensures { λ _. ⌜ view (now (w .exit)) ≡ merge p (view (now (w .entry))) ⌝ }
+    ensures { λ _. ⌜ view (now (w .exit)) ≡ abandonBlocks p 24 27 (view (now (w .entry))) ⌝ }
 {
-    let mut bin: usize = 0;
-    while bin < 49 {
-        merge_bin(p, w, bin);
-        bin = bin + 1;
-    }
+    abandon_blocks(p, w, 24, 27);
 }
 
 fn clear_released(w: &mut [usize])

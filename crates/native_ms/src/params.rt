@@ -4,7 +4,8 @@ ghost use mathlib.Core.Path.{_≡_};
 ghost use mathlib.Core.Bool.{true, not, _&&_, _||_};
 ghost use Prim.Native.Nat.{_+_, _*_, _/_, _%_, _^_, _<_, _≤_};
 ghost use lib.Dec.{eqb, ltb, leb};
-ghost use Rattle.model.specs.Params.{powerOfTwo, lowerOk, isZero, goodParams, wordCount, heapBytes};
+ghost use Rattle.model.specs.Params.{powerOfTwo, lowerOk, goodParams, wordCount, heapBytes};
+ghost use lib.IntN.{natAbs};
 
 // A power of two up to 65,536.
 pub(crate) fn power_of_two(x: usize) -> bool
@@ -46,7 +47,7 @@ pub(crate) fn power_between(x: usize, low: usize, high: usize) -> bool
 
 // L: a multiple of 8, −64 to 64, and 0 if unified.
 fn good_lower(unified: bool, l: i64) -> bool
-    ensures { λ r. ⌜ r ≡ (lowerOk l && (not unified || isZero l)) ⌝ }
+    ensures { λ r. ⌜ r ≡ (lowerOk l && (not unified || eqb (natAbs l) 0)) ⌝ }
 {
     if l < -64 {
         return false;

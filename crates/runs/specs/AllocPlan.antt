@@ -20,7 +20,7 @@ use Rattle.model.specs.Params.{start, blockAt, listWord, localSets, available, 
 use Rattle.model.specs.Tables.{Words, Tables, tablesOf, withWords, setFree, setSize, setTls}
 use Rattle.model.specs.SizeClasses.{cellBytes, alignAllocation}
 use Rattle.model.specs.BlockList.{Popped, popped, push, pop}
-use Rattle.model.specs.Block.{Unmarked, headOf, linkAll, initChain, initBlock, cellsDown, cellCount}
+use Rattle.model.specs.Block.{Unmarked, linkAll, initChain, initBlock, cellsDown, cellCount}
 use Rattle.model.specs.Events.{Event, initialised, eventHeap, eventsHeap}
 use Rattle.model.specs.FreeListAllocator.{findFreeBlockWith, Found, found, andThen, recycleLocalBlocks, acquireAbandoned, Search, inFound, acquireFresh, findBlock}
 use Rattle.model.specs.Calls.{refused, Call, alloc, End, says, takes, Plan, goodOffer, takePlan}

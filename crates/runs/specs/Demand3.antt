@@ -16,15 +16,15 @@ use Rattle.model.specs.declared.Refusal.the-variants.{BadSetup}
 use Rattle.model.specs.Base.{if_then_else_, In, Pairwise, member}
 use Rattle.model.specs.Params.{goodParams, Lent, fits, wordCount, heapBytes, blockAt, unswept}
 use Rattle.model.specs.Memory.{marked, cleared}
-use Rattle.model.specs.Tables.{Words, Tables, tablesOf, view, flat}
+use Rattle.model.specs.Tables.{Words, blocksIn, Tables, tablesOf, view, flat}
 use Rattle.model.specs.Events.{Event, sweeps, releases}
 use Rattle.model.specs.Global.{freshWords, freshTables}
 use Rattle.model.specs.Calls.{Reply, answered, refusalNumber, Call, Step, step, Result, tablesIn, lentOf, resultFrom, badSetup, call, setUp, pages}
-use Rattle.model.specs.Runs.{Cell, Book, emptyBook, bookAfter, Write, written, Turn, State, foundBy, stepOf, resultOf, turned, begun, covers, Holds, HoldersWrite, Seen, seen, trace, TurnKeeps, RunKeeps, Alike, Demand3}
+use Rattle.model.specs.Runs.{Cell, Book, bookAfter, Write, written, Turn, State, foundBy, stepOf, resultOf, turned, begun, covers, Holds, HoldersWrite, Seen, seen, trace, TurnKeeps, RunKeeps, Alike, Demand3}
 use Rattle.laws.specs.Base.{and-left, and-right, bool-cases, if-true, if-false}
 use Rattle.laws.specs.Below.{and-both}
 use Rattle.laws.specs.Params.{Bounds}
-use Rattle.laws.specs.Tables.{Sized, view-flat, length-flat}
+use Rattle.laws.specs.Tables.{part-zeros, Sized, sized-view, view-flat, length-flat}
 use Rattle.laws.specs.Memory as Mem
 use Rattle.laws.specs.Marks.{marked-cleared}
 use Rattle.laws.specs.Cells.{Whole, whole-from, whole-apart, whole-blockAt, stands-frame, chainStands}
@@ -32,6 +32,9 @@ use Rattle.runs.specs.Inv.{BlockInv, Held, Core}
 use Rattle.runs.specs.Plans.{Inv, refusal-some}
 use Rattle.runs.specs.Finish.{ShadowStep, StepOk, held-apart}
 use Rattle.runs.specs.Calls.{B, shadowStep, step-ok}
+
+abbrev emptyBook : Book
+emptyBook = record { cells = []; places = [] }
 
 -- ---- what holders write
 
@@ -235,19 +238,19 @@ module _ (p : Params) (fine : goodParams p ≡ true) where
   -- ---- after set-up
 
   fresh-inv : (h : List ℕ) → length h ≡ heapBytes p → Inv p bounds (freshTables p) h (replicate (p .blocks) []) emptyBook
-  unfolding freshTables freshWords In Pairwise member chainStands cleared
+  unfolding freshTables freshWords wordCount view In Pairwise member chainStands cleared
   fresh-inv h len =
       record {
         core = record {
           heap = len;
-          free-length = length-replicate (p .blocks) 0;
-          sizes = length-replicate (p .blocks) 0;
+          free-length = Z .free;
+          sizes = Z .size;
           states = length-replicate (p .blocks) 0;
           markings = length-replicate (heapBytes p / 64) 0;
           shadow = length-replicate (p .blocks) [];
           bytes = Mem.bytes-zeros (heapBytes p / 64);
-          words = λ b. ap (λ (x : ℕ). x % 8) (Mem.getD-zeros (p .blocks) b);
-          blocks = λ b lb. rw (Mem.getD-zeros (p .blocks) b, getD-replicate {A = List ℕ} (p .blocks) b [] [] lb)
+          words = λ b. ap (λ (x : ℕ). x % 8) (part-zeros (2958 + 3 * n) n k b);
+          blocks = λ b lb. rw (part-zeros (2958 + 2 * n) n k b, part-zeros (2958 + 3 * n) n k b, getD-replicate {A = List ℕ} (p .blocks) b [] [] lb)
               (record { stands = refl; cells = λ x m. absurd m; desc = tt });
           held = λ c m. absurd m;
           off = λ c m. absurd m;
@@ -255,22 +258,20 @@ module _ (p : Params) (fine : goodParams p ≡ true) where
           marks = λ a e. unmarked a;
           places = λ q m. absurd m;
         };
-        sized = record {
-          first = length-replicate {A = ℕ} 1470 0;
-          last = length-replicate {A = ℕ} 1470 0;
-          bound = refl;
-          released = refl;
-          next = length-replicate (p .blocks) 0;
-          prev = length-replicate (p .blocks) 0;
-          free = length-replicate (p .blocks) 0;
-          size = length-replicate (p .blocks) 0;
-          list = length-replicate (p .blocks) 0;
-          tls = length-replicate (p .blocks) 0;
-        };
+        sized = Z;
         young = λ c m. absurd m;
-        idle = λ j n lj ln. Mem.getD-zeros 1470 (unswept (3 * j) n);
+        idle = λ j m lj lm. part-zeros 0 1470 k (unswept (3 * j) m);
       }
     where
+      k : ℕ
+      k = 2958 + 6 * p .blocks
+
+      n : ℕ
+      n = blocksIn (replicate k 0)
+
+      Z : Sized (p .blocks) (view (replicate k 0))
+      Z = sized-view (p .blocks) (replicate k 0) (length-replicate k 0)
+
       unmarked : (a : ℕ) → marked p (replicate (heapBytes p / 64) 0) a ≡ false
       unmarked a = subst (λ (k : ℕ). marked p (replicate k 0) a ≡ false) (length-replicate (heapBytes p / 64) 0) (marked-cleared p (replicate (heapBytes p / 64) 0) a)
 

@@ -3,7 +3,7 @@
 use mathlib.Core.Path.{_≡_, refl, sym, ap, _∙_, subst}
 use mathlib.Core.Logic.{_≢_, _⊎_, inl, inr, ⊎-elim}
 use mathlib.Core.Bool.{Bool, true, false, not, _&&_, _||_}
-use mathlib.Core.List.{List, [], _∷_, _++_, append-nil}
+use mathlib.Core.List.{List, [], _∷_, _++_, append-nil, headD}
 use Prim.Native.Nat.{ℕ, zero, suc, _+_, _-_, _*_, _%_, _≤_, _<_}
 use native.Mathlib.Omega.{arith}
 use lib.Dec.{eqb}
@@ -16,7 +16,7 @@ use Rattle.model.specs.Params.{start, blockAt, heapBytes, heapEnd}
 use Rattle.model.specs.Memory.{load, zeroed}
 use Rattle.model.specs.Tables.{Words, Tables, tablesOf, withWords, setFree}
 use Rattle.model.specs.SizeClasses.{alignAllocation}
-use Rattle.model.specs.Block.{headOf, isCell}
+use Rattle.model.specs.Block.{isCell}
 use Rattle.model.specs.Events.{Event, initialised, swept, released, taken, eventHeap, eventsHeap, sweeps}
 use Rattle.model.specs.Sound.{linkOk}
 use Rattle.model.specs.Calls.{Reply, answered, Call, bind, destroy, alloc, prepare, mark, release, sharedRelease, End, says, takes, Plan, Step, takeCell, finish}
@@ -49,7 +49,7 @@ shadowTake t es sh b align offset fresh =
     let size : ℕ = getD (t .words .size) b 0 in
     record {
       reply = answered (alignAllocation cell align offset ∷ size ∷ flag fresh ∷ sweeps es ∷ []);
-      tables = withWords (setFree b (headOf (tail (getD sh b []))) (t .words)) t;
+      tables = withWords (setFree b (headD (tail (getD sh b [])) 0) (t .words)) t;
       events = es ++ (taken cell size ∷ []);
       shadow = set sh b (tail (getD sh b []));
     }
@@ -76,6 +76,23 @@ filter-all : (cs : List Cell) → filter (λ (c : Cell). not false) cs ≡ cs
 unfolding filter
 filter-all [] = refl
 filter-all (c ∷ cs) = ap (λ (x : List Cell). c ∷ x) (filter-all cs)
+
+-- `Served`, call by call
+servedBy : Call → Step → Type 0
+servedBy (bind h) s = Unit {0}
+servedBy (destroy h) s = Unit {0}
+servedBy (alloc h size align offset offer) s =
+    s .reply .number ≡ 0
+    → (a : ℕ) × (n : ℕ) × In (taken a n) (s .events) × (getD (s .reply .values) 0 0 ≡ alignAllocation a align offset)
+    × (getD (s .reply .values) 1 0 ≡ n) × (alignAllocation a align offset + size ≤ a + n)
+servedBy prepare s = Unit {0}
+servedBy (mark place b) s = Unit {0}
+servedBy (release h) s = Unit {0}
+servedBy sharedRelease s = Unit {0}
+
+served-by : (c : Call) (s : Step) → servedBy c s → Served c s
+unfolding servedBy Served
+served-by c s v h size align offset offer e = subst (λ (x : Call). servedBy x s) e v
 
 module _ (p : Params) (B : Bounds p) where
   -- what a call's step is shown to do
@@ -111,21 +128,21 @@ module _ (p : Params) (B : Bounds p) where
     pub said-ok : (t′ : Tables) (es : List Event) (r : Reply) → EventsOk p B (takerOf c) es h bk
         → Inv p B t′ (eventsHeap p es h) (shadowEvents es sh) (bookFor c (says r) (bookEvents p (takerOf c) es bk)) → Serves c (t′ .words) (says r)
         → StepOk h bk c (finish p t′ es (eventsHeap p es h) (says r)) (shadowFinish t′ es (shadowEvents es sh) (says r))
-    unfolding finish shadowFinish bookFor bookAfter Zeroed Served Serves Unchanged LostExactly eventsHeap
+    unfolding finish shadowFinish bookFor bookAfter Zeroed servedBy Serves Unchanged LostExactly eventsHeap
     said-ok t′ es r o I serves =
         record {
           reply = refl;
           tables = refl;
           events = refl;
           inv = I;
-          served = said-served c serves;
+          served = served-by c _ (said-served c serves);
           zeroed = λ a s m. absurd (none-taken p B (takerOf c) es h bk o a s m);
           unchanged = subst (λ (x : List Event). Unchanged p bk x h (eventsHeap p es h)) (append-nil es)
               (events-unchanged p B (takerOf c) es [] h bk o (λ d m v k w. refl));
           lost = subst (λ (x : List Event). LostExactly p (takerOf c) x bk) (append-nil es) (events-lost p B (takerOf c) es [] h bk o tt);
         }
       where
-        said-served : (c : Call) → Serves c (t′ .words) (says r) → Served c (finish p t′ es (eventsHeap p es h) (says r))
+        said-served : (c : Call) → Serves c (t′ .words) (says r) → servedBy c (finish p t′ es (eventsHeap p es h) (says r))
         said-served (bind d) v = tt
         said-served (destroy d) v = tt
         said-served (alloc d size align offset offer) v = λ e. absurd (not-both _ (eq-eqb _ _ e) v)
@@ -157,7 +174,7 @@ module _ (p : Params) (B : Bounds p) where
       head-is : getD (t′ .words .free) b 0 ≡ x
       head-is = first-head p B (t′ .words .free) (t′ .words .size) (t′ .states) (t′ .marks) H (shadowEvents es sh) bk′ C b lb occ x l top (takerOf c)
 
-      link-is : load p H x ≡ headOf l
+      link-is : load p H x ≡ headD l 0
       link-is = first-link p B (t′ .words .free) (t′ .words .size) (t′ .states) (t′ .marks) H (shadowEvents es sh) bk′ C b lb occ x l top (takerOf c)
 
       tail-is : tail (getD (shadowEvents es sh) b []) ≡ l
@@ -165,8 +182,8 @@ module _ (p : Params) (B : Bounds p) where
       tail-is = ap tail top
 
       -- the link is good
-      good-link : (l : List ℕ) → ((y : ℕ) → In y l → Whole p b size y) → linkOk p (t′ .words) b (headOf l) ≡ true
-      unfolding linkOk headOf In
+      good-link : (l : List ℕ) → ((y : ℕ) → In y l → Whole p b size y) → linkOk p (t′ .words) b (headD l 0) ≡ true
+      unfolding linkOk headD In
       good-link [] f = refl
       good-link (y ∷ l) f = or-right (eqb y 0) _ (whole-isCell p b size y (f y (inl refl)))
 
@@ -180,7 +197,7 @@ module _ (p : Params) (B : Bounds p) where
       taken-step =
           record {
             reply = answered (alignAllocation x align offset ∷ size ∷ flag fresh ∷ sweeps es ∷ []);
-            tables = withWords (setFree b (headOf l) (t′ .words)) t′;
+            tables = withWords (setFree b (headD l 0) (t′ .words)) t′;
             heap = zeroed p H x size;
             events = es ++ (taken x size ∷ []);
           }
@@ -216,7 +233,7 @@ module _ (p : Params) (B : Bounds p) where
     abbrev s : Step
     s = record {
       reply = answered (alignAllocation x align offset ∷ n ∷ flag fresh ∷ sweeps es ∷ []);
-      tables = withWords (setFree b (headOf l) (t′ .words)) t′;
+      tables = withWords (setFree b (headD l 0) (t′ .words)) t′;
       heap = zeroed p G x n;
       events = es ++ (taken x n ∷ []);
     }
@@ -259,14 +276,14 @@ module _ (p : Params) (B : Bounds p) where
         )
 
     pub taken-ok : StepOk h bk c s (record { reply = s .reply; tables = s .tables; events = s .events; shadow = set (shadowEvents es sh) b l })
-    unfolding Served takerOf Unchanged LostExactly eventsHeap eventHeap frees hits In
+    unfolding servedBy takerOf Unchanged LostExactly eventsHeap eventHeap frees hits In
     taken-ok =
         record {
           reply = refl;
           tables = refl;
           events = refl;
           inv = after-inv;
-          served = λ z. (x, n, in-append-right (taken x n) es (taken x n ∷ []) (inl refl), refl, refl, fits x (whole-eight p B b n x lb (I .core .words b) first));
+          served = served-by c s (λ z. (x, n, in-append-right (taken x n) es (taken x n ∷ []) (inl refl), refl, refl, fits x (whole-eight p B b n x lb (I .core .words b) first)));
           zeroed = zero-bytes;
           unchanged = events-unchanged p B d es (taken x n ∷ []) h bk o
               (λ e m q k v. same-bytes p B d (t′ .words .size) (t′ .states) G (zeroed p G x n) e (I .core .held e m)

@@ -15,7 +15,8 @@ use Rattle.model.specs.Base.{if_then_else_, eachBelow}
 use Rattle.model.specs.Params.{start, blockAt, listWord}
 use Rattle.model.specs.Tables.{Words, setFirst, setLast, setNext, setPrev, setList}
 use Rattle.laws.specs.Tables.{lengths, lengths-setFirst, lengths-setLast, lengths-setNext, lengths-setPrev, lengths-setList}
-use Rattle.model.specs.BlockList.{push, pushOnly, pushAhead, popAt, popOnly, popAhead, pop, Popped, popped, remove, removeBetween, relabel, link, append}
+use Rattle.model.specs.BlockList.{push, popHead, pop, Popped, popped, remove, removeBetween, relabel, link, append}
+use Rattle.laws.specs.BlockList.{pushOnly, pushAhead, popAt, popOnly, popAhead}
 
 -- what list operations leave
 pub record LinksOnly (t t′ : Words) : Type 0 where
@@ -135,7 +136,7 @@ module _ (p : Params) where
       (prev-links _ _ (next-links _ _ (list-links _ _ (prev-links _ _ (first-links _ _ a)))))
 
   pub pop-links : {t₀ : Words} (l : ℕ) (t : Words) → LinksOnly t₀ t → LinksOnly t₀ (pop p l t .words)
-  unfolding pop
+  unfolding pop popAhead popOnly popAt popHead
   pop-links l t a =
       if-popped (eqb (getD (t .first) l 0) 0) (popped 0 t) _ a (popAt-links l (blockAt p (getD (t .first) l 0)) t a)
 
@@ -202,7 +203,7 @@ module _ (p : Params) where
       if-field false x y e f = f
 
   pub pop-firsts : (l : ℕ) (t : Words) → FirstsBut l l t (pop p l t .words)
-  unfolding FirstsBut pop popAt popOnly popAhead setFirst setLast setNext setPrev setList
+  unfolding FirstsBut pop popHead popAt popOnly popAhead setFirst setLast setNext setPrev setList
   pop-firsts l t = one (eqb (getD (t .first) l 0) 0)
     where
       B : ℕ

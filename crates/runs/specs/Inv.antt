@@ -6,7 +6,7 @@
 use mathlib.Core.Path.{_≡_, refl, sym, ap, _∙_, subst}
 use mathlib.Core.Logic.{_≢_, _⊎_, inl, inr, ⊎-elim}
 use mathlib.Core.Bool.{Bool, true, false, not, _&&_, _||_}
-use mathlib.Core.List.{List, [], _∷_, _++_}
+use mathlib.Core.List.{List, [], _∷_, _++_, headD}
 use Prim.Native.Nat.{ℕ, zero, suc, _+_, _-_, _*_, _/_, _%_, _≤_, _<_}
 use native.Mathlib.Omega.{arith}
 use native.Mathlib.Decide.{ℕ-discrete, decLt}
@@ -19,7 +19,7 @@ use Rattle.model.specs.Base.{if_then_else_, In, Pairwise, member, filter, anyBe
 use Rattle.model.specs.Params.{start, blockAt, inHeap, heapBytes, heapEnd, plusLower, minusLower, biased}
 use Rattle.model.specs.Memory.{load, zeroed, marked}
 use Rattle.model.specs.SizeClasses.{wordsIn}
-use Rattle.model.specs.Block.{headOf, linkAll, keeps, simple, sweepChain, initChain, cellsDown, cellCount, Marked}
+use Rattle.model.specs.Block.{linkAll, keeps, simple, sweepChain, initChain, cellsDown, cellCount, Marked}
 use Rattle.model.specs.Events.{Event, initialised, swept, released, taken, eventHeap, eventsHeap}
 use Rattle.model.specs.Runs.{Cell, Book, frees, entered, bookEvent, bookEvents, unmarked, covers, Apart, staysHeld, Unchanged, byteAt, hits, LostExactly}
 use Rattle.laws.specs.Base.{in-filter, filter-in, pairwise-filter, in-member, member-in, bool-cases, same-test, any-same, not-both, below-none-any, and-right}
@@ -117,8 +117,8 @@ module _ (p : Params) (B : Bounds p) where
       omega (arith, W .at, start-in p b lb, times-eight (W .k) s e, times-eight b (p .bytes) (B .bytes-words), B .base-words)
 
   -- a chain's first address
-  stands-head : (h : List ℕ) (a : ℕ) (l : List ℕ) → chainStands p h a l → a ≡ headOf l
-  unfolding chainStands headOf
+  stands-head : (h : List ℕ) (a : ℕ) (l : List ℕ) → chainStands p h a l → a ≡ headD l 0
+  unfolding chainStands headD
   stands-head h a [] c = c
   stands-head h a (x ∷ l) c = c .0
 
@@ -129,7 +129,7 @@ module _ (p : Params) (B : Bounds p) where
     -- the cells of another block, or of the new chain, stand in the heap after linking
     module _ (s : ℕ) (cells : (x : ℕ) → In x chain → Whole p b s x) (desc : Desc 8 chain) where
       -- the new chain
-      new-block : BlockInv p (linkAll p chain h) b (headOf chain) s chain
+      new-block : BlockInv p (linkAll p chain h) b (headD chain 0) s chain
       new-block =
           record {
             stands = stands-linkAll p chain h (whole-placed p h b s chain B (I .heap) lb cells) desc;
@@ -193,7 +193,7 @@ module _ (p : Params) (B : Bounds p) where
       unfolding sweepChain
       swept-desc = subst (Desc 8) (sym is) (desc-less (getD size b 0) 8 _ word (desc-cellsDown _ (start p b) (getD size b 0) (cellCount p (getD size b 0))))
 
-      pub sweep-core : Core p (set free b (headOf chain)) size st ms (linkAll p chain h) (set sh b chain) (bookEvent p hd (swept b chain) bk)
+      pub sweep-core : Core p (set free b (headD chain 0)) size st ms (linkAll p chain h) (set sh b chain) (bookEvent p hd (swept b chain) bk)
       unfolding bookEvent entered frees
       sweep-core =
           record {
@@ -216,11 +216,11 @@ module _ (p : Params) (B : Bounds p) where
           was : (c : Cell) → In c (bookEvent p hd (swept b chain) bk .cells) → In c (bk .cells) × (member (c .start) chain ≡ false)
           was = was-held hd (swept b chain) (λ cs. refl)
 
-          block-of : (d : ℕ) → d < p .blocks → BlockInv p (linkAll p chain h) d (getD (set free b (headOf chain)) d 0) (getD size d 0) (getD (set sh b chain) d [])
+          block-of : (d : ℕ) → d < p .blocks → BlockInv p (linkAll p chain h) d (getD (set free b (headD chain 0)) d 0) (getD size d 0) (getD (set sh b chain) d [])
           block-of d ld =
-              set-two free sh b (headOf chain) 0 chain [] d (omega (arith, I .free-length)) (omega (arith, I .shadow))
+              set-two free sh b (headD chain 0) 0 chain [] d (omega (arith, I .free-length)) (omega (arith, I .shadow))
               (λ x y. BlockInv p (linkAll p chain h) d x (getD size d 0) y)
-              (λ e. subst (λ (x : ℕ). BlockInv p (linkAll p chain h) x (headOf chain) (getD size x 0) chain) (sym e)
+              (λ e. subst (λ (x : ℕ). BlockInv p (linkAll p chain h) x (headD chain 0) (getD size x 0) chain) (sym e)
               (new-block (getD size b 0) (λ x m. swept-cell x m .0) swept-desc))
               (λ e. other-chain (getD size b 0) (λ x m. swept-cell x m .0) swept-desc d ld e)
 
@@ -276,7 +276,7 @@ module _ (p : Params) (B : Bounds p) where
       not-here : (c : Cell) → In c (bk .cells) → blockAt p (c .start) ≢ b
       not-here c m e = I .held c m .occupied (ap (λ (x : ℕ). getD st x 0) e ∙ none)
 
-      pub init-core : Core p (set free b (headOf chain)) (set size b s) (set st b 255) ms (linkAll p chain h) (set sh b chain) (bookEvent p hd (initialised b chain) bk)
+      pub init-core : Core p (set free b (headD chain 0)) (set size b s) (set st b 255) ms (linkAll p chain h) (set sh b chain) (bookEvent p hd (initialised b chain) bk)
       unfolding bookEvent entered frees
       init-core =
           record {
@@ -302,11 +302,11 @@ module _ (p : Params) (B : Bounds p) where
           word-of : (d : ℕ) → getD (set size b s) d 0 % 8 ≡ 0
           word-of d = ⊎-elim (λ e. rw (e .1) whole) (λ e. rw (e .1) (I .words d)) (set-cases size b s 0 d (omega (arith, I .sizes)))
 
-          block-of : (d : ℕ) → d < p .blocks → BlockInv p (linkAll p chain h) d (getD (set free b (headOf chain)) d 0) (getD (set size b s) d 0) (getD (set sh b chain) d [])
+          block-of : (d : ℕ) → d < p .blocks → BlockInv p (linkAll p chain h) d (getD (set free b (headD chain 0)) d 0) (getD (set size b s) d 0) (getD (set sh b chain) d [])
           block-of d ld =
-              set-two free sh b (headOf chain) 0 chain [] d (omega (arith, I .free-length)) (omega (arith, I .shadow))
+              set-two free sh b (headD chain 0) 0 chain [] d (omega (arith, I .free-length)) (omega (arith, I .shadow))
               (λ x y. BlockInv p (linkAll p chain h) d x (getD (set size b s) d 0) y)
-              (λ e. subst (λ (x : ℕ). BlockInv p (linkAll p chain h) x (headOf chain) (getD (set size b s) x 0) chain) (sym e)
+              (λ e. subst (λ (x : ℕ). BlockInv p (linkAll p chain h) x (headD chain 0) (getD (set size b s) x 0) chain) (sym e)
               (rw (getD-set-same size b s 0 (omega (arith, I .sizes))) (new-block s init-cell init-desc)))
               (λ e. rw (getD-set-other size b d s 0 e) (other-chain s init-cell init-desc d ld e))
 
@@ -450,7 +450,7 @@ module _ (p : Params) (B : Bounds p) where
     first-head = here .stands .0
 
     -- the link read is the rest's head
-    pub first-link : load p h x ≡ headOf l
+    pub first-link : load p h x ≡ headD l 0
     unfolding chainStands
     first-link = stands-head h (load p h x) l (here .stands .1)
 
@@ -486,7 +486,7 @@ module _ (p : Params) (B : Bounds p) where
     abbrev pub new : Cell
     new = record { start = x; size = getD size b 0; holder = hd; old = false }
 
-    pub take-core : Core p (set free b (headOf l)) size st ms (zeroed p h x (getD size b 0)) (set sh b l)
+    pub take-core : Core p (set free b (headD l 0)) size st ms (zeroed p h x (getD size b 0)) (set sh b l)
         (record { cells = new ∷ bk .cells; places = bk .places })
     unfolding In Pairwise chainStands
     take-core =
@@ -510,13 +510,13 @@ module _ (p : Params) (B : Bounds p) where
         H : List ℕ
         H = zeroed p h x (getD size b 0)
 
-        block-of : (d : ℕ) → d < p .blocks → BlockInv p H d (getD (set free b (headOf l)) d 0) (getD size d 0) (getD (set sh b l) d [])
+        block-of : (d : ℕ) → d < p .blocks → BlockInv p H d (getD (set free b (headD l 0)) d 0) (getD size d 0) (getD (set sh b l) d [])
         block-of d ld =
-            set-two free sh b (headOf l) 0 l [] d (omega (arith, I .free-length)) (omega (arith, I .shadow))
+            set-two free sh b (headD l 0) 0 l [] d (omega (arith, I .free-length)) (omega (arith, I .shadow))
             (λ u v. BlockInv p H d u (getD size d 0) v)
-            (λ e. subst (λ (z : ℕ). BlockInv p H z (headOf l) (getD size z 0) l) (sym e)
+            (λ e. subst (λ (z : ℕ). BlockInv p H z (headD l 0) (getD size z 0) l) (sym e)
             (record {
-              stands = stands-frame p h H (headOf l) l (λ y m. zero-word b lb y (rest-cell y m) (rest-other y m))
+              stands = stands-frame p h H (headD l 0) l (λ y m. zero-word b lb y (rest-cell y m) (rest-other y m))
                   (subst (λ (v : ℕ). chainStands p h v l) first-link (here .stands .1));
               cells = rest-cell;
               desc = here .desc .1;

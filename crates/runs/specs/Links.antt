@@ -17,7 +17,8 @@ use Rattle.model.specs.Tables.{Words, setFirst, setLast, setNext, setPrev, setL
 use Rattle.laws.specs.Tables.{Sized, sized-same, kept-lengths}
 use Rattle.laws.specs.Params.{Bounds, start-pos, start-same, blockAt-start, start-blockAt, blockAt-isStart}
 use Rattle.laws.specs.Base.{and-left, and-right, all-below, member-in, bool-cases, if-true, if-false}
-use Rattle.model.specs.BlockList.{push, pushOnly, pushAhead, pop, popped, popAt, popOnly, popAhead}
+use Rattle.model.specs.BlockList.{push, popHead, pop, popped}
+use Rattle.laws.specs.BlockList.{pushOnly, pushAhead, popAt, popOnly, popAhead}
 
 -- an entry after a store: the new value there, the old one elsewhere
 module _ (l : List ℕ) (i v : ℕ) where
@@ -277,7 +278,7 @@ module _ (p : Params) (st : List ℕ) where
     module _ (l b : ℕ) (low : l < 1470) (ob : Occupied b) (fb : getD (w .first) l 0 ≡ start p b)
         (lb : getD (w .list) b 0 ≡ listWord l) (pb : getD (w .prev) b 0 ≡ 0) where
       first-is : pop p l w ≡ popped (start p b) (popAt p l b w)
-      unfolding pop
+      unfolding pop popAhead popOnly popAt popHead
       first-is =
           if-false (eqb (getD (w .first) l 0) 0) _ _ (ne-eqb _ _ (λ e. some-start B b (ob .0) (sym fb ∙ e)))
           ∙ ap (λ (a : ℕ). popped a (popAt p l (blockAt p a) w)) fb
@@ -323,7 +324,7 @@ module _ (p : Params) (st : List ℕ) where
       pub is : pop p l w ≡ popped 0 w
 
     pub pop-cases : (l : ℕ) → l < 1470 → Empty l ⊎ ((b : ℕ) × Pop l b)
-    unfolding pop
+    unfolding pop popAhead popOnly popAt popHead
     pop-cases l low = ⊎-elim
         (λ z. inl (record { first = z; is = if-true (eqb (getD (w .first) l 0) 0) _ _ (eq-eqb _ _ z) }))
         (λ z. inr (z .0, pop-first l (z .0) low (z .1) (z .2) (z .3) (z .4)))
@@ -492,7 +493,7 @@ module _ (p : Params) (st : List ℕ) where
                 (K .nexts x ox)
 
       pub push-pushed : Pushed c b (push p c b w)
-      unfolding push
+      unfolding push pushAhead pushOnly
       push-pushed = ⊎-elim
           (λ z. subst (Pushed c b) (sym (if-true (eqb (getD (w .first) c 0) 0) _ _ (eq-eqb _ _ z))) pushOnly-pushed)
           (λ z. subst (Pushed c b)

@@ -21,7 +21,7 @@ use Rattle.model.specs.SizeClasses.{alignAllocation}
 use Rattle.model.specs.BlockList.{append, remove, relabel, link}
 use Rattle.model.specs.Block.{Marked, Unmarked, clearBlock}
 use Rattle.model.specs.Events.{Event, released, eventHeap, eventsHeap}
-use Rattle.model.specs.Global.{bindHolder, destroyHolder, abandonBin, abandonBlocks, unmarkedState, prepared, markPlace, Freed, freed, afterRelease, releaseFrom, releaseBlocks, appendTo, releaseBin, releaseHolder, sweepLaterBin, sweepLater, mergeBin, merge, partReleased, allReleased}
+use Rattle.model.specs.Global.{bindHolder, destroyHolder, abandonBin, abandonBlocks, unmarkedState, prepared, markPlace, Freed, freed, afterRelease, releaseFrom, releaseBlocks, appendTo, releaseBin, releaseHolder, sweepLaterBin, sweepLater, partReleased, allReleased}
 use Rattle.model.specs.Calls.{refusalNumber, Reply, answered, refused, Call, bind, destroy, alloc, prepare, mark, release, sharedRelease, End, says, takes, Plan, refuses, changes, goodObject, mayRelease, releasePlan}
 use Rattle.model.specs.Sound.{stateOf}
 use Rattle.model.specs.Runs.{Cell, Book, aged, bookEvent, bookEvents, bookAnswer, takerOf, frees, entered, hits, unmarked}
@@ -607,21 +607,13 @@ module _ (p : Params) (B : Bounds p) where
         (release-owners 8 8 (unswept abandoned bin) _ u
         (release-owners 8 8 (consumed abandoned bin) _ c (release-owners 8 8 (available abandoned bin) g a G))))) f O
 
-    merge-owners : (w′ : Words) → OwnersBut 8 9 w w′ → OwnersBut 8 9 w (merge p w′)
-    unfolding merge mergeBin
-    merge-owners w′ O = each-keeps (OwnersBut 8 9 w) bins (mergeBin p)
-        (λ bin low x X.
-        owners-append 8 9 w (consumed abandoned bin) (consumed inGc bin) _ (consumed-owner 8 bin low) (consumed-owner 9 bin low)
-        (owners-append 8 9 w (unswept abandoned bin) (unswept inGc bin) _ (unswept-owner 8 bin low) (unswept-owner 9 bin low)
-        (owners-append 8 9 w (available abandoned bin) (available inGc bin) x (available-owner 8 bin low) (available-owner 9 bin low) X))) w′ O
-
-    abandon-owners : (j : ℕ) (w′ : Words) → OwnersBut 9 j w w′ → OwnersBut 9 j w (abandonBlocks p inGc (3 * j) w′)
+    abandon-owners : (i j : ℕ) (w′ : Words) → OwnersBut i j w w′ → OwnersBut i j w (abandonBlocks p (3 * i) (3 * j) w′)
     unfolding abandonBlocks abandonBin
-    abandon-owners j w′ O = each-keeps (OwnersBut 9 j w) bins (abandonBin p inGc (3 * j))
+    abandon-owners i j w′ O = each-keeps (OwnersBut i j w) bins (abandonBin p (3 * i) (3 * j))
         (λ bin low x X.
-        owners-append 9 j w (unswept inGc bin) (unswept (3 * j) bin) _ (unswept-owner 9 bin low) (unswept-owner j bin low)
-        (owners-append 9 j w (consumed inGc bin) (consumed (3 * j) bin) _ (consumed-owner 9 bin low) (consumed-owner j bin low)
-        (owners-append 9 j w (available inGc bin) (available (3 * j) bin) x (available-owner 9 bin low) (available-owner j bin low) X))) w′ O
+        owners-append i j w (unswept (3 * i) bin) (unswept (3 * j) bin) _ (unswept-owner i bin low) (unswept-owner j bin low)
+        (owners-append i j w (consumed (3 * i) bin) (consumed (3 * j) bin) _ (consumed-owner i bin low) (consumed-owner j bin low)
+        (owners-append i j w (available (3 * i) bin) (available (3 * j) bin) x (available-owner i bin low) (available-owner j bin low) X))) w′ O
 
   -- the links alone change
   abandon-links : (to from : ℕ) (w : Words) → LinksOnly w (abandonBlocks p to from w)
@@ -629,12 +621,6 @@ module _ (p : Params) (B : Bounds p) where
   abandon-links to from w = each-keeps (LinksOnly w) bins (abandonBin p to from)
       (λ bin low x X. append-links p (unswept to bin) (unswept from bin) _
       (append-links p (consumed to bin) (consumed from bin) _ (append-links p (available to bin) (available from bin) x X))) w (links-refl w)
-
-  merge-links : (w₀ w : Words) → LinksOnly w₀ w → LinksOnly w₀ (merge p w)
-  unfolding merge mergeBin
-  merge-links w₀ w L = each-keeps (LinksOnly w₀) bins (mergeBin p)
-      (λ bin low x X. append-links p (consumed abandoned bin) (consumed inGc bin) _
-      (append-links p (unswept abandoned bin) (unswept inGc bin) _ (append-links p (available abandoned bin) (available inGc bin) x X))) w L
 
   -- after a holder's lists went to in-gc, its unswept lists are empty
   module _ (j : ℕ) (lj : j < 8) where
@@ -707,16 +693,16 @@ module _ (p : Params) (B : Bounds p) where
       more : Ended w w₁
       more = record { free = refl; size = refl; sized = sized-same (simp kept-lengths) z; idle = idle }
 
-      last : Ended w (setPhase 0 (withReleased (replicate 9 0) (merge p w₁)))
+      last : Ended w (setPhase 0 (withReleased (replicate 9 0) (abandonBlocks p abandoned inGc w₁)))
       last =
-          let L : LinksOnly w₁ (merge p w₁) = merge-links w₁ w₁ (links-refl w₁) in
-          let Z : Sized (p .blocks) (merge p w₁) = sized-same (L .lengths) (more .sized) in
+          let L : LinksOnly w₁ (abandonBlocks p abandoned inGc w₁) = abandon-links abandoned inGc w₁ in
+          let Z : Sized (p .blocks) (abandonBlocks p abandoned inGc w₁) = sized-same (L .lengths) (more .sized) in
           record {
             free = L .free;
             size = L .size;
             sized = record { first = Z .first; last = Z .last; bound = Z .bound; released = refl; next = Z .next; prev = Z .prev; free = Z .free; size = Z .size; list = Z .list; tls = Z .tls };
             idle = λ j n lj ln.
-                merge-owners w₁ w₁ (λ m f g. refl) (unswept (3 * j) n)
+                abandon-owners w₁ 8 9 w₁ (λ m f g. refl) (unswept (3 * j) n)
                 (λ e. absurd (omega (arith, lj, sym (unswept-owner j n ln) ∙ e)))
                 (λ e. absurd (omega (arith, lj, sym (unswept-owner j n ln) ∙ e)))
                 ∙ idle j n lj ln;
@@ -780,7 +766,7 @@ module _ (p : Params) (B : Bounds p) where
             subst (λ (x : ℕ). getD (abandonBlocks p inGc (3 * (d - 1)) (f .words) .first) (unswept (3 * x) n) 0 ≡ 0) (sym e)
             (bins-empty (d - 1) (omega arith) bins (omega arith) (f .words) (F .sized) n ln)
         idle-of j n lj ln (no f′) =
-            abandon-owners (f .words) (d - 1) (f .words) (λ m x y. refl) (unswept (3 * j) n)
+            abandon-owners (f .words) 9 (d - 1) (f .words) (λ m x y. refl) (unswept (3 * j) n)
             (λ e. absurd (omega (arith, lj, sym (unswept-owner j n ln) ∙ e)))
             (λ e. f′ (sym (unswept-owner j n ln) ∙ e))
             ∙ holder-owners (t .words) (d - 1) (freed (t .words) (t .states)) (λ m x y. refl) (unswept (3 * j) n)

@@ -16,7 +16,7 @@ use Rattle.model.specs.Params.{start, blockAt, listWord, listOf, available, uns
 use Rattle.model.specs.Tables.{Words, setFree, setTls}
 use Rattle.model.specs.SizeClasses.{cellBytes}
 use Rattle.model.specs.BlockList.{Popped, popped, push, pop}
-use Rattle.model.specs.Block.{headOf, linkAll, sweepChain, sweptWords}
+use Rattle.model.specs.Block.{linkAll, sweepChain, sweptWords}
 use Rattle.model.specs.Events.{Event, swept, eventHeap, eventsHeap}
 use Rattle.model.specs.FreeListAllocator.{findFreeBlockWith, Found, found, after, sweepOf, acquireAbandoned}
 use Rattle.model.specs.Runs.{Cell, Book, bookEvent, bookEvents, frees, entered, hits, unmarked}

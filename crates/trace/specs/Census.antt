@@ -1,6 +1,6 @@
 -- The whole listing, from what stands after the lines of a trace.
 use mathlib.Core.Path.{_≡_, refl, ap}
-use mathlib.Core.List.{List, [], _∷_, _++_, map}
+use mathlib.Core.List.{List, [], _∷_, _++_, map, flatMap}
 use Prim.Native.Nat.{ℕ, _≤_}
 use native.Mathlib.Omega.{arith}
 use lib.ListN.{length, take, replicate, length-take}
@@ -9,7 +9,7 @@ use Rattle.model.specs.Params.{Lent, wordCount}
 use Rattle.model.specs.Calls.{Reply, setUp}
 use Rattle.model.specs.Tables.{Words, tablesOf, view}
 use Rattle.model.specs.Sound.{stateOf}
-use Rattle.model.specs.Census.{section, occupied, blockRow, freeRows, allFreeRows, linesOf, censusParams, censusLent, runLines, Ran, listing, census}
+use Rattle.model.specs.Census.{section, occupied, blockRow, freeRows, linesOf, censusParams, censusLent, runLines, Ran, listing, census}
 use Rattle.listing.specs.Print.{refusedRows}
 use Rattle.laws.specs.Text.{placeAfter, Printed, printed-append, length-printed}
 use Rattle.model.specs.Memory.{overwrite}
@@ -37,13 +37,13 @@ unfoldable pub listedFrom : Lent → List ℕ → List ℕ
 listedFrom l trace = listing (runLines 1 (linesOf trace) (setUp censusParams l .lent))
 
 -- no row looks at a mark
-free-rows-same : (w : Words) (s m m′ h bs : List ℕ) → allFreeRows (tablesOf w s m) h bs ≡ allFreeRows (tablesOf w s m′) h bs
-unfolding allFreeRows freeRows
+free-rows-same : (w : Words) (s m m′ h bs : List ℕ) → flatMap (freeRows (tablesOf w s m) h) bs ≡ flatMap (freeRows (tablesOf w s m′) h) bs
+unfolding flatMap freeRows
 free-rows-same w s m m′ h [] = refl
 free-rows-same w s m m′ h (b ∷ bs) = rw (free-rows-same w s m m′ h bs)
 
 sections-same : (w s m h : List ℕ) (rows : List (List ℕ)) (name : List ℕ)
-    → section name rows ++ (blocksText w s ++ freeText w s h) ≡ section name rows ++ (section (98 ∷ 108 ∷ 111 ∷ 99 ∷ 107 ∷ 115 ∷ []) (map (blockRow (tablesOf (view w) s m)) (occupied (tablesOf (view w) s m))) ++ section (102 ∷ 114 ∷ 101 ∷ 101 ∷ []) (allFreeRows (tablesOf (view w) s m) h (occupied (tablesOf (view w) s m))))
+    → section name rows ++ (blocksText w s ++ freeText w s h) ≡ section name rows ++ (section (98 ∷ 108 ∷ 111 ∷ 99 ∷ 107 ∷ 115 ∷ []) (map (blockRow (tablesOf (view w) s m)) (occupied (tablesOf (view w) s m))) ++ section (102 ∷ 114 ∷ 101 ∷ 101 ∷ []) (flatMap (freeRows (tablesOf (view w) s m) h) (occupied (tablesOf (view w) s m))))
 unfolding blocksText freeText tablesRead blockRow occupied stateOf
 sections-same w s m h rows name = rw (free-rows-same (view w) s [] m h _)
 

@@ -2,7 +2,7 @@
 -- twenty digits, and every block as many cells as bytes. Assumes nothing.
 use mathlib.Core.Path.{_≡_, refl, ap}
 use mathlib.Core.Bool.{Bool, true, false, not}
-use mathlib.Core.List.{List, [], _∷_, _++_, map}
+use mathlib.Core.List.{List, [], _∷_, _++_, map, flatten, flatMap}
 use Prim.Native.Nat.{ℕ, zero, suc, _+_, _-_, _*_, _/_, _%_, _≤_}
 use native.Mathlib.Omega.{arith}
 use lib.Dec.{eqb, ltb}
@@ -13,8 +13,8 @@ use Rattle.model.specs.Tables.{Tables}
 use Rattle.model.specs.Sound.{stateOf}
 use Rattle.model.specs.Block.{Unallocated, freeChain}
 use Rattle.model.specs.Calls.{Result, tablesIn, setUp}
-use Rattle.trace.specs.Sections.{chain-few, joined-append}
-use Rattle.model.specs.Census.{digits, decimal, spaced, joined, section, RefusedLine, refusedRow, upTo, occupied, blockRow, freeRows, allFreeRows, censusParams, linesOf, Ran, runLines, lineResult, lineOf, pieces, newline, space, dropBlankEnd, censusLent, listing, census}
+use Rattle.trace.specs.Sections.{chain-few, flatten-append}
+use Rattle.model.specs.Census.{digits, decimal, spaced, section, RefusedLine, refusedRow, upTo, occupied, blockRow, freeRows, censusParams, linesOf, Ran, runLines, lineResult, lineOf, pieces, newline, space, dropBlankEnd, censusLent, listing, census}
 
 -- ---- numbers and rows
 
@@ -68,18 +68,18 @@ block-few t b = five-few _ _ _ _ _
 -- ---- many rows
 
 -- of at most m bytes each
-joined-few : {A : Type 0} (m : ℕ) (f : A → List ℕ) → ((x : A) → length (f x) ≤ m) → (xs : List A)
-    → length (joined (map f xs)) ≤ m * length xs
-unfolding joined
-joined-few m f h [] = omega arith
-joined-few m f h (x ∷ xs) = omega (arith, length-append (f x) (joined (map f xs)), h x, joined-few m f h xs)
+flatten-few : {A : Type 0} (m : ℕ) (f : A → List ℕ) → ((x : A) → length (f x) ≤ m) → (xs : List A)
+    → length (flatten (map f xs)) ≤ m * length xs
+unfolding flatten
+flatten-few m f h [] = omega arith
+flatten-few m f h (x ∷ xs) = omega (arith, length-append (f x) (flatten (map f xs)), h x, flatten-few m f h xs)
 
-section-few : (name : List ℕ) (rows : List (List ℕ)) → length (section name rows) ≤ length name + 22 + length (joined rows)
+section-few : (name : List ℕ) (rows : List (List ℕ)) → length (section name rows) ≤ length name + 22 + length (flatten rows)
 unfolding section
 section-few name rows =
     omega (
       arith,
-      length-append (spaced (name ∷ decimal (length rows) ∷ [])) (joined rows),
+      length-append (spaced (name ∷ decimal (length rows) ∷ [])) (flatten rows),
       row-more name (decimal (length rows)) [],
       row-last (decimal (length rows)),
       decimal-few (length rows),
@@ -119,20 +119,20 @@ occupied-few t =
     let few : length (filter (λ b. not (eqb (stateOf t b) Unallocated)) (upTo 4)) ≤ length (upTo 4) = filter-few _ (upTo 4) in
     omega (arith, few, upTo-length 4)
 
-rows-few : (t : Tables) (h : List ℕ) (b : ℕ) → length (joined (freeRows t h b)) ≤ 172032
+rows-few : (t : Tables) (h : List ℕ) (b : ℕ) → length (flatten (freeRows t h b)) ≤ 172032
 unfolding freeRows
 rows-few t h b =
-    let few : length (joined (freeRows t h b)) ≤ 42 * length (freeChain censusParams h b (t .words)) = joined-few 42 _ (λ a. pair-few b a) (freeChain censusParams h b (t .words)) in
+    let few : length (flatten (freeRows t h b)) ≤ 42 * length (freeChain censusParams h b (t .words)) = flatten-few 42 _ (λ a. pair-few b a) (freeChain censusParams h b (t .words)) in
     omega (arith, few, chain-few (t .words) h b)
 
-free-few : (t : Tables) (h : List ℕ) (bs : List ℕ) → length (joined (allFreeRows t h bs)) ≤ 172032 * length bs
-unfolding allFreeRows joined
+free-few : (t : Tables) (h : List ℕ) (bs : List ℕ) → length (flatten (flatMap (freeRows t h) bs)) ≤ 172032 * length bs
+unfolding flatMap flatten
 free-few t h [] = omega arith
 free-few t h (b ∷ bs) =
     omega (
       arith,
-      ap length (joined-append (freeRows t h b) (allFreeRows t h bs)),
-      length-append (joined (freeRows t h b)) (joined (allFreeRows t h bs)),
+      ap length (flatten-append (freeRows t h b) (flatMap (freeRows t h) bs)),
+      length-append (flatten (freeRows t h b)) (flatten (flatMap (freeRows t h) bs)),
       rows-few t h b,
       free-few t h bs,
     )
@@ -142,16 +142,16 @@ free-few t h (b ∷ bs) =
 refused-part : (name : List ℕ) (rs : List RefusedLine) → length rs ≤ 256 → length (section name (map refusedRow rs)) ≤ length name + 10774
 unfolding refusedRow
 refused-part name rs f =
-    let rows : length (joined (map refusedRow rs)) ≤ 42 * length rs = joined-few 42 _ (λ r. pair-few _ _) rs in
+    let rows : length (flatten (map refusedRow rs)) ≤ 42 * length rs = flatten-few 42 _ (λ r. pair-few _ _) rs in
     omega (arith, section-few name (map refusedRow rs), rows, f)
 
 blocks-part : (name : List ℕ) (t : Tables) → length (section name (map (blockRow t) (occupied t))) ≤ length name + 366
 blocks-part name t =
-    omega (arith, section-few name (map (blockRow t) (occupied t)), joined-few 86 (blockRow t) (block-few t) (occupied t), occupied-few t)
+    omega (arith, section-few name (map (blockRow t) (occupied t)), flatten-few 86 (blockRow t) (block-few t) (occupied t), occupied-few t)
 
-free-part : (name : List ℕ) (t : Tables) (h : List ℕ) → length (section name (allFreeRows t h (occupied t))) ≤ length name + 688150
+free-part : (name : List ℕ) (t : Tables) (h : List ℕ) → length (section name (flatMap (freeRows t h) (occupied t))) ≤ length name + 688150
 free-part name t h =
-    omega (arith, section-few name (allFreeRows t h (occupied t)), free-few t h (occupied t), occupied-few t)
+    omega (arith, section-few name (flatMap (freeRows t h) (occupied t)), free-few t h (occupied t), occupied-few t)
 
 pub listing-few : (r : Ran) → length (r .refusals) ≤ 256 → length (listing r) ≤ 700000
 unfolding listing
@@ -159,7 +159,7 @@ listing-few r f =
     let t : Tables = tablesIn (r .lent) in
     let refused : List ℕ = section (114 ∷ 101 ∷ 102 ∷ 117 ∷ 115 ∷ 101 ∷ 100 ∷ []) (map refusedRow (r .refusals)) in
     let blocks : List ℕ = section (98 ∷ 108 ∷ 111 ∷ 99 ∷ 107 ∷ 115 ∷ []) (map (blockRow t) (occupied t)) in
-    let free : List ℕ = section (102 ∷ 114 ∷ 101 ∷ 101 ∷ []) (allFreeRows t (r .lent .heap) (occupied t)) in
+    let free : List ℕ = section (102 ∷ 114 ∷ 101 ∷ 101 ∷ []) (flatMap (freeRows t (r .lent .heap)) (occupied t)) in
     omega (
       arith,
       length-append refused (blocks ++ free),

@@ -2,6 +2,7 @@
 use mathlib.Core.Path.{_≡_, refl, sym, ap, _∙_}
 use mathlib.Core.Bool.{Bool, true, false}
 use mathlib.Core.List.{List, [], _∷_, _++_, append-nil, append-assoc}
+use mathlib.Core.Option.{Option, some, none}
 use Prim.Native.Nat.{ℕ, _+_, _-_, _≤_, _<_}
 use native.Mathlib.Numerals.{add-one}
 use native.Mathlib.Omega.{arith}
@@ -14,7 +15,7 @@ use Rattle.model.specs.declared.Params.{Params}
 use Rattle.model.specs.declared.Refusal.the-variants.{BadLine}
 use Rattle.model.specs.Params.{Lent}
 use Rattle.model.specs.Calls.{Call, Reply, refusalNumber}
-use Rattle.model.specs.Census.{Line, asks, badLine, lineOf, pieces, space, linesOf}
+use Rattle.model.specs.Census.{lineOf, pieces, space, linesOf}
 use Rattle.model.specs.Census.{censusParams, lineResult, RefusedLine, Ran, runLines}
 use Rattle.laws.specs.Base.{if-cases}
 use Rattle.laws.specs.Text.{linesFrom}
@@ -27,7 +28,7 @@ use Rattle.listing.specs.declared.NextLine.the-variants as Next
 use Rattle.listing.specs.Lines.{nextLine, lineBytes, left-round, left-none, left-end}
 
 -- a line on what is lent: its refusal's number, 0 for none, and what is lent after it
-pub record LineRan (l : Lent) (line : Line) (n : ℕ) (l′ : Lent) : Type 0 where
+pub record LineRan (l : Lent) (line : Option Call) (n : ℕ) (l′ : Lent) : Type 0 where
   pub number : n ≡ lineResult l line .reply .number
   pub lent : l′ ≡ lineResult l line .lent
 
@@ -42,13 +43,13 @@ pub record TraceRan (ran : Ran) (n : ℕ) (l′ : Lent) (lines numbers : List �
 
 -- a call on the space of the census
 pub ran-call : {p : Params} {l l′ : Lent} {c : Call} {r : Reply} {n : ℕ} → p ≡ censusParams → Promised p l c r l′ → n ≡ r .number
-    → LineRan l (asks c) n l′
+    → LineRan l (some c) n l′
 unfolding lineResult
 ran-call e h f =
     let q = rw e at h in
     record { number = f ∙ ap (λ (x : Reply). x .number) (q .reply); lent = q .lent }
 
-pub ran-bad : (l : Lent) {n : ℕ} → n ≡ refusalNumber BadLine → LineRan l badLine n l
+pub ran-bad : (l : Lent) {n : ℕ} → n ≡ refusalNumber BadLine → LineRan l none n l
 unfolding lineResult
 ran-bad l e = record { number = e; lent = refl }
 
@@ -165,7 +166,7 @@ running-start s l ls ns a b =
     record { few = omega arith; counted = omega arith; room = (a, b); refusals = refl; lent = refl }
 
 module _ {s : List ℕ} {before : Lent} {n at k : ℕ} {l : Lent} {ls ns : List ℕ} (i : Running s before n at k l ls ns) where
-  pub running-round : {r : NextLine} {from to next : ℕ} {line : Line} {number k′ : ℕ} {l′ : Lent} {ls′ ns′ : List ℕ}
+  pub running-round : {r : NextLine} {from to next : ℕ} {line : Option Call} {number k′ : ℕ} {l′ : Lent} {ls′ ns′ : List ℕ}
       → n < 256 → r ≡ nextLine s at → r ≡ Next.Line from to next → line ≡ lineOf (pieces space (lineBytes s from to))
       → LineRan l line number l′ → Kept ls ns k (n + 1) number k′ ls′ ns′ → Running s before (n + 1) next k′ l′ ls′ ns′
   running-round {from} {to} {next} {number} {l′} m e g q h kept =

@@ -3,7 +3,7 @@
 use mathlib.Core.Path.{_≡_, refl, sym, ap, _∙_}
 use mathlib.Core.Bool.{Bool, true, false, not, _&&_}
 use mathlib.Core.Logic.{⊎-elim}
-use mathlib.Core.List.{List, [], _∷_, _++_, map, append-assoc}
+use mathlib.Core.List.{List, [], _∷_, _++_, map, append-assoc, flatten, flatMap}
 use Prim.Native.Nat.{ℕ, zero, suc, _+_, _-_, _*_, _/_, _≤_, _<_}
 use native.Mathlib.Nat.{not-suc-le-zero, suc-mul, mul-le-mul-right, div-le-self}
 use native.Mathlib.Numerals.{add-one}
@@ -18,8 +18,8 @@ use Rattle.model.specs.Tables.{Words, Tables, tablesOf, view}
 use Rattle.model.specs.Memory.{load}
 use Rattle.model.specs.Block.{Unallocated, cellCount, isCell, chainFrom, freeChain}
 use Rattle.model.specs.Sound.{stateOf, setNamed}
-use Rattle.model.specs.Census.{censusParams, decimal, spaced, joined, section, upTo, occupied, letter}
-use Rattle.model.specs.Census.{blockRow, freeRows, allFreeRows}
+use Rattle.model.specs.Census.{censusParams, decimal, spaced, section, upTo, occupied, letter}
+use Rattle.model.specs.Census.{blockRow, freeRows}
 use Rattle.laws.specs.Text.{Printed, Remains, remains-start, remains-end}
 use Rattle.laws.specs.Below.{and-left, and-right}
 use Rattle.laws.specs.Base.{below-last, if-cases}
@@ -37,7 +37,7 @@ blocksText words states =
 unfoldable pub freeText : List ℕ → List ℕ → List ℕ → List ℕ
 freeText words states heap =
     let t : Tables = tablesRead words states in
-    section (102 ∷ 114 ∷ 101 ∷ 101 ∷ []) (allFreeRows t heap (occupied t))
+    section (102 ∷ 114 ∷ 101 ∷ 101 ∷ []) (flatMap (freeRows t heap) (occupied t))
 
 -- ---- the free cells of one block
 
@@ -141,8 +141,8 @@ module _ (words heap : List ℕ) (b : ℕ) where
 -- a loop that prints them: the rows of those that are left, printed here, make all printed there
 abbrev pub CellsLeft : List ℕ → List ℕ → ℕ → Walk → List ℕ → List ℕ → ℕ → ℕ → Type 0
 CellsLeft words heap b w h h′ at at′ =
-    Remains h h′ at at′ (joined (cellRows b (freeChain censusParams heap b (view words))))
-    (joined (cellRows b (cellsOf heap b w)))
+    Remains h h′ at at′ (flatten (cellRows b (freeChain censusParams heap b (view words))))
+    (flatten (cellRows b (cellsOf heap b w)))
 
 module _ (words heap : List ℕ) (b : ℕ) where
   pub cells-start : (h : List ℕ) (at : ℕ) {w : Walk} → w ≡ firstCell (view words) b → CellsLeft words heap b w h h at at
@@ -155,8 +155,8 @@ module _ (words heap : List ℕ) (b : ℕ) where
     cells-round y e p =
         rw e (rows-round _ (cellRows b (cellsOf heap b (nextCell heap w))) (rw (cells-more heap b w y) at r) p)
 
-    pub cells-printed : moreCells b w ≡ false → Printed h h′ at at′ (joined (freeRows (tablesRead words []) heap b))
-    unfolding cellRows joined freeRows tablesRead
+    pub cells-printed : moreCells b w ≡ false → Printed h h′ at at′ (flatten (freeRows (tablesRead words []) heap b))
+    unfolding cellRows flatten freeRows tablesRead
     cells-printed z = remains-end (rw (cells-end heap b w z) at r)
 
 -- ---- a loop over the numbers below n that pass a test: those from i on
@@ -241,7 +241,7 @@ module _ (f : ℕ → Bool) (g : ℕ → ℕ) (n k i m : ℕ) (c : Counted f g n
 -- ---- what such a loop prints: the text g b for each b
 
 abbrev pub texts : (ℕ → List ℕ) → List ℕ → List ℕ
-texts g bs = joined (map g bs)
+texts g bs = flatten (map g bs)
 
 abbrev pub TextsLeft : (ℕ → Bool) → (ℕ → List ℕ) → ℕ → List ℕ → List ℕ → ℕ → ℕ → ℕ → Type 0
 TextsLeft f g n h h′ at at′ i = Remains h h′ at at′ (texts g (filter f (upTo n))) (texts g (passing f n i))
@@ -258,7 +258,7 @@ module _ (f : ℕ → Bool) (g : ℕ → List ℕ) (n : ℕ) {h h′ : List ℕ}
   texts-no l z = rw (passing-no f n i l z) at r
 
   pub texts-end : n ≤ i → Printed h h′ at at′ (texts g (filter f (upTo n)))
-  unfolding joined
+  unfolding flatten
   texts-end l = remains-end (rw (passing-end f n i l) at r)
 
 -- ---- the blocks that are not Unallocated, by their state bytes
@@ -280,7 +280,7 @@ unfolding blocksText
 blocks-section words states = rw (occupied-in words states)
 
 pub free-section : (words states heap : List ℕ)
-    → section (102 ∷ 114 ∷ 101 ∷ 101 ∷ []) (allFreeRows (tablesRead words states) heap (occupiedIn states))
+    → section (102 ∷ 114 ∷ 101 ∷ 101 ∷ []) (flatMap (freeRows (tablesRead words states) heap) (occupiedIn states))
     ≡ freeText words states heap
 unfolding freeText
 free-section words states heap = rw (occupied-in words states)
@@ -312,20 +312,20 @@ abbrev pub cellsIn : List ℕ → List ℕ → ℕ → ℕ
 cellsIn words heap b = length (freeChain censusParams heap b (view words))
 
 abbrev pub cellText : List ℕ → List ℕ → ℕ → List ℕ
-cellText words heap b = joined (freeRows (tablesRead words []) heap b)
+cellText words heap b = flatten (freeRows (tablesRead words []) heap b)
 
-pub joined-append : (xs ys : List (List ℕ)) → joined (xs ++ ys) ≡ joined xs ++ joined ys
-unfolding joined
-joined-append [] ys = refl
-joined-append (x ∷ xs) ys = rw (joined-append xs ys) (sym (append-assoc x (joined xs) (joined ys)))
+pub flatten-append : (xs ys : List (List ℕ)) → flatten (xs ++ ys) ≡ flatten xs ++ flatten ys
+unfolding flatten
+flatten-append [] ys = refl
+flatten-append (x ∷ xs) ys = rw (flatten-append xs ys) (sym (append-assoc x (flatten xs) (flatten ys)))
 
 module _ (words states heap : List ℕ) where
-  pub total-cells : (bs : List ℕ) → total (cellsIn words heap) bs ≡ length (allFreeRows (tablesRead words states) heap bs)
-  unfolding total allFreeRows freeRows tablesRead
+  pub total-cells : (bs : List ℕ) → total (cellsIn words heap) bs ≡ length (flatMap (freeRows (tablesRead words states) heap) bs)
+  unfolding total flatMap freeRows tablesRead
   total-cells [] = refl
   total-cells (b ∷ bs) = rw (total-cells bs, length-append, length-map)
 
-  pub texts-cells : (bs : List ℕ) → texts (cellText words heap) bs ≡ joined (allFreeRows (tablesRead words states) heap bs)
-  unfolding joined allFreeRows freeRows tablesRead
+  pub texts-cells : (bs : List ℕ) → texts (cellText words heap) bs ≡ flatten (flatMap (freeRows (tablesRead words states) heap) bs)
+  unfolding flatten flatMap freeRows tablesRead
   texts-cells [] = refl
-  texts-cells (b ∷ bs) = rw (texts-cells bs) (sym (joined-append (freeRows (tablesRead words states) heap b) _))
+  texts-cells (b ∷ bs) = rw (texts-cells bs) (sym (flatten-append (freeRows (tablesRead words states) heap b) _))

@@ -3,14 +3,14 @@ use listing::print;
 use words::bytes;
 use words::tables;
 ghost use mathlib.Core.Path.{_≡_};
-ghost use mathlib.Core.List.{[]};
+ghost use mathlib.Core.List.{[], flatten};
 ghost use Prim.Native.Nat.{_<_};
 ghost use lib.ListN.{length};
 ghost use Rattle.model.specs.Params.{start};
 ghost use Rattle.model.specs.Tables.{view};
 ghost use Rattle.model.specs.Memory.{load};
 ghost use Rattle.model.specs.Block.{cellCount, isCell, freeChain};
-ghost use Rattle.model.specs.Census.{censusParams, joined, freeRows};
+ghost use Rattle.model.specs.Census.{censusParams, freeRows};
 ghost use Rattle.laws.specs.Text.{Printed};
 ghost use Rattle.trace.specs.Sections.{tablesRead, firstCell, moreCells, nextCell};
 
@@ -115,7 +115,7 @@ pub(crate) fn count(words: &[usize], heap: &[u8], b: usize) -> usize
 }
 
 pub(crate) fn rows(out: &mut [u8], at: usize, words: &[usize], heap: &[u8], b: usize) -> usize
-    ensures { λ r. ⌜ Printed (now (out .entry)) (now (out .exit)) at r (joined (freeRows (tablesRead (now (words .entry)) []) (now (heap .entry)) b)) ⌝ }
+    ensures { λ r. ⌜ Printed (now (out .entry)) (now (out .exit)) at r (flatten (freeRows (tablesRead (now (words .entry)) []) (now (heap .entry)) b)) ⌝ }
 {
     let mut w = first(words, b);
     let mut place = at;

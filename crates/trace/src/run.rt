@@ -18,11 +18,12 @@ ghost use Prim.Native.Nat.{_≤_, _<_};
 ghost use lib.ListN.{length, take};
 ghost use Rattle.model.specs.Calls.{refusalNumber, alloc, mark};
 ghost use Rattle.model.specs.Answers.{replyOf, allocReply, markReply, releaseReply};
-ghost use Rattle.model.specs.Census.{asks, censusParams, linesOf, runLines};
+ghost use Rattle.model.specs.Census.{censusParams, linesOf, runLines};
 ghost use Rattle.laws.specs.Text.{linesFrom};
 ghost use Rattle.native_ms.specs.Promise.{lend};
 ghost use Rattle.listing.specs.Line.{lineFor};
 ghost use Rattle.trace.specs.Run.{LineRan, Kept, TraceRan};
+ghost use mathlib.Core.Option.{some};
 
 // "4 blocks of 4,096, base 16384, MIN = MAX = 8, unified, no offsets, L 0."
 pub(crate) fn params() -> Params
@@ -108,7 +109,7 @@ fn run_alloc(
     offset: usize,
     offer: Offer,
 ) -> usize
-    ensures { λ r. ⌜ LineRan (lend (now (words .entry)) (now (states .entry)) (now (marks .entry)) (now (heap .entry))) (asks (alloc holder size align offset offer)) r (lend (now (words .exit)) (now (states .exit)) (now (marks .entry)) (now (heap .exit))) ⌝ }
+    ensures { λ r. ⌜ LineRan (lend (now (words .entry)) (now (states .entry)) (now (marks .entry)) (now (heap .entry))) (some (alloc holder size align offset offer)) r (lend (now (words .exit)) (now (states .exit)) (now (marks .entry)) (now (heap .exit))) ⌝ }
 {
     let p = params();
     alloc_number(free_list_allocator::alloc(
@@ -134,7 +135,7 @@ fn run_mark(
     place: usize,
     block: usize,
 ) -> usize
-    ensures { λ r. ⌜ LineRan (lend (now (words .entry)) (now (states .entry)) (now (marks .entry)) (now (heap .entry))) (asks (mark place block)) r (lend (now (words .entry)) (now (states .exit)) (now (marks .exit)) (now (heap .entry))) ⌝ }
+    ensures { λ r. ⌜ LineRan (lend (now (words .entry)) (now (states .entry)) (now (marks .entry)) (now (heap .entry))) (some (mark place block)) r (lend (now (words .entry)) (now (states .exit)) (now (marks .exit)) (now (heap .entry))) ⌝ }
 {
     let p = params();
     mark_number(global::mark(p, words, states, marks, heap, Address(place), Block(block)))

@@ -4,11 +4,11 @@ use listing::print;
 use words::states;
 use words::tables;
 ghost use mathlib.Core.Path.{_≡_};
-ghost use mathlib.Core.List.{map};
+ghost use mathlib.Core.List.{map, flatten, flatMap};
 ghost use lib.ListN.{length};
 ghost use Rattle.model.specs.Tables.{view};
 ghost use Rattle.model.specs.Sound.{setNamed};
-ghost use Rattle.model.specs.Census.{joined, blockRow, allFreeRows};
+ghost use Rattle.model.specs.Census.{blockRow, freeRows};
 ghost use Rattle.laws.specs.Text.{Printed};
 ghost use Rattle.trace.specs.Sections.{tablesRead, isOccupied, occupiedIn, blocksText, freeText};
 
@@ -63,7 +63,7 @@ fn block_row(out: &mut [u8], at: usize, words: &[usize], states: &[u8], b: usize
 }
 
 fn block_rows(out: &mut [u8], at: usize, words: &[usize], states: &[u8]) -> usize
-    ensures { λ r. ⌜ Printed (now (out .entry)) (now (out .exit)) at r (joined (map (blockRow (tablesRead (now (words .entry)) (now (states .entry)))) (occupiedIn (now (states .entry))))) ⌝ }
+    ensures { λ r. ⌜ Printed (now (out .entry)) (now (out .exit)) at r (flatten (map (blockRow (tablesRead (now (words .entry)) (now (states .entry)))) (occupiedIn (now (states .entry))))) ⌝ }
 {
     let mut place = at;
     let mut next: usize = 0;
@@ -87,7 +87,7 @@ pub(crate) fn blocks_section(out: &mut [u8], at: usize, words: &[usize], states:
 }
 
 fn count_cells(words: &[usize], states: &[u8], heap: &[u8]) -> usize
-    ensures { λ r. ⌜ r ≡ length (allFreeRows (tablesRead (now (words .entry)) (now (states .entry))) (now (heap .entry)) (occupiedIn (now (states .entry)))) ⌝ }
+    ensures { λ r. ⌜ r ≡ length (flatMap (freeRows (tablesRead (now (words .entry)) (now (states .entry))) (now (heap .entry))) (occupiedIn (now (states .entry)))) ⌝ }
 {
     let mut n: usize = 0;
     let mut next: usize = 0;
@@ -102,7 +102,7 @@ fn count_cells(words: &[usize], states: &[u8], heap: &[u8]) -> usize
 }
 
 fn cell_rows(out: &mut [u8], at: usize, words: &[usize], states: &[u8], heap: &[u8]) -> usize
-    ensures { λ r. ⌜ Printed (now (out .entry)) (now (out .exit)) at r (joined (allFreeRows (tablesRead (now (words .entry)) (now (states .entry))) (now (heap .entry)) (occupiedIn (now (states .entry))))) ⌝ }
+    ensures { λ r. ⌜ Printed (now (out .entry)) (now (out .exit)) at r (flatten (flatMap (freeRows (tablesRead (now (words .entry)) (now (states .entry))) (now (heap .entry))) (occupiedIn (now (states .entry))))) ⌝ }
 {
     let mut place = at;
     let mut next: usize = 0;

@@ -1,59 +1,19 @@
--- `global::merge` goes through the 49 bins. The invariant: those passed are done. Assumes nothing.
-use Prim.Native.Nat.{_-_, _≤_}
-use mathlib.Core.Path.{_≡_, refl, _∙_}
-use native.Mathlib.Omega.{arith}
-use lib.ListN.{length}
-use Rattle.model.specs.Base.{eachBelow}
-use Rattle.model.specs.Tables.{view}
-use Rattle.model.specs.Global.{mergeBin, merge}
-use Rattle.native_ms.proofs.SpaceCalls.{each-none, each-more, each-end}
+-- `global::merge` is `abandon_blocks` from in-gc to abandoned. Assumes nothing.
+use lib.Dec.{lit≤}
+use borrow.Author.Needs.{needs}
 use Rattle.native_ms.proofs.global.merge.Statement.{statement}
 use Rattle.native_ms.proofs.global.merge.Tie as tie
 
-abbrev Inv-loop : tie.InvT-loop
-Inv-loop p w₀ bin₀ w bin = (length w ≡ length w₀) × (bin ≤ 49) × (view w ≡ eachBelow bin (mergeBin p) (view w₀))
+--@ abandon-blocks-requires c κs = (@pre, lit≤ tt, lit≤ tt)
+abandon-blocks-requires : tie.Need-abandon-blocks-requires
+abandon-blocks-requires c κs = ((c .before .before .pre), lit≤ tt, lit≤ tt)
 
-abbrev μ-loop : tie.MeasureT-loop
-μ-loop p w₀ bin₀ w bin = 49 - bin
+same-length : tie.Need-same-length
+same-length c = search needs
 
-loop-holds : tie.Need-loop-holds Inv-loop μ-loop
-loop-holds c = (refl, omega arith, each-none _ _)
-
---@ merge-bin-requires c κs = (@pre, @loop-test .taken)
-merge-bin-requires : tie.Need-merge-bin-requires Inv-loop μ-loop
-merge-bin-requires c κs = ((c .before .before .before .before .pre), c .before .loop-test .taken)
-
---@ add-bin c = omega (arith, @loop-test .taken)
-add-bin : tie.Need-add-bin Inv-loop μ-loop
-add-bin c = omega (arith, c .before .before .before .before .loop-test .taken)
-
---@ loop-less c = omega (arith, @loop-test .taken)
-loop-less : tie.Need-loop-less Inv-loop μ-loop
-loop-less c = omega (arith, c .before .before .before .before .loop-test .taken)
-
---@ loop-again c = (@merge-bin .kept .1 .0 ∙ @loop .inv .0, omega (arith, @loop-test .taken), each-more _ _ _ (@loop .inv .2) (@merge-bin .ensures))
-loop-again : tie.Need-loop-again Inv-loop μ-loop
-loop-again c = (c .before .before .merge-bin .kept .1 .0 ∙ c .before .before .before .before .before .loop .inv .0, omega (arith, c .before .before .before .before .loop-test .taken), each-more _ _ _ (c .before .before .before .before .before .loop .inv .2) (c .before .before .merge-bin .ensures))
-
---@ same-length c = @loop .inv .0
-same-length : tie.Need-same-length Inv-loop μ-loop
-same-length c = c .before .loop .inv .0
-
---@ returns c = each-end _ _ _ 49 (@loop .inv .1) (@loop-test .left) (@loop .inv .2)
-returns : tie.Need-returns Inv-loop μ-loop
-unfolding merge
-returns c = each-end _ _ _ 49 (c .before .loop .inv .1) (c .loop-test .left) (c .before .loop .inv .2)
+--@ returns c = @abandon-blocks .ensures
+returns : tie.Need-returns
+returns c = c .before .before .abandon-blocks .ensures
 
 pub merge-spec : {M : Type 1} → statement M
-merge-spec =
-    tie.close
-    (tie.spec
-    Inv-loop
-    μ-loop
-    loop-holds
-    merge-bin-requires
-    add-bin
-    loop-less
-    loop-again
-    same-length
-    returns)
+merge-spec = tie.close (tie.spec abandon-blocks-requires same-length returns)
