@@ -9,20 +9,10 @@ use native.Mathlib.Omega.{arith}
 use lib.Dec.{eqb}
 use borrow.Author.Tests.{eqb-true, eq-eqb}
 use Rattle.laws.specs.Below.{true-not-false}
-pub use Rattle.laws.specs.Below.{and-left, and-right, or-cases, same-test, test as bool-cases, allBelow-at as all-below, allBelow-from as below-all, anyBelow-from as below-any, anyBelow-none as below-none-any}
+pub use Rattle.laws.specs.Below.{and-left, and-right, or-cases, or-left, or-right, same-test, test as bool-cases, allBelow-at as all-below, allBelow-from as below-all, anyBelow-from as below-any, anyBelow-none as below-none-any}
 use Rattle.model.specs.Base.{if_then_else_, allBelow, anyBelow, member, filter, In, Pairwise}
 
 -- ---- tests
-
-pub or-left : (a b : Bool) → a ≡ true → (a || b) ≡ true
-or-left a b e = rw e
-
-pub or-right : (a b : Bool) → b ≡ true → (a || b) ≡ true
-or-right true b e = refl
-or-right false b e = e
-
-pub or-none : (a b : Bool) → a ≡ false → b ≡ false → (a || b) ≡ false
-or-none a b e f = rw (e, f)
 
 pub or-none-left : (a b : Bool) → (a || b) ≡ false → a ≡ false
 or-none-left true b e = e
@@ -79,8 +69,8 @@ all-same (suc n) f g h = rw (h n (omega arith), all-same n f g (λ i l. h i (ome
 pub in-member : (x : ℕ) (l : List ℕ) → In x l → member x l ≡ true
 unfolding member In
 in-member x [] m = absurd m
-in-member x (y ∷ l) (inl e) = or-left (eqb x y) (member x l) (eq-eqb x y e)
-in-member x (y ∷ l) (inr m) = or-right (eqb x y) (member x l) (in-member x l m)
+in-member x (y ∷ l) (inl e) = or-left (member x l) (eq-eqb x y e)
+in-member x (y ∷ l) (inr m) = or-right (eqb x y) (in-member x l m)
 
 pub member-in : (x : ℕ) (l : List ℕ) → member x l ≡ true → In x l
 unfolding member In

@@ -10,6 +10,7 @@ pub mod Tables
 pub mod Lower
 pub mod Requests
 pub mod BlockList
+pub mod Frame
 pub mod Pigeon
 pub mod Linked
 pub mod Text

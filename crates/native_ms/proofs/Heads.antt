@@ -15,16 +15,16 @@ use Rattle.model.specs.declared.Offer.{Offer}
 use Rattle.model.specs.declared.Offer.the-variants.{Nothing, Fresh}
 use Rattle.model.specs.Base.{if_then_else_, allBelow, In}
 use Rattle.model.specs.Params.{start, blockAt, localSets, available, unswept, consumed, lists}
-use Rattle.model.specs.Tables.{Words, Tables, setFirst, setLast, setNext, setPrev, setList, setTls, setSize, setFree}
+use Rattle.model.specs.Tables.{Words, Tables, setTls, setSize, setFree}
 use Rattle.model.specs.SizeClasses.{cellBytes}
-use Rattle.model.specs.BlockList.{Popped, popped, push, popHead, pop}
+use Rattle.model.specs.BlockList.{Popped, popped, push, pop}
 use Rattle.model.specs.Block.{Unallocated, cellCount, isCell, cellsDown, initChain, initBlock, sweepChain, sweptWords}
 use Rattle.model.specs.FreeListAllocator.{Found, found, after, andThen, inFound, sweepOf, findFreeBlockWith, recycleLocalBlocks, acquireAbandoned, acquireFresh, findBlock}
 use Rattle.model.specs.Sound.{stateOf, stateKnown, blockClear, onListNamed, sizeOk, linkOk, tlsOk, blockSound, linked, unboundEmpty, inGcEmpty, phaseKnown, flagsKnown, releasedFew, releasedSome, releasedEmpty, sound}
 use Rattle.laws.specs.Below.{and-left, and-right, or-cases, and-four, allBelow-at, test}
 use Rattle.laws.specs.Params.{Bounds, start-out, start-end}
 use Rattle.laws.specs.Cells.{Free, in-cellsDown}
-use Rattle.laws.specs.BlockList.{pushOnly, pushAhead, popOnly, popAhead, popAt}
+use Rattle.laws.specs.Frame.{links-refl, push-links, pop-links}
 
 abbrev Small : List ℕ → Type 0
 Small l = (b : ℕ) → getD l b 0 < 2 ^ 47
@@ -51,35 +51,12 @@ third-of-six false b false d e f q = q
 
 -- ---- list operations
 
-pub push-free : (p : Params) (l b : ℕ) (t : Words) → push p l b t .free ≡ t .free
-unfolding push pushOnly pushAhead setFirst setLast setNext setPrev setList
-push-free p l b t = go (eqb (getD (t .first) l 0) 0)
-  where
-    go : (q : Bool) → (if q then pushOnly p l b t else pushAhead p l b (getD (t .first) l 0) t) .free ≡ t .free
-    go true = refl
-    go false = refl
-
-pub pop-free : (p : Params) (l : ℕ) (t : Words) → pop p l t .words .free ≡ t .free
-unfolding pop popHead popAt popOnly popAhead setFirst setLast setNext setPrev setList
-pop-free p l t = go (eqb f 0) (eqb x 0)
-  where
-    f : ℕ
-    f = getD (t .first) l 0
-
-    x : ℕ
-    x = getD (t .next) (blockAt p f) 0
-
-    go : (q r : Bool) → (if q then popped 0 t else popped f (if r then popOnly l (blockAt p f) t else popAhead p l (blockAt p f) x t)) .words .free ≡ t .free
-    go true r = refl
-    go false true = refl
-    go false false = refl
-
 module _ (p : Params) where
   push-low : (l b : ℕ) (t : Words) → Low t → Low (push p l b t)
-  push-low l b t h = subst (λ (f : List ℕ). Small f) (sym (push-free p l b t)) h
+  push-low l b t h = subst (λ (f : List ℕ). Small f) (sym (push-links p l b t (links-refl t) .free)) h
 
   pop-low : (l : ℕ) (t : Words) → Low t → Low (pop p l t .words)
-  pop-low l t h = subst (λ (f : List ℕ). Small f) (sym (pop-free p l t)) h
+  pop-low l t h = subst (λ (f : List ℕ). Small f) (sym (pop-links p l t (links-refl t) .free)) h
 
 -- ---- chains
 

@@ -1,61 +1,9 @@
 // Size classes: the cell sizes of the bins, and the bin of a size.
+use model::CLASS_WORDS;
 ghost use mathlib.Core.Path.{_≡_};
 ghost use Prim.Native.Nat.{_<_, _≤_};
 ghost use Rattle.model.specs.declared.Params.{Params};
 ghost use Rattle.model.specs.SizeClasses.{binInOctave, cellBytes, binOf};
-
-// The cell sizes of bins 0 to 48, in words: each next four twice the four before.
-const CLASS_WORDS: [usize; 49] = [
-    1,
-    1,
-    2,
-    3,
-    4,
-    5,
-    6,
-    7,
-    8,
-    10,
-    12,
-    14,
-    16,
-    20,
-    24,
-    28,
-    32,
-    40,
-    48,
-    56,
-    64,
-    80,
-    96,
-    112,
-    128,
-    160,
-    192,
-    224,
-    256,
-    320,
-    384,
-    448,
-    512,
-    640,
-    768,
-    896,
-    1024,
-    1280,
-    1536,
-    1792,
-    2048,
-    2560,
-    3072,
-    3584,
-    4096,
-    5120,
-    6144,
-    7168,
-    8192,
-];
 
 // The cell size of a bin in bytes; 0 past the last bin.
 pub fn class_bytes(bin: usize) -> usize

@@ -32,7 +32,7 @@ use Rattle.laws.specs.Classes.{cellBytes-least, cellBytes-words}
 use Rattle.laws.specs.Tables.{Sized, sized-same, kept-lengths, lengths}
 use Rattle.laws.specs.Memory as Mem
 use Rattle.laws.specs.Cells.{chainStands}
-use Rattle.runs.specs.Frame.{LinksOnly, links-refl, push-links, push-list, push-first}
+use Rattle.laws.specs.Frame.{LinksOnly, links-refl, push-links, push-list, push-first}
 use Rattle.runs.specs.Links.{Occupied, Linked, some-start}
 use Rattle.runs.specs.SoundFacts.{SoundParts, sound-parts, BlockParts, block-parts, on-parts, sound-linked}
 use Rattle.runs.specs.Inv.{Held, Core, was-held, init-core, init-bytes}

@@ -185,7 +185,7 @@ module _ (p : Params) (B : Bounds p) where
       good-link : (l : List ℕ) → ((y : ℕ) → In y l → Whole p b size y) → linkOk p (t′ .words) b (headD l 0) ≡ true
       unfolding linkOk headD In
       good-link [] f = refl
-      good-link (y ∷ l) f = or-right (eqb y 0) _ (whole-isCell p b size y (f y (inl refl)))
+      good-link (y ∷ l) f = or-right (eqb y 0) (whole-isCell p b size y (f y (inl refl)))
 
       link-good : linkOk p (t′ .words) b (load p H (getD (t′ .words .free) b 0)) ≡ true
       link-good =

@@ -1,4 +1,3 @@
-pub mod Frame
 pub mod Links
 pub mod SoundFacts
 pub mod Inv

@@ -25,12 +25,12 @@ use Rattle.model.specs.Global.{bindHolder, destroyHolder, abandonBin, abandonBl
 use Rattle.model.specs.Calls.{refusalNumber, Reply, answered, refused, Call, bind, destroy, alloc, prepare, mark, release, sharedRelease, End, says, takes, Plan, refuses, changes, goodObject, mayRelease, releasePlan}
 use Rattle.model.specs.Sound.{stateOf}
 use Rattle.model.specs.Runs.{Cell, Book, aged, bookEvent, bookEvents, bookAnswer, takerOf, frees, entered, hits, unmarked}
-use Rattle.laws.specs.Base.{and-left, and-right, in-filter, if-true, if-false, if-cases, in-member, member-in, or-none, or-left, or-right, or-cases, bool-cases, not-both}
+use Rattle.laws.specs.Base.{and-left, and-right, in-filter, if-true, if-false, if-cases, in-member, member-in, or-left, or-right, or-cases, bool-cases, not-both}
 use Rattle.laws.specs.Params.{Bounds, blockAt-start, blockAt-within}
 use Rattle.laws.specs.Tables.{Sized, sized-same, kept-lengths, lengths}
 use Rattle.laws.specs.Memory as Mem
 use Rattle.laws.specs.Marks.{marked-cleared, length-setMark, length-cleared, bytes-setMark, bytes-cleared, marked-setMark}
-use Rattle.runs.specs.Frame.{LinksOnly, links-refl, links-trans, append-links, remove-links, each-keeps, FirstsBut, append-first, append-empties, append-none, remove-first}
+use Rattle.laws.specs.Frame.{LinksOnly, links-refl, links-trans, append-links, remove-links, each-keeps, FirstsBut, append-first, append-empties, append-none, remove-first}
 use Rattle.runs.specs.Inv.{Held, Placed, Core, set-cases, release-core, release-unmarked, in-range}
 use Rattle.runs.specs.Steps.{shadowEvent, shadowEvents, isTaken, EventOk, EventsOk, no-events, more-events, events-append, heap-append, book-append, shadow-append}
 use Rattle.runs.specs.Search.{Settled, Idle, available-settled, consumed-settled, unswept-unsettled, available-low, unswept-low, consumed-low}
@@ -282,7 +282,7 @@ module _ (p : Params) (B : Bounds p) where
               known = member-in place (bk .places) (sym (I .core .marks place whole) ∙ e)
 
               marks-old : (a : ℕ) → a % 8 ≡ 0 → Dec (a ≡ place) → marked p (t .marks) a ≡ (eqb a place || member a (bk .places))
-              marks-old a w (yes y) = ap (marked p (t .marks)) y ∙ e ∙ sym (or-left (eqb a place) _ (eq-eqb _ _ y))
+              marks-old a w (yes y) = ap (marked p (t .marks)) y ∙ e ∙ sym (or-left _ (eq-eqb _ _ y))
               marks-old a w (no n) = rw (ne-eqb a place n) (I .core .marks a w)
 
           new-mark : marked p (t .marks) place ≡ false → Inv (markPlace p place b t) h sh Bk

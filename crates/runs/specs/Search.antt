@@ -23,7 +23,7 @@ use Rattle.model.specs.Runs.{Cell, Book, bookEvent, bookEvents, frees, entered,
 use Rattle.laws.specs.Base.{and-left}
 use Rattle.laws.specs.Tables.{Sized, sized-same, kept-lengths}
 use Rattle.laws.specs.Params.{Bounds, blockAt-start}
-use Rattle.runs.specs.Frame.{LinksOnly, links-refl, push-links, pop-links, FirstsBut, pop-firsts, push-first}
+use Rattle.laws.specs.Frame.{LinksOnly, links-refl, push-links, pop-links, FirstsBut, pop-firsts, push-first}
 use Rattle.runs.specs.Links.{Occupied, Link, Linked, Loose, some-start, Popping, Pop, Empty, pop-cases, Pushed, push-pushed}
 use Rattle.runs.specs.Inv.{Held, Core, was-held, sweep-core, sweep-bytes, sweep-frees}
 use Rattle.runs.specs.Steps.{shadowEvent, shadowEvents, isTaken, EventOk, EventsOk, no-events, more-events, same-bytes}

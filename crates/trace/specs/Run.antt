@@ -111,8 +111,8 @@ module _ {ls ns : List ℕ} {k line number r : ℕ} {ls′ ns′ : List ℕ} (h 
   pub kept-length : (length ls′ ≡ length ls) × (length ns′ ≡ length ns)
   kept-length = (ap length (h .lines) ∙ placed-length number k ls line, ap length (h .numbers) ∙ placed-length number k ns number)
 
-  pub kept-count : r ≤ k + 1
-  kept-count = rw (h .count) (if-cases (λ (n : ℕ). n ≤ k + 1) (eqb number 0) (λ e. omega arith) (λ e. omega arith))
+  pub kept-few : r ≤ k + 1
+  kept-few = rw (h .count) (if-cases (λ (n : ℕ). n ≤ k + 1) (eqb number 0) (λ e. omega arith) (λ e. omega arith))
 
   pub kept-refused : k < length ls → k < length ns
       → refusedFrom (take r ls′) (take r ns′) ≡ refusedFrom (take k ls) (take k ns) ++ refusalOf line number
@@ -177,7 +177,7 @@ module _ {s : List ℕ} {before : Lent} {n at k : ℕ} {l : Lent} {ls ns : List 
       let first = kept-refused kept (omega (arith, i .counted, i .room .0)) (omega (arith, i .counted, i .room .1)) in
       record {
         few = omega arith;
-        counted = omega (arith, kept-count kept, i .counted);
+        counted = omega (arith, kept-few kept, i .counted);
         room = (omega (arith, kept-length kept .0, i .room .0), omega (arith, kept-length kept .1, i .room .1));
         refusals = rw (first, append-assoc, ← (run-refused (n + 1) x t ran), ← left) (i .refusals);
         lent = rw (← (run-lent (n + 1) x t ran), ← left) (i .lent);
