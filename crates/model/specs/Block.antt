@@ -50,7 +50,7 @@ linkAll p (a ∷ l) h = store p (linkAll p l h) a (headD l 0)
 unfoldable pub initChain : Params → ℕ → ℕ → List ℕ
 initChain p b s = cellsDown (λ a. false) (start p b) s (cellCount p s)
 
--- the words of a block after init, by the holder h
+-- the words of a block after init, by the holder h; its state is set where the offer is taken (`acquireFresh`)
 unfoldable pub initBlock : Params → ℕ → ℕ → ℕ → Words → Words
 initBlock p b s h t = setTls b h (setSize b s (setFree b (headD (initChain p b s) 0) t))
 
@@ -75,7 +75,7 @@ sweepChain p ms b s = cellsDown (keeps p (marked p ms) s) (start p b) s (cellCou
 unfoldable pub sweptWords : Params → List ℕ → ℕ → Words → Words
 sweptWords p ms b t = setFree b (headD (sweepChain p ms b (getD (t .size) b 0)) 0) t
 
--- ---- release: all words of the block are 0 again, and so is its state
+-- ---- release: all words of the block are 0 again; its state is set where a block is released (Global `releaseFrom`)
 
 unfoldable pub clearBlock : ℕ → Words → Words
 clearBlock b t = setTls b 0 (setList b 0 (setSize b 0 (setFree b 0 (setPrev b 0 (setNext b 0 t)))))

@@ -39,7 +39,7 @@ pop p l t =
     if eqb head 0 then popped 0 t
     else popped head (popHead p l (blockAt p head) (getD (t .next) (blockAt p head) 0) t)
 
--- the block b, between prev and next, is taken out of the list l; its own words stay
+-- the block between prev and next is taken out of the list l; its own words stay
 unfoldable pub removeBetween : Params → ℕ → ℕ → ℕ → Words → Words
 removeBetween p l prev next t =
     if eqb prev 0

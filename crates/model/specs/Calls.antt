@@ -120,7 +120,7 @@ planAlloc p t h size align offset offer =
     else if not (goodOffer p t offer) then refuses t BadOffer
     else takePlan p align offset (findBlock p h (binOf p (raised p size align)) offer t)
 
--- "call not of this phase, or released already"
+-- the phase of a release; "or released already" is tested beside it, below
 unfoldable pub mayRelease : Words → Bool
 mayRelease w = eqb (w .phase) Marking || eqb (w .phase) Releasing
 

@@ -65,7 +65,7 @@ isNumber cs =
 unfoldable pub isWord : ℕ → List ℕ → Bool
 isWord c w = eqb (length w) 1 && eqb (getD w 0 0) c
 
--- the words from the second to the n-th, of n, are numbers
+-- the words from the second to the n-th are numbers
 unfoldable pub numbersTo : ℕ → List (List ℕ) → Bool
 numbersTo n ws = allBelow (n - 1) (λ i. isNumber (getD ws (i + 1) []))
 

@@ -47,41 +47,38 @@ andThen f g = record { at = g .at; words = g .words; events = f .events ++ g .ev
 abbrev pub sweepOf : Params → List ℕ → ℕ → Words → Event
 sweepOf p ms b t = swept b (sweepChain p ms b (getD (t .size) b 0))
 
--- "then local unswept": blocks are popped and swept until one has a free cell, which goes to available; the others go to
--- consumed. At most k blocks
+-- the block at a, with these words, is filed: under available if it has a free cell, which ends the search, else under
+-- consumed, and the search goes on
+abbrev pub filed : Params → ℕ → ℕ → ℕ → Words → (Words → Found) → Found
+filed p owner bin a w more =
+    let b : ℕ = blockAt p a in
+    if eqb (getD (w .free) b 0) 0 then more (push p (consumed owner bin) b w) else found a (push p (available owner bin) b w)
+
+-- "then local unswept": blocks are popped, swept and filed. At most k blocks
 unfoldable pub recycleLocalBlocks : ℕ → Params → List ℕ → ℕ → ℕ → Words → Found
 recycleLocalBlocks zero p ms owner bin t = found 0 t
 recycleLocalBlocks (suc k) p ms owner bin t =
     let g : Popped = pop p (unswept owner bin) t in
     let b : ℕ = blockAt p (g .at) in
-    let w : Words = sweptWords p ms b (g .words) in
     if eqb (g .at) 0 then found 0 (g .words)
     else after (sweepOf p ms b (g .words))
-    (if eqb (getD (w .free) b 0) 0 then recycleLocalBlocks k p ms owner bin (push p (consumed owner bin) b w)
-    else found (g .at) (push p (available owner bin) b w))
+    (filed p owner bin (g .at) (sweptWords p ms b (g .words)) (λ w. recycleLocalBlocks k p ms owner bin w))
 
--- "then `acquire_global_block`: abandoned available, abandoned unswept (swept)": each block becomes the holder's, and goes
--- to its available list if it has a free cell, else to its consumed one. Abandoned consumed blocks are not tried.
--- At most k blocks
+-- "then `acquire_global_block`: abandoned available, abandoned unswept (swept)": each block becomes the holder's and is filed
+-- under its lists. Abandoned consumed blocks are not tried. At most k blocks
 unfoldable pub acquireAbandoned : ℕ → Params → List ℕ → ℕ → ℕ → Words → Found
 acquireAbandoned zero p ms h bin t = found 0 t
 acquireAbandoned (suc k) p ms h bin t =
     let g : Popped = pop p (available abandoned bin) t in
-    let b : ℕ = blockAt p (g .at) in
-    let w : Words = setTls b h (g .words) in
     let g′ : Popped = pop p (unswept abandoned bin) (g .words) in
     let b′ : ℕ = blockAt p (g′ .at) in
+    let w : Words = setTls (blockAt p (g .at)) h (g .words) in
     let w′ : Words = setTls b′ h (g′ .words) in
-    let w″ : Words = sweptWords p ms b′ w′ in
+    let more : Words → Found = λ u. acquireAbandoned k p ms h bin u in
     if eqb (g .at) 0
     then (if eqb (g′ .at) 0 then found 0 (g′ .words)
-    else after (sweepOf p ms b′ w′)
-    (if eqb (getD (w″ .free) b′ 0) 0
-    then acquireAbandoned k p ms h bin (push p (consumed (localSets h) bin) b′ w″)
-    else found (g′ .at) (push p (available (localSets h) bin) b′ w″)))
-    else (if eqb (getD (w .free) b 0) 0
-    then acquireAbandoned k p ms h bin (push p (consumed (localSets h) bin) b w)
-    else found (g .at) (push p (available (localSets h) bin) b w))
+    else after (sweepOf p ms b′ w′) (filed p (localSets h) bin (g′ .at) (sweptWords p ms b′ w′) more))
+    else filed p (localSets h) bin (g .at) w more
 
 -- a search's end: also whether the offer was used, and all tables
 pub record Search : Type 0 where

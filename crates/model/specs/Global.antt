@@ -3,7 +3,8 @@
 -- | call           | phase              | blocks                                                                    | after      |
 -- |----------------|--------------------|---------------------------------------------------------------------------|------------|
 -- | bind, destroy  | Running            | destroy: the holder's lists go behind the abandoned ones                  | Running    |
--- | alloc          | Running            | full blocks to consumed; unswept blocks swept; abandoned ones taken over  | Running    |
+-- | alloc          | Running            | full blocks to consumed; unswept blocks swept; abandoned ones taken over; | Running    |
+-- |                |                    | an offered block becomes Unmarked, on available                           |            |
 -- | prepare        | Running            | occupied blocks Unmarked, all marks cleared                               | Marking    |
 -- | mark           | Marking            | the block of a new mark becomes Marked                                    | Marking    |
 -- | release        | Marking, Releasing | Unmarked blocks released, its unswept lists apart; the rest to in-gc      | Releasing, |
@@ -53,7 +54,7 @@ isBound t h = isHolder h && eqb (getD (t .bound) (h - 1) 0) 1
 unfoldable pub bindHolder : ℕ → Tables → Tables
 bindHolder h t = withWords (setBound (h - 1) 1 (t .words)) t
 
--- the lists of one owner go behind those of another, bin by bin
+-- the lists of one owner go behind those of another, bin by bin (docs/DECISIONS.md on the order of the three)
 unfoldable pub abandonBin : Params → ℕ → ℕ → ℕ → Words → Words
 abandonBin p to from bin t =
     append p (unswept to bin) (unswept from bin)

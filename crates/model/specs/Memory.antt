@@ -1,5 +1,7 @@
 -- "Memory" and "Marks": words in a list of bytes, and one mark bit for each 8 heap bytes.
--- Every access is total: what lies past the end of a list reads as 0 and is not written.
+-- Every access is total: what lies past the end of a list reads as 0 and is not written. An address below `base` is taken for
+-- `base`; no call asks for one.
+-- A place (01's term) is a heap address, a multiple of 8, at which a mark is or may be set.
 use Prim.Native.Nat.{ℕ, zero, suc, _+_, _-_, _*_, _/_, _%_, _^_}
 use mathlib.Core.Bool.{Bool, _&&_}
 use mathlib.Core.List.{List, [], _∷_}

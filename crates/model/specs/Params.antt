@@ -12,11 +12,12 @@ use Rattle.model.specs.Base.{if_then_else_, anyBelow}
 unfoldable pub powerOfTwo : ℕ → Bool
 powerOfTwo x = anyBelow 17 (λ k. eqb x (2 ^ k))
 
--- "L = OBJECT_REF_OFFSET_LOWER_BOUND, a multiple of 8, −64 to 64, and 0 if unified."
+-- "L = OBJECT_REF_OFFSET_LOWER_BOUND, a multiple of 8, −64 to 64"
 unfoldable pub lowerOk : ℤ → Bool
 lowerOk l = eqb (natAbs l % 8) 0 && leb (natAbs l) 64
 
--- L + 64, which is never negative, so that everything below speaks of natural numbers. `negsuc n` is −(n + 1)
+-- L + 64, which is not negative where L is at least −64, so that everything below speaks of natural numbers. `negsuc n` is
+-- −(n + 1)
 unfoldable pub biased : ℤ → ℕ
 biased = elim [ pos n ↦ 64 + n | negsuc n ↦ 64 - suc n ]
 
@@ -34,7 +35,7 @@ heapBytes p = p .blocks * p .bytes
 unfoldable pub heapEnd : Params → ℕ
 heapEnd p = p .base + heapBytes p
 
--- "MIN_ALIGNMENT 4 or 8; MAX_ALIGNMENT a power of two, MIN to 64; [..] Block size: a power of two, 4,096 to 65,536.
+-- "MIN_ALIGNMENT 4 or 8; MAX_ALIGNMENT a power of two, MIN to 64; [..] and 0 if unified. [..] Block size: a power of two, 4,096 to 65,536.
 -- Blocks: 1 to 1,024. `base`: a nonzero multiple of the block size; the heap ends by 2^47."
 unfoldable pub goodParams : Params → Bool
 goodParams p =
@@ -57,7 +58,7 @@ pub record Lent : Type 0 where
 unfoldable pub wordCount : Params → ℕ
 wordCount p = 2958 + 6 * p .blocks
 
--- "Buffers have the exact lengths these give": BadSetup is the opposite of this
+-- "Buffers have the exact lengths these give": BadSetup is the opposite of this in every call; pages used has its own test
 unfoldable pub fits : Params → Lent → Bool
 fits p l =
     goodParams p && eqb (length (l .words)) (wordCount p) && eqb (length (l .states)) (p .blocks)

@@ -1,7 +1,9 @@
 -- "Runs and held cells": the book, runs with what holders write between calls, and demand 3 as one proposition.
 --
 -- The book (01's term) says which cells are held. It is fed each call with the machine's events and reply, and nothing else.
--- A cell is held while it stands in the book, and lost (01's term) when an event strikes it out.
+-- A cell is held while it stands in the book, and lost (01's term) when an event strikes it out. It is new until an answered
+-- prepare comes, and old from then on. The book's places are those of the marks answered since the last answered prepare.
+-- Words in quotes are 01's; from "what holds in each turn" on they are demand 3's own, which docs/DEMAND3.md has whole.
 use Prim.Native.Nat.{ℕ, _+_, _-_, _≤_, _<_}
 use mathlib.Core.Path.{_≡_}
 use mathlib.Core.Bool.{Bool, true, false, not, _&&_}
@@ -36,7 +38,8 @@ frees p (swept b chain) c = member (c .start) chain
 frees p (released b) c = eqb (blockAt p (c .start)) b
 frees p (taken a s) c = false
 
--- "A served alloc enters the cell it took, as new; its start is the address before `align_allocation` shifts it."
+-- "A served alloc enters the cell it took, as new; its start is the address before `align_allocation` shifts it." Only a served
+-- alloc has the event `taken` (Calls `takeCell`)
 unfoldable pub entered : ℕ → Event → List Cell → List Cell
 entered h (initialised b chain) cs = cs
 entered h (swept b chain) cs = cs
@@ -105,7 +108,7 @@ unfoldable pub foundBy : Params → Lent → Turn → Lent
 foundBy p l u =
     record { words = l .words; states = l .states; marks = l .marks; heap = written p (u .writes) (l .heap) }
 
--- the machine's step of a turn's call
+-- the machine's step of a turn's call. `call` is this step wherever the lengths fit, and they do from set-up on
 unfoldable pub stepOf : Params → State → Turn → Step
 stepOf p s u = step p (tablesIn (s .lent)) (foundBy p (s .lent) u .heap) (u .call)
 
@@ -163,7 +166,7 @@ Zeroed p es h =
     (a s : ℕ) → In (taken a s) es
     → (p .base ≤ a) × (a + s ≤ heapEnd p) × ((k : ℕ) → a ≤ k → k < a + s → byteAt p h k ≡ 0)
 
--- A served alloc takes one cell: the size answered is the cell's, and the address answered is its start, shifted, from which
+-- A served alloc takes a cell: the size answered is the cell's, and the address answered is its start, shifted, from which
 -- the size asked for lies within the cell. This ties what the book enters to what the caller is told
 unfoldable pub Served : Call → Step → Type 0
 Served c s =
@@ -225,7 +228,7 @@ pub record Alike (p : Params) (l l′ : Lent) (us us′ : List Turn) : Type 0 wh
   pub pagesAfter : (firsts : List ℕ) → map (λ s. pages p (s .words) firsts) (trace p (begun p l) us) ≡ map (λ s. pages p (s .words) firsts) (trace p (begun p l′) us′)
 
 -- For all parameters for which set-up isn't refused, all lent bytes, all lists of calls, refused ones included, and all that
--- holders write into cells that they hold then. The second run is any run, so the first being any, `keeps` is of each run
+-- holders write into cells that they hold then. `RunKeeps` is claimed of the first run; either run may be the first
 unfoldable pub Demand3 : Type 0
 Demand3 =
     (p : Params) (l l′ : Lent) (us us′ : List Turn)

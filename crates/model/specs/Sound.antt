@@ -1,4 +1,6 @@
--- "Sound tables": a test with one part for each item of 01's sentence, in its order.
+-- "Sound tables" (01's term): tables that a call may work on; on any others it is refused BadTables and changes nothing.
+-- A test with a part for each item of 01's sentence, in its order. "Exactly the list it names" is in two parts (`onListNamed`,
+-- `linked`), and `flagsKnown` is about words that 01 leaves to us.
 use Prim.Native.Nat.{ℕ, zero, suc, _+_, _-_, _*_, _/_, _%_}
 use mathlib.Core.Bool.{Bool, true, false, not, _&&_, _||_}
 use mathlib.Core.List.{List}

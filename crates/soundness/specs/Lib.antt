@@ -1,0 +1,11 @@
+pub mod Lists
+pub mod SoundLists
+pub mod Moves
+pub mod Removes
+pub mod Flags
+pub mod Simple
+pub mod Release
+pub mod Alloc
+pub mod Kept
+pub mod Replies
+pub mod Never

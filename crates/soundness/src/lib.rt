@@ -1,0 +1,1 @@
+// That calls keep tables sound. No code.
