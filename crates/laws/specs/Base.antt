@@ -78,6 +78,9 @@ member-in x [] e = not-both false e refl
 member-in x (y ∷ l) e =
     ⊎-elim (λ q. inl (eqb-true x y q)) (λ m. inr (member-in x l m)) (or-cases (eqb x y) (member x l) e)
 
+pub member-out : (x : ℕ) (l : List ℕ) → member x l ≡ false → In x l → ⊥
+member-out x l e m = not-both (member x l) (in-member x l m) e
+
 pub in-append-left : {A : Type 0} (x : A) (l m : List A) → In x l → In x (l ++ m)
 unfolding In
 in-append-left x [] m i = absurd i

@@ -55,6 +55,19 @@ and-four a b c d e =
     let r = and-three a b c (and-left (a && b && c) d e) in
     (r .0, r .1, r .2, and-right (a && b && c) d e)
 
+pub and-five : (a b c d e : Bool) → (a && b && c && d && e) ≡ true
+    → (a ≡ true) × (b ≡ true) × (c ≡ true) × (d ≡ true) × (e ≡ true)
+and-five a b c d e h =
+    let r = and-four a b c d (and-left (a && b && c && d) e h) in
+    (r .0, r .1, r .2, r .3, and-right (a && b && c && d) e h)
+
+pub and-seven : (a b c d e f g : Bool) → (a && b && c && d && e && f && g) ≡ true
+    → (a ≡ true) × (b ≡ true) × (c ≡ true) × (d ≡ true) × (e ≡ true) × (f ≡ true) × (g ≡ true)
+and-seven a b c d e f g h =
+    let six : (a && b && c && d && e && f) ≡ true = and-left (a && b && c && d && e && f) g h in
+    let r = and-five a b c d e (and-left (a && b && c && d && e) f six) in
+    (r .0, r .1, r .2, r .3, r .4, and-right (a && b && c && d && e) f six, and-right (a && b && c && d && e && f) g h)
+
 -- a test is one or the other
 pub test : (a : Bool) → (a ≡ true) ⊎ (a ≡ false)
 test true = inl refl

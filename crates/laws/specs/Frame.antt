@@ -1,4 +1,4 @@
--- List operations change the links and list words alone: every other field of the words stays.
+-- List operations change the links and list words alone: every other field of the words stays. Assumes nothing.
 use Prim.Native.Nat.{ℕ, zero, suc, _<_}
 use mathlib.Core.Path.{_≡_, refl, sym, ap, _∙_, subst}
 use mathlib.Core.Logic.{_≢_}
@@ -236,6 +236,16 @@ module _ (p : Params) where
   link-first : (l o : ℕ) (t : Words) → FirstsBut l o t (link p l o t)
   unfolding FirstsBut link setFirst setLast setNext setPrev
   link-first l o t = if-first l o t (eqb (getD (t .first) l 0) 0) _ _ (λ m f g. getD-set-other (t .first) l m _ 0 f) (λ m f g. refl)
+
+  -- linking two lists stores no list word
+  pub link-list : (l o : ℕ) (t : Words) → link p l o t .list ≡ t .list
+  unfolding link setFirst setLast setNext setPrev
+  link-list l o t = go (eqb (getD (t .first) l 0) 0)
+    where
+      go : (c : Bool) → (if c then setLast l (getD (t .last) o 0) (setFirst l (getD (t .first) o 0) t)
+          else setLast l (getD (t .last) o 0) (setPrev (blockAt p (getD (t .first) o 0)) (getD (t .last) l 0) (setNext (blockAt p (getD (t .last) l 0)) (getD (t .first) o 0) t))) .list ≡ t .list
+      go true = refl
+      go false = refl
 
   pub append-first : (l o : ℕ) (t : Words) → FirstsBut l o t (append p l o t)
   unfolding append setFirst setLast FirstsBut

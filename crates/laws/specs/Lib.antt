@@ -14,3 +14,5 @@ pub mod Frame
 pub mod Pigeon
 pub mod Linked
 pub mod Text
+pub mod Stores
+pub mod Lent

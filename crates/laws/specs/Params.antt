@@ -11,7 +11,7 @@ use lib.IntN.{ℤ, pos, negsuc, natAbs}
 use borrow.Author.Tests.{ltb-true, ltb-false, leb-true, eqb-true, lt-ltb, le-ltb, le-leb, lt-leb, eq-eqb, ne-eqb}
 use Rattle.model.specs.declared.Params.{Params}
 use Rattle.model.specs.Base.{allBelow}
-use Rattle.model.specs.Params.{powerOfTwo, lowerOk, biased, heapBytes, heapEnd, goodParams, start, blockAt, inHeap, isStart}
+use Rattle.model.specs.Params.{powerOfTwo, lowerOk, biased, heapBytes, heapEnd, goodParams, start, blockAt, inHeap, isStart, listWord}
 use Rattle.model.specs.Block.{simple}
 use Rattle.laws.specs.Below.{true-not-false, and-left, and-right, and-three, and-both, and-first, and-second, or-cases}
 use Rattle.laws.specs.Good.{Good, good, each-power}
@@ -234,3 +234,12 @@ module _ (p : Params) (g : Bounds p) where
   -- two blocks with one start are one
   pub start-same : (b d : ℕ) → b < p .blocks → d < p .blocks → start p b ≡ start p d → b ≡ d
   start-same b d hb hd e = sym (blockAt-start b hb) ∙ ap (blockAt p) e ∙ blockAt-start d hd
+
+  -- no block starts at 0
+  pub some-start : (b : ℕ) → b < p .blocks → start p b ≡ 0 → ⊥
+  some-start b h e = omega (arith, start-pos b h, e)
+
+-- two lists with one list word are one
+pub word-same : (l m : ℕ) → listWord l ≡ listWord m → l ≡ m
+unfolding listWord
+word-same l m e = omega (arith, e)

@@ -2,7 +2,7 @@
 -- counterpart and the sums are equal, all terms are. And a list without repetition has as many elements as there are members.
 -- Assumes nothing.
 use Prim.Native.Nat.{ℕ, zero, suc, _+_, _-_, _<_, _≤_}
-use mathlib.Core.Path.{_≡_, refl, sym, ap, _∙_}
+use mathlib.Core.Path.{_≡_, refl, sym, ap, _∙_, subst}
 use mathlib.Core.Bool.{Bool, true, false, not, _||_}
 use mathlib.Core.List.{List, [], _∷_}
 use mathlib.Core.Logic.{_⊎_, inl, inr, ⊎-elim}
@@ -142,6 +142,17 @@ members-count n (x ∷ l) d u =
     ∙ sum-add n (λ b. flag (eqb b x)) (λ b. flag (member b l)) in
     let suc-length : length (x ∷ l) ≡ length l + 1 = sym (add-one (length l)) in
     omega arith
+
+-- a list without repetition of numbers below n is at most n long
+pub distinct-short : (n : ℕ) (l : List ℕ) → Distinct l → Under n l → length l ≤ n
+distinct-short n l d u =
+    omega (
+      arith,
+      members-count n l d u,
+      sum-ones n,
+      sum-le (λ x. flag (member x l)) (λ x. 1) n
+          (λ i h. subst (λ (k : ℕ). flag (member i l) ≤ k) (flag-one {b = true} refl) (flag-le (member i l) true (λ e. refl))),
+    )
 
 -- ---- a loop that counts down, with the sum so far
 pub sum-end : (f : ℕ → ℕ) (k : ℕ) → k ≤ 0 → sumBelow k f ≡ 0

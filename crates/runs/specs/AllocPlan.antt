@@ -1,44 +1,44 @@
 -- Alloc's plan keeps the invariant of a run, and takes the first free cell of a block that waits for no sweep.
 use mathlib.Core.Path.{_≡_, refl, sym, ap, _∙_, subst}
 use mathlib.Core.Logic.{_≢_, _⊎_, inl, inr, ⊎-elim}
-use mathlib.Core.Bool.{Bool, true, false, not, _&&_, _||_}
+use mathlib.Core.Bool.{true, false}
 use mathlib.Core.List.{List, [], _∷_, _++_}
 use Prim.Native.Nat.{ℕ, zero, suc, _+_, _-_, _*_, _/_, _%_, _≤_, _<_}
 use native.Mathlib.Omega.{arith}
 use native.Mathlib.Nat.{le-div-iff-mul-le}
-use native.Mathlib.Decide.{ℕ-discrete}
 use lib.Dec.{eqb, ltb, leb}
-use lib.ListN.{length, getD, set, length-set}
+use lib.ListN.{length, getD, set}
 use lib.Seq.{getD-set-same, getD-set-other}
-use borrow.Author.Tests.{eqb-true, eqb-false, eq-eqb, ne-eqb, not-true, not-false, ltb-true, leb-true}
+use borrow.Author.Tests.{eqb-true, eq-eqb, ne-eqb, ltb-true}
 use Rattle.model.specs.declared.Params.{Params}
 use Rattle.model.specs.declared.Offer.{Offer}
 use Rattle.model.specs.declared.Offer.the-variants.{Nothing, Fresh}
 use Rattle.model.specs.declared.Refusal.the-variants.{Exhausted}
-use Rattle.model.specs.Base.{if_then_else_, In}
+use Rattle.model.specs.Base.{if_then_else_}
 use Rattle.model.specs.Params.{start, blockAt, listWord, localSets, available, unswept, consumed}
 use Rattle.model.specs.Tables.{Words, Tables, tablesOf, withWords, setFree, setSize, setTls}
 use Rattle.model.specs.SizeClasses.{cellBytes, alignAllocation}
-use Rattle.model.specs.BlockList.{Popped, popped, push, pop}
+use Rattle.model.specs.BlockList.{Popped, push, pop, blocksOn}
 use Rattle.model.specs.Block.{Unmarked, linkAll, initChain, initBlock, cellsDown, cellCount}
-use Rattle.model.specs.Events.{Event, initialised, eventHeap, eventsHeap}
-use Rattle.model.specs.FreeListAllocator.{findFreeBlockWith, Found, found, andThen, recycleLocalBlocks, acquireAbandoned, Search, inFound, acquireFresh, findBlock}
-use Rattle.model.specs.Calls.{refused, Call, alloc, End, says, takes, Plan, goodOffer, takePlan}
+use Rattle.model.specs.Events.{initialised, eventHeap, eventsHeap}
+use Rattle.model.specs.FreeListAllocator.{findFreeBlockWith, Found, found, recycleLocalBlocks, acquireAbandoned, Search, inFound, acquireFresh, findBlock}
+use Rattle.model.specs.Calls.{alloc, goodOffer, takePlan}
 use Rattle.model.specs.Sound.{stateOf, sound, sizeOk, binNamed, listNamed}
-use Rattle.model.specs.Runs.{Cell, Book, bookEvent, bookEvents, bookAnswer, takerOf, entered, frees, hits}
-use Rattle.laws.specs.Base.{and-left, and-right, if-true, if-false, not-both}
-use Rattle.laws.specs.Params.{Bounds, blockAt-start}
+use Rattle.model.specs.Runs.{Book, bookEvent, bookEvents, bookAnswer, takerOf, entered, frees, hits}
+use Rattle.laws.specs.Base.{and-left, and-right, not-both}
+use Rattle.laws.specs.Params.{Bounds, some-start, blockAt-start}
 use Rattle.laws.specs.Classes.{cellBytes-least, cellBytes-words}
-use Rattle.laws.specs.Tables.{Sized, sized-same, kept-lengths, lengths}
+use Rattle.laws.specs.Tables.{sized-same, kept-lengths, lengths}
 use Rattle.laws.specs.Memory as Mem
 use Rattle.laws.specs.Cells.{chainStands}
 use Rattle.laws.specs.Frame.{LinksOnly, links-refl, push-links, push-list, push-first}
-use Rattle.runs.specs.Links.{Occupied, Linked, some-start}
-use Rattle.runs.specs.SoundFacts.{SoundParts, sound-parts, BlockParts, block-parts, on-parts, sound-linked}
-use Rattle.runs.specs.Inv.{Held, Core, was-held, init-core, init-bytes}
+use Rattle.soundness.specs.Owners.{available-numbered, consumed-numbered}
+use Rattle.soundness.specs.SoundLists.{sound-parts, block-parts, sound-lists}
+use Rattle.runs.specs.Links.{Occupied}
+use Rattle.runs.specs.Inv.{was-held, init-core, init-bytes}
 use Rattle.runs.specs.Steps.{shadowEvent, shadowEvents, isTaken, EventOk, EventsOk, no-events, more-events, events-append, heap-append, book-append, shadow-append, same-bytes}
-use Rattle.runs.specs.Search.{Settled, Idle, wordBin, available-settled, consumed-settled, unswept-unsettled, available-low, consumed-low, available-bin, consumed-bin, Searching, Ready, Skimmed, skim, Acquired, acquire, plain}
-use Rattle.runs.specs.Plans.{refusal-some, bookFor, Inv, Taking, EndOk, Planned, Serves, set-steady}
+use Rattle.runs.specs.Search.{Settled, wordBin, available-settled, consumed-settled, unswept-unsettled, available-bin, consumed-bin, Searching, Ready, Skimmed, skim, Acquired, acquire, plain}
+use Rattle.runs.specs.Plans.{refusal-some, bookFor, Inv, EndOk, Planned, Serves, set-steady}
 
 -- no holder has an unswept list, so there is nothing to sweep there
 recycle-idle : (k : ℕ) (p : Params) (ms : List ℕ) (owner bin : ℕ) (w : Words) → getD (w .first) (unswept owner bin) 0 ≡ 0
@@ -65,7 +65,7 @@ module _ (p : Params) (B : Bounds p) (t : Tables) (h : List ℕ) (sh : List (Lis
   starting : Searching p B (t .states) (t .marks) hd (t .words) h sh bk
   starting =
       record {
-        linked = sound-linked p B t (I .sized .first) good;
+        linked = record { lists = λ l. blocksOn p l (t .words); linked = sound-lists p B t good };
         lengths = I .sized;
         core = I .core;
         young = λ c m o. I .young c m o .1;
@@ -255,10 +255,10 @@ module _ (p : Params) (B : Bounds p) (t : Tables) (h : List ℕ) (sh : List (Lis
   find-searched offer fine = go (G .result)
     where
       lav : available (localSets hd) bin < 1470
-      lav = rw own (available-low (hd - 1) bin (omega arith) low)
+      lav = rw own (available-numbered (hd - 1) bin (omega arith) low .low)
 
       lco : consumed (localSets hd) bin < 1470
-      lco = rw own (consumed-low (hd - 1) bin (omega arith) low)
+      lco = rw own (consumed-numbered (hd - 1) bin (omega arith) low .low)
 
       g : Popped
       g = findFreeBlockWith (p .blocks) p (available (localSets hd) bin) (consumed (localSets hd) bin) (t .words)
@@ -279,7 +279,7 @@ module _ (p : Params) (B : Bounds p) (t : Tables) (h : List ℕ) (sh : List (Lis
       A = acquire p B (t .states) (t .marks) hd bin (hd - 1) low (omega arith) own (p .blocks) (g .words) h sh bk (G .searching)
 
       nonzero : (x : ℕ) (w : Words) (st : List ℕ) → Ready p B (t .states) (t .marks) hd bin w x → x ≢ 0
-      nonzero x w st r z = some-start p (t .states) B (r .block) (r .occupied .0) (sym (r .at) ∙ z)
+      nonzero x w st r z = some-start p B (r .block) (r .occupied .0) (sym (r .at) ∙ z)
 
       last : (a .at ≡ 0) ⊎ Ready p B (t .states) (t .marks) hd bin (a .words) (a .at) → Searched (if eqb (a .at) 0 then acquireFresh p hd bin offer a t else inFound a t)
       last (inl z) = rw (eq-eqb _ _ z) (offered offer fine a A)
@@ -314,7 +314,7 @@ module _ (p : Params) (B : Bounds p) (t : Tables) (h : List ℕ) (sh : List (Lis
             serves = refusal-some Exhausted;
           })
       go (inr k) =
-          rw (k .at, ne-eqb (start p (k .block)) 0 (some-start p (t .states) B (k .block) (k .inside)), blockAt-start p B (k .block) (k .inside)) (record {
+          rw (k .at, ne-eqb (start p (k .block)) 0 (some-start p B (k .block) (k .inside)), blockAt-start p B (k .block) (k .inside)) (record {
             events = S .events;
             inv = S .inv;
             end = record { inside = k .inside; occupied = k .occupied; settled = k .settled; running = S .phase; cell = k .cell; rest = k .rest; chain = k .chain };

@@ -1,27 +1,25 @@
 -- Every call, on tables and a heap under the invariant: its plan, and its step.
-use mathlib.Core.Path.{_≡_, refl, sym, ap, _∙_, subst}
-use mathlib.Core.Logic.{_≢_, _⊎_, inl, inr, ⊎-elim}
+use mathlib.Core.Path.{_≡_}
 use mathlib.Core.Bool.{Bool, true, false, not, _&&_, _||_}
-use mathlib.Core.List.{List, [], _∷_, _++_}
-use Prim.Native.Nat.{ℕ, _+_, _%_, _≤_, _<_}
+use mathlib.Core.List.{List}
+use Prim.Native.Nat.{ℕ, _+_, _%_, _≤_}
 use native.Mathlib.Omega.{arith}
 use lib.Dec.{eqb, leb}
 use lib.ListN.{getD}
-use borrow.Author.Tests.{eqb-true, leb-true, not-true, not-false}
+use borrow.Author.Tests.{eqb-true, leb-true, not-false}
 use Rattle.model.specs.declared.Params.{Params}
 use Rattle.model.specs.declared.Offer.{Offer}
 use Rattle.model.specs.declared.Refusal.{Refusal}
 use Rattle.model.specs.declared.Refusal.the-variants.{BadTables, WrongPhase, BadHolder, BadRequest, TooBig, BadOffer, BadObject}
-use Rattle.model.specs.Base.{if_then_else_}
 use Rattle.model.specs.Params.{goodParams}
 use Rattle.model.specs.Tables.{Words, Tables}
-use Rattle.model.specs.SizeClasses.{binOf, raised, cellBytes, alignAllocation}
+use Rattle.model.specs.SizeClasses.{binOf, raised, alignAllocation}
 use Rattle.model.specs.Events.{Event, eventsHeap}
 use Rattle.model.specs.Global.{isHolder, isBound, hasReleased}
 use Rattle.model.specs.Sound.{sound}
-use Rattle.model.specs.Calls.{Call, bind, destroy, alloc, prepare, mark, release, sharedRelease, End, says, takes, Plan, refuses, goodRequest, tooBig, goodOffer, goodObject, mayRelease, planAlloc, planSound, plan, Step, finish, step}
+use Rattle.model.specs.Calls.{Call, bind, destroy, alloc, prepare, mark, release, sharedRelease, End, says, takes, Plan, refuses, goodObject, mayRelease, planAlloc, planSound, plan, finish, step}
 use Rattle.model.specs.Runs.{Book, bookEvents, takerOf}
-use Rattle.laws.specs.Base.{and-left, and-right, if-cases, or-none-left, or-none-right}
+use Rattle.laws.specs.Base.{and-left, and-right, if-cases, or-none-left}
 use Rattle.laws.specs.Params.{Bounds, good-bounds}
 use Rattle.laws.specs.Good.{Good, good}
 use Rattle.laws.specs.Classes.{Chosen, chosen, cell-in-block, request, fits-raised, object-in-cell}

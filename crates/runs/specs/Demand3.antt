@@ -2,34 +2,29 @@
 -- calls agree; and each turn keeps what is held.
 use mathlib.Core.Path.{_≡_, refl, sym, ap, _∙_, subst}
 use mathlib.Core.Logic.{_≢_, _⊎_, inl, inr, ⊎-elim}
-use mathlib.Core.Bool.{Bool, true, false, not, _&&_}
-use mathlib.Core.List.{List, [], _∷_, _++_, map}
-use Prim.Native.Nat.{ℕ, zero, suc, _+_, _-_, _*_, _/_, _%_, _≤_, _<_}
+use mathlib.Core.Bool.{true, false}
+use mathlib.Core.List.{List, [], _∷_, map}
+use Prim.Native.Nat.{ℕ, _+_, _-_, _*_, _/_, _%_, _≤_, _<_}
 use native.Mathlib.Omega.{arith}
-use native.Mathlib.Decide.{ℕ-discrete}
-use lib.Dec.{eqb}
 use lib.ListN.{length, getD, set, length-set, replicate, length-replicate, getD-replicate}
 use lib.Seq.{getD-set-other}
-use borrow.Author.Tests.{eq-eqb, eqb-true}
 use Rattle.model.specs.declared.Params.{Params}
-use Rattle.model.specs.declared.Refusal.the-variants.{BadSetup}
-use Rattle.model.specs.Base.{if_then_else_, In, Pairwise, member}
+use Rattle.model.specs.Base.{In, Pairwise, member}
 use Rattle.model.specs.Params.{goodParams, Lent, fits, wordCount, heapBytes, blockAt, unswept}
 use Rattle.model.specs.Memory.{marked, cleared}
-use Rattle.model.specs.Tables.{Words, blocksIn, Tables, tablesOf, view, flat}
-use Rattle.model.specs.Events.{Event, sweeps, releases}
+use Rattle.model.specs.Tables.{blocksIn, Tables, view, flat}
+use Rattle.model.specs.Events.{sweeps, releases}
 use Rattle.model.specs.Global.{freshWords, freshTables}
-use Rattle.model.specs.Calls.{Reply, answered, refusalNumber, Call, Step, step, Result, tablesIn, lentOf, resultFrom, badSetup, call, setUp, pages}
-use Rattle.model.specs.Runs.{Cell, Book, bookAfter, Write, written, Turn, State, foundBy, stepOf, resultOf, turned, begun, covers, Holds, HoldersWrite, Seen, seen, trace, TurnKeeps, RunKeeps, Alike, Demand3}
-use Rattle.laws.specs.Base.{and-left, and-right, bool-cases, if-true, if-false}
-use Rattle.laws.specs.Below.{and-both}
+use Rattle.model.specs.Calls.{Call, Step, step, Result, lentOf, resultFrom, setUp, pages}
+use Rattle.model.specs.Runs.{Cell, Book, bookAfter, Write, written, Turn, State, foundBy, stepOf, resultOf, turned, begun, covers, Holds, HoldersWrite, Seen, seen, trace, TurnKeeps, RunKeeps, Demand3}
 use Rattle.laws.specs.Params.{Bounds}
-use Rattle.laws.specs.Tables.{part-zeros, Sized, sized-view, view-flat, length-flat}
+use Rattle.laws.specs.Tables.{part-zeros, Sized, sized-view}
 use Rattle.laws.specs.Memory as Mem
 use Rattle.laws.specs.Marks.{marked-cleared}
 use Rattle.laws.specs.Cells.{Whole, whole-from, whole-apart, whole-blockAt, stands-frame, chainStands}
-use Rattle.runs.specs.Inv.{BlockInv, Held, Core}
-use Rattle.runs.specs.Plans.{Inv, refusal-some}
+use Rattle.laws.specs.Lent.{fits-parts, answered-fits, set-up-is, lent-tables, call-is}
+use Rattle.runs.specs.Inv.{Held, Core}
+use Rattle.runs.specs.Plans.{Inv}
 use Rattle.runs.specs.Finish.{ShadowStep, StepOk, held-apart}
 use Rattle.runs.specs.Calls.{B, shadowStep, step-ok}
 
@@ -113,23 +108,6 @@ module _ (p : Params) (fine : goodParams p ≡ true) where
   abbrev stateOf : Tables → List ℕ → Book → State
   stateOf t h bk = record { lent = lentOf t h; book = bk }
 
-  module _ (t : Tables) (h : List ℕ) (sh : List (List ℕ)) (bk : Book) (I : Inv p bounds t h sh bk) where
-    lent-fits : fits p (lentOf t h) ≡ true
-    unfolding fits wordCount
-    lent-fits =
-        and-both (and-both (and-both (and-both fine
-        (eq-eqb _ _ (length-flat (p .blocks) (t .words) (I .sized))))
-        (eq-eqb _ _ (I .core .states)))
-        (eq-eqb _ _ (I .core .markings)))
-        (eq-eqb _ _ (I .core .heap))
-
-    lent-tables : tablesIn (lentOf t h) ≡ t
-    lent-tables = ap (λ (w : Words). tablesOf w (t .states) (t .marks)) (view-flat (p .blocks) (t .words) (I .sized))
-
-    call-is : (c : Call) → call p (lentOf t h) c ≡ resultFrom (step p t h c)
-    unfolding call
-    call-is c = if-true (fits p (lentOf t h)) _ _ lent-fits ∙ ap (λ (x : Tables). resultFrom (step p x h c)) lent-tables
-
   -- the run over the shadow
   pub shadowSeen : ShadowStep → Seen
   shadowSeen a =
@@ -169,11 +147,11 @@ module _ (p : Params) (fine : goodParams p ≡ true) where
 
     step-of : stepOf p (stateOf t h bk) u ≡ step p t g (u .call)
     unfolding stepOf foundBy
-    step-of = ap (λ (x : Tables). step p x g (u .call)) (lent-tables t h sh bk I)
+    step-of = ap (λ (x : Tables). step p x g (u .call)) (lent-tables (p .blocks) t h (I .sized))
 
     result-of : resultOf p (stateOf t h bk) u ≡ resultFrom (step p t g (u .call))
     unfolding resultOf foundBy
-    result-of = call-is t g sh bk J (u .call)
+    result-of = call-is p t g fine (J .sized) (J .core .states) (J .core .markings) (J .core .heap) (u .call)
 
     turn-of : turned p (stateOf t h bk) u
         ≡ stateOf (step p t g (u .call) .tables) (step p t g (u .call) .heap) (bookAfter p (u .call) (step p t g (u .call)) bk)
@@ -277,29 +255,6 @@ module _ (p : Params) (fine : goodParams p ≡ true) where
 
 -- ---- the theorem
 
--- set-up that isn't refused: fitting buffers, and the same tables whatever was lent
-ends-of-five : (a b c d e : Bool) → (a && b && c && d && e) ≡ true → (a ≡ true) × (e ≡ true)
-ends-of-five a b c d e h = (and-left a b (and-left (a && b) c (and-left (a && b && c) d (and-left (a && b && c && d) e h))), and-right (a && b && c && d) e h)
-
-fits-parts : (p : Params) (l : Lent) → fits p l ≡ true → (goodParams p ≡ true) × (length (l .heap) ≡ heapBytes p)
-unfolding fits
-fits-parts p l f =
-    let r = ends-of-five (goodParams p) (eqb (length (l .words)) (wordCount p)) (eqb (length (l .states)) (p .blocks))
-    (eqb (length (l .marks)) (heapBytes p / 64)) (eqb (length (l .heap)) (heapBytes p)) f in
-    (r .0, eqb-true _ _ (r .1))
-
-set-up-fits : (p : Params) (l : Lent) → setUp p l .reply ≡ answered [] → fits p l ≡ true
-unfolding setUp refusalNumber
-set-up-fits p l e = go (fits p l) refl
-  where
-    go : (b : Bool) → fits p l ≡ b → fits p l ≡ true
-    go true f = f
-    go false f = absurd (omega (arith, ap (λ (r : Reply). r .number) (sym (ap (λ (x : Result). x .reply) (if-false (fits p l) _ (badSetup l) f)) ∙ e)))
-
-set-up-is : (p : Params) (l : Lent) → fits p l ≡ true → setUp p l ≡ record { reply = answered []; lent = lentOf (freshTables p) (l .heap) }
-unfolding setUp
-set-up-is p l f = if-true (fits p l) _ _ f
-
 pub demand3 : Demand3
 unfolding Demand3 begun
 demand3 p l l′ us us′ e e′ H H′ same = (
@@ -313,10 +268,10 @@ demand3 p l l′ us us′ e e′ H H′ same = (
 )
   where
     fit : fits p l ≡ true
-    fit = set-up-fits p l e
+    fit = answered-fits p l e
 
     fit′ : fits p l′ ≡ true
-    fit′ = set-up-fits p l′ e′
+    fit′ = answered-fits p l′ e′
 
     fine : goodParams p ≡ true
     fine = fits-parts p l fit .0

@@ -1,35 +1,34 @@
 -- The end of a call: the one place where the heap is read. The link read is the one that the shadow says, so the reply, the
 -- tables and the events are those of a step that sees the shadow and no heap.
 use mathlib.Core.Path.{_≡_, refl, sym, ap, _∙_, subst}
-use mathlib.Core.Logic.{_≢_, _⊎_, inl, inr, ⊎-elim}
-use mathlib.Core.Bool.{Bool, true, false, not, _&&_, _||_}
+use mathlib.Core.Logic.{_≢_, inl, inr, ⊎-elim}
+use mathlib.Core.Bool.{Bool, true, false, not}
 use mathlib.Core.List.{List, [], _∷_, _++_, append-nil, headD}
-use Prim.Native.Nat.{ℕ, zero, suc, _+_, _-_, _*_, _%_, _≤_, _<_}
+use Prim.Native.Nat.{ℕ, _+_, _-_, _%_, _≤_, _<_}
 use native.Mathlib.Omega.{arith}
 use lib.Dec.{eqb}
-use lib.ListN.{length, getD, set}
-use borrow.Author.Tests.{eqb-false, eq-eqb}
+use lib.ListN.{getD, set}
+use borrow.Author.Tests.{eq-eqb}
 use Rattle.model.specs.declared.Params.{Params}
 use Rattle.model.specs.declared.Offer.{Offer}
-use Rattle.model.specs.Base.{if_then_else_, In, Pairwise, filter, flag}
+use Rattle.model.specs.Base.{In, Pairwise, filter, flag}
 use Rattle.model.specs.Params.{start, blockAt, heapBytes, heapEnd}
 use Rattle.model.specs.Memory.{load, zeroed}
-use Rattle.model.specs.Tables.{Words, Tables, tablesOf, withWords, setFree}
+use Rattle.model.specs.Tables.{Tables, withWords, setFree}
 use Rattle.model.specs.SizeClasses.{alignAllocation}
-use Rattle.model.specs.Block.{isCell}
 use Rattle.model.specs.Events.{Event, initialised, swept, released, taken, eventHeap, eventsHeap, sweeps}
 use Rattle.model.specs.Sound.{linkOk}
-use Rattle.model.specs.Calls.{Reply, answered, Call, bind, destroy, alloc, prepare, mark, release, sharedRelease, End, says, takes, Plan, Step, takeCell, finish}
-use Rattle.model.specs.Runs.{Cell, Book, frees, entered, bookEvent, bookEvents, bookAnswer, bookAfter, takerOf, covers, Apart, Zeroed, Served, Unchanged, LostExactly, staysHeld, byteAt, hits, unmarked}
-use Rattle.laws.specs.Base.{or-left, or-right, if-true, not-both, in-append, in-append-right}
+use Rattle.model.specs.Calls.{Reply, answered, Call, bind, destroy, alloc, prepare, mark, release, sharedRelease, End, says, takes, Step, takeCell, finish}
+use Rattle.model.specs.Runs.{Cell, Book, frees, entered, bookEvent, bookEvents, bookAnswer, bookAfter, takerOf, covers, Apart, Zeroed, Served, Unchanged, LostExactly, byteAt, hits}
+use Rattle.laws.specs.Base.{or-right, if-true, not-both, in-append, in-append-right}
 use Rattle.laws.specs.Params.{Bounds}
-use Rattle.laws.specs.Tables.{Sized, sized-same, kept-lengths}
+use Rattle.laws.specs.Tables.{sized-same, kept-lengths}
 use Rattle.laws.specs.Memory as Mem
 use Rattle.laws.specs.Cells.{Whole, whole-isCell, whole-from, whole-to, whole-apart, whole-blockAt}
 use Rattle.runs.specs.Inv.{Held, Core, whole-eight, first-whole, first-head, first-link, rest-cell, take-bytes, take-core}
-use Rattle.runs.specs.Steps.{shadowEvent, shadowEvents, EventOk, EventsOk, none-taken, events-lost, events-unchanged, heap-append, book-append, shadow-append, same-bytes}
+use Rattle.runs.specs.Steps.{shadowEvents, EventsOk, none-taken, events-lost, events-unchanged, book-append, same-bytes}
 use Rattle.runs.specs.Search.{Settled}
-use Rattle.runs.specs.Plans.{bookFor, Serves, Inv, EndOk, Planned}
+use Rattle.runs.specs.Plans.{bookFor, Serves, Inv}
 
 -- ---- a step over the shadow
 

@@ -5,27 +5,27 @@
 -- book's places say, and a block with a place is Marked.
 use mathlib.Core.Path.{_≡_, refl, sym, ap, _∙_, subst}
 use mathlib.Core.Logic.{_≢_, _⊎_, inl, inr, ⊎-elim}
-use mathlib.Core.Bool.{Bool, true, false, not, _&&_, _||_}
-use mathlib.Core.List.{List, [], _∷_, _++_, headD}
-use Prim.Native.Nat.{ℕ, zero, suc, _+_, _-_, _*_, _/_, _%_, _≤_, _<_}
+use mathlib.Core.Bool.{Bool, true, false, not, _&&_}
+use mathlib.Core.List.{List, [], _∷_, headD}
+use Prim.Native.Nat.{ℕ, _+_, _-_, _*_, _/_, _%_, _≤_, _<_}
 use native.Mathlib.Omega.{arith}
 use native.Mathlib.Decide.{ℕ-discrete, decLt}
 use lib.Dec.{eqb}
 use lib.ListN.{length, getD, set, length-set, List·getD-eq-default}
 use lib.Seq.{getD-set-same, getD-set-other}
-use borrow.Author.Tests.{eqb-true, eqb-false, eq-eqb, ne-eqb, not-true, not-false}
+use borrow.Author.Tests.{eqb-false, eq-eqb, ne-eqb, not-true}
 use Rattle.model.specs.declared.Params.{Params}
-use Rattle.model.specs.Base.{if_then_else_, In, Pairwise, member, filter, anyBelow}
-use Rattle.model.specs.Params.{start, blockAt, inHeap, heapBytes, heapEnd, plusLower, minusLower, biased}
+use Rattle.model.specs.Base.{if_then_else_, In, Pairwise, member, anyBelow}
+use Rattle.model.specs.Params.{start, blockAt, inHeap, heapBytes, plusLower, minusLower, biased}
 use Rattle.model.specs.Memory.{load, zeroed, marked}
 use Rattle.model.specs.SizeClasses.{wordsIn}
-use Rattle.model.specs.Block.{linkAll, keeps, simple, sweepChain, initChain, cellsDown, cellCount, Marked}
-use Rattle.model.specs.Events.{Event, initialised, swept, released, taken, eventHeap, eventsHeap}
-use Rattle.model.specs.Runs.{Cell, Book, frees, entered, bookEvent, bookEvents, unmarked, covers, Apart, staysHeld, Unchanged, byteAt, hits, LostExactly}
-use Rattle.laws.specs.Base.{in-filter, filter-in, pairwise-filter, in-member, member-in, bool-cases, same-test, any-same, not-both, below-none-any, and-right}
-use Rattle.laws.specs.Params.{Bounds, blockAt-within, start-in}
+use Rattle.model.specs.Block.{linkAll, keeps, simple, sweepChain, initChain, cellCount, Marked}
+use Rattle.model.specs.Events.{Event, initialised, swept, released}
+use Rattle.model.specs.Runs.{Cell, Book, frees, entered, bookEvent, unmarked, hits}
+use Rattle.laws.specs.Base.{in-filter, pairwise-filter, in-member, member-in, same-test, any-same, not-both, below-none-any, and-right}
+use Rattle.laws.specs.Params.{Bounds, start-in}
 use Rattle.laws.specs.Memory as Mem
-use Rattle.laws.specs.Cells.{Whole, whole-apart, whole-from, whole-to, whole-block, whole-blockAt, whole-nonzero, Desc, in-chain, chain-in, desc-cellsDown, desc-less, chainStands, length-linkAll, same-linkAll, stands-frame, stands-linkAll, whole-placed}
+use Rattle.laws.specs.Cells.{Whole, whole-apart, whole-from, whole-block, whole-blockAt, Desc, in-chain, chain-in, desc-cellsDown, desc-less, chainStands, length-linkAll, same-linkAll, stands-frame, stands-linkAll, whole-placed}
 
 -- a list's entry after a store, for any element
 pub set-cases : {A : Type 0} (l : List A) (i : ℕ) (v d : A) (j : ℕ) → i < length l

@@ -1,5 +1,4 @@
 pub mod Links
-pub mod SoundFacts
 pub mod Inv
 pub mod Steps
 pub mod Search

@@ -1,39 +1,40 @@
 -- Every call's plan keeps the invariant of a run. Alloc's is in AllocPlan.antt.
 use mathlib.Core.Path.{_≡_, refl, sym, ap, _∙_, subst}
-use mathlib.Core.Logic.{_≢_, _⊎_, inl, inr, ⊎-elim}
+use mathlib.Core.Logic.{_≢_, inl, inr, ⊎-elim}
 use mathlib.Core.Bool.{Bool, true, false, not, _&&_, _||_}
-use mathlib.Core.List.{List, [], _∷_, _++_, map}
+use mathlib.Core.List.{List, [], _∷_, map}
 use Prim.Native.Nat.{ℕ, zero, suc, _+_, _-_, _*_, _/_, _%_, _≤_, _<_}
 use native.Mathlib.Omega.{arith}
 use native.Mathlib.Decide.{ℕ-discrete, decLt}
 use lib.Dec.{eqb, ltb, leb}
-use lib.ListN.{length, getD, set, length-set, length-map, List·getD-eq-default, List·getD-map, replicate, length-replicate}
+use lib.ListN.{length, getD, set, length-set, length-map, List·getD-eq-default, List·getD-map, replicate}
 use lib.Seq.{getD-set-same, getD-set-other}
-use borrow.Author.Tests.{eqb-true, eqb-false, eq-eqb, ne-eqb, not-true, not-false, ltb-true, leb-true}
+use borrow.Author.Tests.{eqb-true, eqb-false, eq-eqb, ne-eqb, not-true, ltb-true, leb-true}
 use Rattle.model.specs.declared.Params.{Params}
 use Rattle.model.specs.declared.Refusal.{Refusal}
 use Rattle.model.specs.declared.Refusal.the-variants.{BadSetup, BadTables, WrongPhase, BadHolder, BadRequest, TooBig, BadOffer, BadLink, Exhausted, BadObject, BadLine}
 use Rattle.model.specs.Base.{if_then_else_, In, Pairwise, member, eachBelow, flag}
-use Rattle.model.specs.Params.{start, blockAt, inHeap, heapBytes, minusLower, listWord, listOf, localSets, abandoned, inGc, available, unswept, consumed, bins}
-use Rattle.model.specs.Memory.{marked, setMark, cleared}
-use Rattle.model.specs.Tables.{Words, Tables, tablesOf, withWords, setFirst, setLast, setBound, setReleased, setPhase, withReleased, setFree, setSize, setNext, setPrev, setList, setTls}
+use Rattle.model.specs.Params.{start, blockAt, inHeap, minusLower, listWord, localSets, abandoned, inGc, available, unswept, consumed, bins}
+use Rattle.model.specs.Memory.{marked}
+use Rattle.model.specs.Tables.{Words, Tables, setFirst, setLast, setBound, setReleased, setPhase, withReleased, setFree, setSize, setNext, setPrev, setList, setTls}
 use Rattle.model.specs.SizeClasses.{alignAllocation}
 use Rattle.model.specs.BlockList.{append, remove, relabel, link}
-use Rattle.model.specs.Block.{Marked, Unmarked, clearBlock}
+use Rattle.model.specs.Block.{Marked, clearBlock}
 use Rattle.model.specs.Events.{Event, released, eventHeap, eventsHeap}
 use Rattle.model.specs.Global.{bindHolder, destroyHolder, abandonBin, abandonBlocks, unmarkedState, prepared, markPlace, Freed, freed, afterRelease, releaseFrom, releaseBlocks, appendTo, releaseBin, releaseHolder, sweepLaterBin, sweepLater, partReleased, allReleased}
-use Rattle.model.specs.Calls.{refusalNumber, Reply, answered, refused, Call, bind, destroy, alloc, prepare, mark, release, sharedRelease, End, says, takes, Plan, refuses, changes, goodObject, mayRelease, releasePlan}
+use Rattle.model.specs.Calls.{refusalNumber, Reply, refused, Call, bind, destroy, alloc, prepare, mark, release, sharedRelease, End, says, takes, Plan, refuses, changes, goodObject, mayRelease, releasePlan}
 use Rattle.model.specs.Sound.{stateOf}
 use Rattle.model.specs.Runs.{Cell, Book, aged, bookEvent, bookEvents, bookAnswer, takerOf, frees, entered, hits, unmarked}
-use Rattle.laws.specs.Base.{and-left, and-right, in-filter, if-true, if-false, if-cases, in-member, member-in, or-left, or-right, or-cases, bool-cases, not-both}
-use Rattle.laws.specs.Params.{Bounds, blockAt-start, blockAt-within}
-use Rattle.laws.specs.Tables.{Sized, sized-same, kept-lengths, lengths}
+use Rattle.laws.specs.Base.{and-left, and-right, in-filter, if-false, if-cases, member-in, or-left, or-cases, bool-cases, not-both}
+use Rattle.laws.specs.Params.{Bounds, blockAt-within}
+use Rattle.laws.specs.Tables.{Sized, sized-same, kept-lengths}
 use Rattle.laws.specs.Memory as Mem
 use Rattle.laws.specs.Marks.{marked-cleared, length-setMark, length-cleared, bytes-setMark, bytes-cleared, marked-setMark}
-use Rattle.laws.specs.Frame.{LinksOnly, links-refl, links-trans, append-links, remove-links, each-keeps, FirstsBut, append-first, append-empties, append-none, remove-first}
-use Rattle.runs.specs.Inv.{Held, Placed, Core, set-cases, release-core, release-unmarked, in-range}
+use Rattle.laws.specs.Frame.{LinksOnly, links-refl, append-links, remove-links, each-keeps, FirstsBut, link-list, append-first, append-none}
+use Rattle.soundness.specs.Owners.{unswept-numbered, abandon-links, abandon-framed, holder-framed, holder-empties, shared-framed}
+use Rattle.runs.specs.Inv.{Held, Placed, Core, set-cases, release-core, release-unmarked}
 use Rattle.runs.specs.Steps.{shadowEvent, shadowEvents, isTaken, EventOk, EventsOk, no-events, more-events, events-append, heap-append, book-append, shadow-append}
-use Rattle.runs.specs.Search.{Settled, Idle, available-settled, consumed-settled, unswept-unsettled, available-low, unswept-low, consumed-low}
+use Rattle.runs.specs.Search.{Settled, Idle, available-settled, consumed-settled, unswept-unsettled}
 
 -- no refusal has the number 0
 pub refusal-some : (r : Refusal) → eqb (refusalNumber r) 0 ≡ false
@@ -481,14 +482,10 @@ module _ (p : Params) (B : Bounds p) where
   relabel-steady (suc k) l a w sl = λ b s. if-cases (λ (x : Words). Settled (getD (x .list) b 0)) (eqb a 0) (λ e. s)
       (λ e. relabel-steady k l _ _ sl b (set-steady (w .list) (blockAt p a) (listWord l) b sl s))
 
-  link-list : (l o : ℕ) (w : Words) → link p l o w .list ≡ w .list
-  unfolding link setFirst setLast setNext setPrev
-  link-list l o w = if-cases (λ (x : Words). x .list ≡ w .list) (eqb (getD (w .first) l 0) 0) (λ e. refl) (λ e. refl)
-
   append-steady : (l o : ℕ) (w : Words) → Settled (listWord l) → Steady w (append p l o w)
   unfolding Steady append setFirst setLast
   append-steady l o w sl = λ b s. if-cases (λ (x : Words). Settled (getD (x .list) b 0)) (eqb (getD (w .first) o 0) 0) (λ e. s)
-      (λ e. relabel-steady (p .blocks) l (getD (w .first) o 0) (link p l o w) sl b (subst (λ (x : List ℕ). Settled (getD x b 0)) (sym (link-list l o w)) s))
+      (λ e. relabel-steady (p .blocks) l (getD (w .first) o 0) (link p l o w) sl b (subst (λ (x : List ℕ). Settled (getD x b 0)) (sym (link-list p l o w)) s))
 
   pub record Leaving (w w′ : Words) : Type 0 where
     pub links : LinksOnly w w′
@@ -538,143 +535,6 @@ module _ (p : Params) (B : Bounds p) where
 
   -- ---- release and shared release
 
-  -- first words of lists of other owners than the j-th and the k-th (an owner has 147 lists) stay
-  unfoldable pub OwnersBut : ℕ → ℕ → Words → Words → Type 0
-  OwnersBut j k w w′ = (m : ℕ) → m / 147 ≢ j → m / 147 ≢ k → getD (w′ .first) m 0 ≡ getD (w .first) m 0
-
-  module _ (j k : ℕ) (w : Words) where
-    owners-remove : (l b : ℕ) (w′ : Words) → l / 147 ≡ j → OwnersBut j k w w′ → OwnersBut j k w (remove p l b w′)
-    unfolding OwnersBut FirstsBut
-    owners-remove l b w′ e O = λ m f g. let ne : m ≢ l = λ x. f (ap (λ (y : ℕ). y / 147) x ∙ e) in remove-first p l b w′ m ne ne ∙ O m f g
-
-    owners-append : (l o : ℕ) (w′ : Words) → l / 147 ≡ j → o / 147 ≡ k → OwnersBut j k w w′ → OwnersBut j k w (append p l o w′)
-    unfolding OwnersBut FirstsBut
-    owners-append l o w′ e d O = λ m f g.
-        append-first p l o w′ m (λ x. f (ap (λ (y : ℕ). y / 147) x ∙ e)) (λ x. g (ap (λ (y : ℕ). y / 147) x ∙ d)) ∙ O m f g
-
-    owners-clear : (b : ℕ) (w′ : Words) → OwnersBut j k w w′ → OwnersBut j k w (clearBlock b w′)
-    unfolding OwnersBut clearBlock setTls setList setSize setFree setPrev setNext
-    owners-clear b w′ O = O
-
-    owners-from : (n l a : ℕ) (w′ : Words) (st : List ℕ) → l / 147 ≡ j → OwnersBut j k w w′ → OwnersBut j k w (releaseFrom n p l a w′ st .words)
-    unfolding releaseFrom
-    owners-from zero l a w′ st e O = O
-    owners-from (suc n) l a w′ st e O = if-cases (λ (f : Freed). OwnersBut j k w (f .words)) (eqb a 0) (λ t. O)
-        (λ t. if-cases (λ (f : Freed). OwnersBut j k w (f .words)) (eqb (getD st (blockAt p a) 0) 255)
-        (λ u. owners-from n l _ _ _ e (owners-clear (blockAt p a) (remove p l (blockAt p a) w′) (owners-remove l (blockAt p a) w′ e O)))
-        (λ u. owners-from n l _ w′ st e O))
-
-  -- the owner of a list
-  module _ (j bin : ℕ) (low : bin < 49) where
-    pub available-owner : available (3 * j) bin / 147 ≡ j
-    unfolding available listOf
-    available-owner = omega arith
-
-    pub unswept-owner : unswept (3 * j) bin / 147 ≡ j
-    unfolding unswept listOf
-    unswept-owner = omega arith
-
-    pub consumed-owner : consumed (3 * j) bin / 147 ≡ j
-    unfolding consumed listOf
-    consumed-owner = omega arith
-
-  -- a release touches the lists of its owner, the shared one those of abandoned, the merge those of abandoned and in-gc
-  module _ (w : Words) where
-    release-owners : (j k l : ℕ) (f : Freed) → l / 147 ≡ j → OwnersBut j k w (f .words) → OwnersBut j k w (releaseBlocks p l f .words)
-    unfolding releaseBlocks
-    release-owners j k l f e O = owners-from j k w (p .blocks) l (getD (f .words .first) l 0) (f .words) (f .states) e O
-
-    append-owners : (j k l o : ℕ) (f : Freed) → l / 147 ≡ j → o / 147 ≡ k → OwnersBut j k w (f .words) → OwnersBut j k w (appendTo p l o f .words)
-    unfolding appendTo
-    append-owners j k l o f e d O = owners-append j k w l o (f .words) e d O
-
-    holder-owners : (j : ℕ) (f : Freed) → OwnersBut j j w (f .words) → OwnersBut j j w (eachBelow bins (releaseBin p (3 * j)) f .words)
-    unfolding releaseBin
-    holder-owners j f O = each-keeps (λ (g : Freed). OwnersBut j j w (g .words)) bins (releaseBin p (3 * j))
-        (λ bin low g G.
-        let a = available-owner j bin low in let u = unswept-owner j bin low in let c = consumed-owner j bin low in
-        append-owners j j (unswept (3 * j) bin) (consumed (3 * j) bin) _ u c
-        (release-owners j j (consumed (3 * j) bin) _ c
-        (append-owners j j (unswept (3 * j) bin) (available (3 * j) bin) _ u a (release-owners j j (available (3 * j) bin) g a G)))) f O
-
-    shared-owners : (f : Freed) → OwnersBut 8 8 w (f .words) → OwnersBut 8 8 w (eachBelow bins (sweepLaterBin p) f .words)
-    unfolding sweepLaterBin
-    shared-owners f O = each-keeps (λ (g : Freed). OwnersBut 8 8 w (g .words)) bins (sweepLaterBin p)
-        (λ bin low g G.
-        let a = available-owner 8 bin low in let u = unswept-owner 8 bin low in let c = consumed-owner 8 bin low in
-        append-owners 8 8 (unswept abandoned bin) (consumed abandoned bin) _ u c
-        (append-owners 8 8 (unswept abandoned bin) (available abandoned bin) _ u a
-        (release-owners 8 8 (unswept abandoned bin) _ u
-        (release-owners 8 8 (consumed abandoned bin) _ c (release-owners 8 8 (available abandoned bin) g a G))))) f O
-
-    abandon-owners : (i j : ℕ) (w′ : Words) → OwnersBut i j w w′ → OwnersBut i j w (abandonBlocks p (3 * i) (3 * j) w′)
-    unfolding abandonBlocks abandonBin
-    abandon-owners i j w′ O = each-keeps (OwnersBut i j w) bins (abandonBin p (3 * i) (3 * j))
-        (λ bin low x X.
-        owners-append i j w (unswept (3 * i) bin) (unswept (3 * j) bin) _ (unswept-owner i bin low) (unswept-owner j bin low)
-        (owners-append i j w (consumed (3 * i) bin) (consumed (3 * j) bin) _ (consumed-owner i bin low) (consumed-owner j bin low)
-        (owners-append i j w (available (3 * i) bin) (available (3 * j) bin) x (available-owner i bin low) (available-owner j bin low) X))) w′ O
-
-  -- the links alone change
-  abandon-links : (to from : ℕ) (w : Words) → LinksOnly w (abandonBlocks p to from w)
-  unfolding abandonBlocks abandonBin
-  abandon-links to from w = each-keeps (LinksOnly w) bins (abandonBin p to from)
-      (λ bin low x X. append-links p (unswept to bin) (unswept from bin) _
-      (append-links p (consumed to bin) (consumed from bin) _ (append-links p (available to bin) (available from bin) x X))) w (links-refl w)
-
-  -- after a holder's lists went to in-gc, its unswept lists are empty
-  module _ (j : ℕ) (lj : j < 8) where
-    other-bin : (n bin : ℕ) → n < 49 → bin < 49 → bin ≢ n → (w : Words)
-        → getD (abandonBin p inGc (3 * j) n w .first) (unswept (3 * j) bin) 0 ≡ getD (w .first) (unswept (3 * j) bin) 0
-    unfolding abandonBin FirstsBut unswept consumed available listOf
-    other-bin n bin ln lb ne w =
-        append-first p (unswept inGc n) (unswept (3 * j) n) _ (unswept (3 * j) bin) u₁ u₂
-        ∙ append-first p (consumed inGc n) (consumed (3 * j) n) _ (unswept (3 * j) bin) c₁ c₂
-        ∙ append-first p (available inGc n) (available (3 * j) n) w (unswept (3 * j) bin) a₁ a₂
-      where
-        u₁ : unswept (3 * j) bin ≢ unswept inGc n
-        u₁ e = omega (arith, e)
-
-        u₂ : unswept (3 * j) bin ≢ unswept (3 * j) n
-        u₂ e = ne (omega (arith, e))
-
-        c₁ : unswept (3 * j) bin ≢ consumed inGc n
-        c₁ e = omega (arith, e)
-
-        c₂ : unswept (3 * j) bin ≢ consumed (3 * j) n
-        c₂ e = omega (arith, e)
-
-        a₁ : unswept (3 * j) bin ≢ available inGc n
-        a₁ e = omega (arith, e)
-
-        a₂ : unswept (3 * j) bin ≢ available (3 * j) n
-        a₂ e = omega (arith, e)
-
-    own-bin : (n : ℕ) → n < 49 → (w : Words) → Sized (p .blocks) w → getD (abandonBin p inGc (3 * j) n w .first) (unswept (3 * j) n) 0 ≡ 0
-    unfolding abandonBin
-    own-bin n ln w z =
-        let L : LinksOnly w (append p (consumed inGc n) (consumed (3 * j) n) (append p (available inGc n) (available (3 * j) n) w)) =
-        append-links p (consumed inGc n) (consumed (3 * j) n) _ (append-links p (available inGc n) (available (3 * j) n) w (links-refl w)) in
-        append-empties p (unswept inGc n) (unswept (3 * j) n) _ (omega (arith, sized-same (L .lengths) z .first, unswept-low j n (omega arith) ln))
-
-    bins-empty : (n : ℕ) → n ≤ 49 → (w : Words) → Sized (p .blocks) w → (bin : ℕ) → bin < n → getD (eachBelow n (abandonBin p inGc (3 * j)) w .first) (unswept (3 * j) bin) 0 ≡ 0
-    unfolding eachBelow abandonBin
-    bins-empty zero le w z bin lb = absurd (omega arith)
-    bins-empty (suc n) le w z bin lb = go (ℕ-discrete bin n) (bins-empty n (omega arith) w z bin)
-      where
-        W : Words
-        W = eachBelow n (abandonBin p inGc (3 * j)) w
-
-        sized : Sized (p .blocks) W
-        sized = sized-same (each-keeps (LinksOnly w) n (abandonBin p inGc (3 * j)) (λ i li x X. bin-links i x X) w (links-refl w) .lengths) z
-          where
-            bin-links : (i : ℕ) (x : Words) → LinksOnly w x → LinksOnly w (abandonBin p inGc (3 * j) i x)
-            bin-links i x X = append-links p (unswept inGc i) (unswept (3 * j) i) _ (append-links p (consumed inGc i) (consumed (3 * j) i) _ (append-links p (available inGc i) (available (3 * j) i) x X))
-
-        go : Dec (bin ≡ n) → (bin < n → getD (W .first) (unswept (3 * j) bin) 0 ≡ 0) → getD (abandonBin p inGc (3 * j) n W .first) (unswept (3 * j) bin) 0 ≡ 0
-        go (yes e) ih = subst (λ (x : ℕ). getD (abandonBin p inGc (3 * j) n W .first) (unswept (3 * j) x) 0 ≡ 0) (sym e) (own-bin n (omega arith) W sized)
-        go (no f) ih = other-bin n bin (omega arith) (omega arith) f W ∙ ih (omega arith)
-
   -- ---- a part has released
 
   pub record Ended (w w′ : Words) : Type 0 where
@@ -684,7 +544,7 @@ module _ (p : Params) (B : Bounds p) where
     pub idle : Idle w′
 
   part-ended : (part : ℕ) (w : Words) → Sized (p .blocks) w → Idle w → Ended w (partReleased p part w)
-  unfolding partReleased setPhase setReleased withReleased OwnersBut
+  unfolding partReleased setPhase setReleased withReleased
   part-ended part w z idle = if-cases (Ended w) (allReleased w₁) (λ e. last) (λ e. more)
     where
       w₁ : Words
@@ -695,17 +555,15 @@ module _ (p : Params) (B : Bounds p) where
 
       last : Ended w (setPhase 0 (withReleased (replicate 9 0) (abandonBlocks p abandoned inGc w₁)))
       last =
-          let L : LinksOnly w₁ (abandonBlocks p abandoned inGc w₁) = abandon-links abandoned inGc w₁ in
+          let L : LinksOnly w₁ (abandonBlocks p abandoned inGc w₁) = abandon-links p abandoned inGc w₁ in
           let Z : Sized (p .blocks) (abandonBlocks p abandoned inGc w₁) = sized-same (L .lengths) (more .sized) in
           record {
             free = L .free;
             size = L .size;
             sized = record { first = Z .first; last = Z .last; bound = Z .bound; released = refl; next = Z .next; prev = Z .prev; free = Z .free; size = Z .size; list = Z .list; tls = Z .tls };
             idle = λ j n lj ln.
-                abandon-owners w₁ 8 9 w₁ (λ m f g. refl) (unswept (3 * j) n)
-                (λ e. absurd (omega (arith, lj, sym (unswept-owner j n ln) ∙ e)))
-                (λ e. absurd (omega (arith, lj, sym (unswept-owner j n ln) ∙ e)))
-                ∙ idle j n lj ln;
+                let o : unswept (3 * j) n / 147 ≡ j = unswept-numbered j n (omega arith) ln .owner in
+                abandon-framed p 9 8 (omega arith) (omega arith) w₁ .first (unswept (3 * j) n) (omega arith) (omega arith) ∙ idle j n lj ln;
           }
 
   module _ (t : Tables) (h : List ℕ) (sh : List (List ℕ)) (bk : Book) (I : Inv t h sh bk)
@@ -740,7 +598,7 @@ module _ (p : Params) (B : Bounds p) where
         }
 
     pub release-planned : (d : ℕ) → 1 ≤ d → d ≤ 8 → Planned t h sh bk (release d) (releasePlan p d t (releaseHolder p d (t .words) (t .states)))
-    unfolding EndOk Serves bookAnswer releaseHolder OwnersBut localSets abandonBlocks
+    unfolding EndOk Serves bookAnswer releaseHolder localSets
     release-planned d lo hi =
         part-planned (release d) d (releaseHolder p d (t .words) (t .states)) refl
         (record {
@@ -759,29 +617,22 @@ module _ (p : Params) (B : Bounds p) where
         F = holder-freeing (takerOf (release d)) (t .marks) h sh bk (localSets d) _ (nothing-freed (takerOf (release d)) (t .marks) (t .words) (t .states) h sh bk (I .core) (I .sized) all-old)
 
         L : LinksOnly (f .words) (abandonBlocks p inGc (localSets d) (f .words))
-        L = abandon-links inGc (localSets d) (f .words)
+        L = abandon-links p inGc (localSets d) (f .words)
 
+        -- the holder's own lists are empty now, those of others stay
         idle-of : (j n : ℕ) → j < 8 → n < 49 → Dec (j ≡ d - 1) → getD (abandonBlocks p inGc (3 * (d - 1)) (f .words) .first) (unswept (3 * j) n) 0 ≡ 0
         idle-of j n lj ln (yes e) =
-            subst (λ (x : ℕ). getD (abandonBlocks p inGc (3 * (d - 1)) (f .words) .first) (unswept (3 * x) n) 0 ≡ 0) (sym e)
-            (bins-empty (d - 1) (omega arith) bins (omega arith) (f .words) (F .sized) n ln)
+            holder-empties p (t .words) (t .states) d lo hi (I .sized) (unswept (3 * j) n) (unswept-numbered j n (omega arith) ln .owner ∙ e)
         idle-of j n lj ln (no f′) =
-            abandon-owners (f .words) 9 (d - 1) (f .words) (λ m x y. refl) (unswept (3 * j) n)
-            (λ e. absurd (omega (arith, lj, sym (unswept-owner j n ln) ∙ e)))
-            (λ e. f′ (sym (unswept-owner j n ln) ∙ e))
-            ∙ holder-owners (t .words) (d - 1) (freed (t .words) (t .states)) (λ m x y. refl) (unswept (3 * j) n)
-            (λ e. f′ (sym (unswept-owner j n ln) ∙ e))
-            (λ e. f′ (sym (unswept-owner j n ln) ∙ e))
-            ∙ I .idle j n lj ln
+            let o : unswept (3 * j) n / 147 ≡ j = unswept-numbered j n (omega arith) ln .owner in
+            holder-framed p (t .words) (t .states) d lo hi .first (unswept (3 * j) n) (λ e. f′ (sym o ∙ e)) (omega arith) ∙ I .idle j n lj ln
 
     pub shared-planned : Planned t h sh bk sharedRelease (releasePlan p 0 t (sweepLater p (t .words) (t .states)))
-    unfolding EndOk Serves bookAnswer sweepLater OwnersBut
+    unfolding EndOk Serves bookAnswer sweepLater
     shared-planned =
         part-planned sharedRelease 0 (sweepLater p (t .words) (t .states)) refl
         (shared-freeing (takerOf sharedRelease) (t .marks) h sh bk _ (nothing-freed (takerOf sharedRelease) (t .marks) (t .words) (t .states) h sh bk (I .core) (I .sized) all-old))
         (λ j n lj ln.
-        shared-owners (t .words) (freed (t .words) (t .states)) (λ m f g. refl) (unswept (3 * j) n)
-        (λ e. absurd (omega (arith, lj, sym (unswept-owner j n ln) ∙ e)))
-        (λ e. absurd (omega (arith, lj, sym (unswept-owner j n ln) ∙ e)))
-        ∙ I .idle j n lj ln)
+        let o : unswept (3 * j) n / 147 ≡ j = unswept-numbered j n (omega arith) ln .owner in
+        shared-framed p (t .words) (t .states) .first (unswept (3 * j) n) (omega arith) (omega arith) ∙ I .idle j n lj ln)
         (λ w e. tt)

@@ -1,15 +1,15 @@
 -- The search of an alloc keeps the invariant, and what it finds is a block with a free cell that waits for no sweep.
 use mathlib.Core.Path.{_≡_, refl, sym, ap, _∙_, subst}
-use mathlib.Core.Logic.{_≢_, _⊎_, inl, inr, ⊎-elim}
-use mathlib.Core.Bool.{Bool, true, false, not, _&&_}
-use mathlib.Core.List.{List, [], _∷_, _++_}
-use Prim.Native.Nat.{ℕ, zero, suc, _+_, _-_, _*_, _/_, _%_, _≤_, _<_}
+use mathlib.Core.Logic.{_≢_, _⊎_, inl, inr}
+use mathlib.Core.Bool.{Bool, true, false, _&&_}
+use mathlib.Core.List.{List}
+use Prim.Native.Nat.{ℕ, zero, suc, _-_, _*_, _/_, _%_, _≤_, _<_}
 use native.Mathlib.Omega.{arith}
 use native.Mathlib.Decide.{ℕ-discrete}
 use lib.Dec.{eqb}
-use lib.ListN.{length, getD, set}
-use lib.Seq.{getD-set-same, getD-set-other}
-use borrow.Author.Tests.{eqb-true, eqb-false, eq-eqb, ne-eqb}
+use lib.ListN.{getD, set}
+use lib.Seq.{getD-set-other}
+use borrow.Author.Tests.{eqb-true, eq-eqb, ne-eqb}
 use Rattle.model.specs.declared.Params.{Params}
 use Rattle.model.specs.Base.{if_then_else_, In}
 use Rattle.model.specs.Params.{start, blockAt, listWord, listOf, available, unswept, consumed, localSets, abandoned}
@@ -17,15 +17,16 @@ use Rattle.model.specs.Tables.{Words, setFree, setTls}
 use Rattle.model.specs.SizeClasses.{cellBytes}
 use Rattle.model.specs.BlockList.{Popped, popped, push, pop}
 use Rattle.model.specs.Block.{linkAll, sweepChain, sweptWords}
-use Rattle.model.specs.Events.{Event, swept, eventHeap, eventsHeap}
+use Rattle.model.specs.Events.{eventHeap, eventsHeap}
 use Rattle.model.specs.FreeListAllocator.{findFreeBlockWith, Found, found, after, sweepOf, acquireAbandoned}
 use Rattle.model.specs.Runs.{Cell, Book, bookEvent, bookEvents, frees, entered, hits, unmarked}
 use Rattle.laws.specs.Base.{and-left}
 use Rattle.laws.specs.Tables.{Sized, sized-same, kept-lengths}
-use Rattle.laws.specs.Params.{Bounds, blockAt-start}
+use Rattle.laws.specs.Params.{Bounds, some-start, blockAt-start}
 use Rattle.laws.specs.Frame.{LinksOnly, links-refl, push-links, pop-links, FirstsBut, pop-firsts, push-first}
-use Rattle.runs.specs.Links.{Occupied, Link, Linked, Loose, some-start, Popping, Pop, Empty, pop-cases, Pushed, push-pushed}
-use Rattle.runs.specs.Inv.{Held, Core, was-held, sweep-core, sweep-bytes, sweep-frees}
+use Rattle.soundness.specs.Owners.{available-numbered, unswept-numbered, consumed-numbered}
+use Rattle.runs.specs.Links.{Occupied, Linked, Loose, linked-same, loose-same, Pop, Empty, pop-cases, Pushed, push-pushed}
+use Rattle.runs.specs.Inv.{Core, was-held, sweep-core, sweep-bytes, sweep-frees}
 use Rattle.runs.specs.Steps.{shadowEvent, shadowEvents, isTaken, EventOk, EventsOk, no-events, more-events, same-bytes}
 
 -- ---- list words
@@ -40,18 +41,6 @@ wordBin word = (word - 1) % 49
 
 -- the lists of the owner whose first set is 3j
 module _ (j bin : ℕ) (few : j ≤ 9) (low : bin < 49) where
-  pub available-low : available (3 * j) bin < 1470
-  unfolding available listOf
-  available-low = omega arith
-
-  pub unswept-low : unswept (3 * j) bin < 1470
-  unfolding unswept listOf
-  unswept-low = omega arith
-
-  pub consumed-low : consumed (3 * j) bin < 1470
-  unfolding consumed listOf
-  consumed-low = omega arith
-
   pub available-settled : Settled (listWord (available (3 * j) bin))
   unfolding Settled available listOf listWord
   available-settled e = omega (arith, e)
@@ -120,7 +109,7 @@ module _ (p : Params) (B : Bounds p) (st ms : List ℕ) (hd : ℕ) where
           class = λ d od. rw (L .size) (S .class d od ∙ ap (λ (x : ℕ). cellBytes p (wordBin x)) (sym (P .popping .lists d)));
           phase = L .phase ∙ S .phase;
           idle = λ j n lj ln.
-              let ne : unswept (3 * j) n ≢ l = λ e. some-start p st B b (P .popping .occupied .0) (sym (P .first) ∙ ap (λ (x : ℕ). getD (w .first) x 0) (sym e) ∙ S .idle j n lj ln) in
+              let ne : unswept (3 * j) n ≢ l = λ e. some-start p B b (P .popping .occupied .0) (sym (P .first) ∙ ap (λ (x : ℕ). getD (w .first) x 0) (sym e) ∙ S .idle j n lj ln) in
               subst (λ (x : Popped). FirstsBut l l w (x .words)) (P .is) (pop-firsts p l w) (unswept (3 * j) n) ne ne ∙ S .idle j n lj ln;
         }
 
@@ -129,9 +118,6 @@ module _ (p : Params) (B : Bounds p) (st ms : List ℕ) (hd : ℕ) where
         let L : LinksOnly w (P .words) = subst (λ (x : Popped). LinksOnly w (x .words)) (P .is) (pop-links p l w (links-refl w)) in
         ap (λ (x : List ℕ). getD x b 0) (L .size) ∙ S .class b (P .popping .occupied)
         ∙ ap (λ (x : ℕ). cellBytes p (wordBin x)) (P .popping .word) ∙ ap (cellBytes p) e
-
-    pub popped-free : (l b : ℕ) (P : Pop p st B w (S .lengths) (S .linked) l b) → P .words .free ≡ w .free
-    popped-free l b P = subst (λ (x : Popped). LinksOnly w (x .words)) (P .is) (pop-links p l w (links-refl w)) .free
 
     -- a block is pushed, to which no link leads
     module _ (b c : ℕ) (ob : Occupied p st b) (loose : Loose p st w b) (low : c < 1470) (set : Settled (listWord c))
@@ -187,7 +173,7 @@ module _ (p : Params) (B : Bounds p) (st ms : List ℕ) (hd : ℕ) where
     unfolding setTls
     tls-searching b v =
         record {
-          linked = record { firsts = S .linked .firsts; nexts = S .linked .nexts };
+          linked = linked-same p st _ refl (S .linked);
           lengths = sized-same (simp kept-lengths) (S .lengths);
           core = S .core;
           young = S .young;
@@ -207,7 +193,7 @@ module _ (p : Params) (B : Bounds p) (st ms : List ℕ) (hd : ℕ) where
       unfolding sweptWords setFree eventHeap shadowEvent entered
       swept-searching =
           record {
-            linked = record { firsts = S .linked .firsts; nexts = S .linked .nexts };
+            linked = linked-same p st _ refl (S .linked);
             lengths = sized-same (simp kept-lengths) (S .lengths);
             core = sweep-core p B (w .free) (w .size) st ms h sh bk (S .core) b (ob .0) chain (ob .1) (S .wide b ob) refl hd;
             young = λ c m o. S .young c (was-held p B (w .free) (w .size) st ms h sh bk (S .core) b (ob .0) chain hd (sweepOf p ms b w) (λ cs. refl) c m .0) o;
@@ -253,7 +239,7 @@ module _ (p : Params) (B : Bounds p) (st ms : List ℕ) (hd : ℕ) where
         go (inr z) ih =
             rw (
               z .1 .first,
-              ne-eqb (start p (z .0)) 0 (some-start p st B (z .0) (z .1 .popping .occupied .0)),
+              ne-eqb (start p (z .0)) 0 (some-start p B (z .0) (z .1 .popping .occupied .0)),
               blockAt-start p B (z .0) (z .1 .popping .occupied .0),
               z .1 .is,
             )
@@ -310,10 +296,10 @@ module _ (p : Params) (B : Bounds p) (st ms : List ℕ) (hd : ℕ) where
     co = consumed (localSets hd) bin
 
     av-low : available (localSets hd) bin < 1470
-    av-low = rw own (available-low j bin few low)
+    av-low = rw own (available-numbered j bin (omega arith) low .low)
 
     co-low : consumed (localSets hd) bin < 1470
-    co-low = rw own (consumed-low j bin few low)
+    co-low = rw own (consumed-numbered j bin (omega arith) low .low)
 
     av-settled : Settled (listWord (available (localSets hd) bin))
     av-settled = rw own (available-settled j bin few low)
@@ -365,7 +351,7 @@ module _ (p : Params) (B : Bounds p) (st ms : List ℕ) (hd : ℕ) where
 
     tls-loose : (w : Words) (b v c : ℕ) → Loose p st w c → Loose p st (setTls b v w) c
     unfolding setTls
-    tls-loose w b v c L = record { firsts = L .firsts; nexts = L .nexts }
+    tls-loose w b v c L = loose-same p st _ refl L
 
     tls-size : (w : Words) (b v c : ℕ) → getD (setTls b v w .size) c 0 ≡ getD (w .size) c 0
     unfolding setTls
@@ -377,7 +363,7 @@ module _ (p : Params) (B : Bounds p) (st ms : List ℕ) (hd : ℕ) where
 
     swept-loose : (w : Words) (b c : ℕ) → Loose p st w c → Loose p st (sweptWords p ms b w) c
     unfolding sweptWords setFree
-    swept-loose w b c L = record { firsts = L .firsts; nexts = L .nexts }
+    swept-loose w b c L = loose-same p st _ refl L
 
     -- an available block of abandoned
     module _ (k : ℕ) (ih : Round k) (w : Words) (h : List ℕ) (sh : List (List ℕ)) (bk : Book) (S : Searching w h sh bk) where
@@ -423,20 +409,20 @@ module _ (p : Params) (B : Bounds p) (st ms : List ℕ) (hd : ℕ) where
 
       next-round : Acquired bin h sh bk (acquireAbandoned (suc k) p ms hd bin w)
       unfolding acquireAbandoned
-      next-round = go (pop-cases p st B w (S .lengths) (S .linked) (available abandoned bin) (available-low 8 bin (omega arith) low))
+      next-round = go (pop-cases p st B w (S .lengths) (S .linked) (available abandoned bin) (available-numbered 8 bin (omega arith) low .low))
         where
           go : Empty p st B w (S .lengths) (S .linked) (available abandoned bin) ⊎ ((b : ℕ) × Pop p st B w (S .lengths) (S .linked) (available abandoned bin) b)
               → Acquired bin h sh bk (acquireAbandoned (suc k) p ms hd bin w)
           go (inr z) =
-              rw (z .1 .is, ne-eqb (start p (z .0)) 0 (some-start p st B (z .0) (z .1 .popping .occupied .0)), blockAt-start p B (z .0) (z .1 .popping .occupied .0))
+              rw (z .1 .is, ne-eqb (start p (z .0)) 0 (some-start p B (z .0) (z .1 .popping .occupied .0)), blockAt-start p B (z .0) (z .1 .popping .occupied .0))
               (take-available (z .0) (z .1))
-          go (inl E) = rw (E .is) (unsw (pop-cases p st B w (S .lengths) (S .linked) (unswept abandoned bin) (unswept-low 8 bin (omega arith) low)))
+          go (inl E) = rw (E .is) (unsw (pop-cases p st B w (S .lengths) (S .linked) (unswept abandoned bin) (unswept-numbered 8 bin (omega arith) low .low)))
             where
               unsw : Empty p st B w (S .lengths) (S .linked) (unswept abandoned bin) ⊎ ((b : ℕ) × Pop p st B w (S .lengths) (S .linked) (unswept abandoned bin) b)
                   → Acquired bin h sh bk (unsweptPart k (pop p (unswept abandoned bin) w))
               unsw (inl F) = rw (F .is) (plain bin 0 w h sh bk S (inl refl))
               unsw (inr z) =
-                  rw (z .1 .is, ne-eqb (start p (z .0)) 0 (some-start p st B (z .0) (z .1 .popping .occupied .0)), blockAt-start p B (z .0) (z .1 .popping .occupied .0))
+                  rw (z .1 .is, ne-eqb (start p (z .0)) 0 (some-start p B (z .0) (z .1 .popping .occupied .0)), blockAt-start p B (z .0) (z .1 .popping .occupied .0))
                   (take-unswept (z .0) (z .1))
 
     pub acquire : (k : ℕ) (w : Words) (h : List ℕ) (sh : List (List ℕ)) (bk : Book) → Searching w h sh bk → Acquired bin h sh bk (acquireAbandoned k p ms hd bin w)

@@ -1,22 +1,21 @@
 -- A row of events keeps the invariant: the shadow after events, and what is shown of them in order.
-use mathlib.Core.Path.{_≡_, refl, sym, ap, _∙_, subst}
-use mathlib.Core.Logic.{_≢_, _⊎_, inl, inr, ⊎-elim}
-use mathlib.Core.Bool.{Bool, true, false, not, _&&_, _||_}
+use mathlib.Core.Path.{_≡_, refl, sym, ap, _∙_}
+use mathlib.Core.Logic.{inl, inr}
+use mathlib.Core.Bool.{Bool, true, false, not, _&&_}
 use mathlib.Core.List.{List, [], _∷_, _++_}
-use Prim.Native.Nat.{ℕ, _+_, _-_, _≤_, _<_}
+use Prim.Native.Nat.{ℕ, _-_}
 use native.Mathlib.Omega.{arith}
-use lib.ListN.{length, getD, set}
-use borrow.Author.Tests.{not-true, not-false}
+use lib.ListN.{set}
+use borrow.Author.Tests.{not-true}
 use Rattle.model.specs.declared.Params.{Params}
-use Rattle.model.specs.Base.{if_then_else_, In, any, filter}
-use Rattle.model.specs.Params.{blockAt}
+use Rattle.model.specs.Base.{In, any}
 use Rattle.model.specs.Events.{Event, initialised, swept, released, taken, eventHeap, eventsHeap}
 use Rattle.model.specs.Runs.{Cell, Book, frees, entered, bookEvent, bookEvents, unmarked, covers, staysHeld, Unchanged, byteAt, hits, LostExactly}
 use Rattle.laws.specs.Base.{filter-in, or-none-left, or-none-right, not-both}
 use Rattle.laws.specs.Params.{Bounds}
 use Rattle.laws.specs.Memory as Mem
 use Rattle.laws.specs.Cells.{whole-from}
-use Rattle.runs.specs.Inv.{Held, Core}
+use Rattle.runs.specs.Inv.{Held}
 
 -- ---- the shadow
 

@@ -9,22 +9,19 @@ use native.Mathlib.Omega.{arith}
 use native.Mathlib.Decide.{ℕ-discrete}
 use lib.Dec.{eqb, leb}
 use lib.ListN.{length, getD, set, replicate}
-use lib.Seq.{getD-set-same, getD-set-other}
 use borrow.Author.Tests.{eqb-true, eqb-false, eq-eqb, leb-true, le-leb, not-true}
 use Rattle.model.specs.declared.Params.{Params}
-use Rattle.model.specs.Base.{allBelow, anyBelow, eachBelow}
-use Rattle.model.specs.Params.{listOf, localSets, abandoned, inGc, available, unswept, consumed, lists, bins}
+use Rattle.model.specs.Base.{allBelow, anyBelow}
+use Rattle.model.specs.Params.{listOf, localSets, abandoned, inGc, lists}
 use Rattle.model.specs.Tables.{Words, Tables, setBound, setReleased, setPhase, withReleased}
-use Rattle.model.specs.BlockList.{append}
-use Rattle.model.specs.Global.{isHolder, isBound, hasReleased, allReleased, abandonBin, abandonBlocks, partReleased}
-use Rattle.model.specs.Calls.{mayRelease}
+use Rattle.model.specs.Global.{isHolder, isBound, hasReleased, allReleased, abandonBlocks, partReleased}
 use Rattle.model.specs.Sound.{blockSound, linked, ownerEmpty, unboundEmpty, inGcEmpty, phaseKnown, flagsKnown, releasedFew, releasedSome, releasedEmpty, sound}
 use Rattle.laws.specs.Base.{and-left, and-right, or-cases, or-left, or-right, bool-cases, not-both, if-cases, all-below, below-all, below-any}
-use Rattle.laws.specs.Below.{and-both, anyBelow-at}
-use Rattle.laws.specs.Params.{Bounds}
+use Rattle.laws.specs.Below.{and-both, and-seven, anyBelow-at}
+use Rattle.laws.specs.Stores.{set-at, set-off, set-all, set-keeps}
 use Rattle.laws.specs.Memory.{getD-zeros}
 use Rattle.laws.specs.Tables.{Sized, sized-same, kept-lengths}
-use Rattle.laws.specs.Frame.{LinksOnly, links-refl, append-links, each-keeps, FirstsBut, append-first, append-empties}
+use Rattle.soundness.specs.Owners.{Framed, abandon-framed, abandon-empties}
 
 -- ---- the tests of sound tables that go by firsts, phase, bound holders and released marks
 
@@ -41,48 +38,18 @@ pub record Flags (w : Words) : Type 0 where
 pub sound-flags : (p : Params) (t : Tables) → sound p t ≡ true → Flags (t .words)
 unfolding sound
 sound-flags p t s =
+    let w : Words = t .words in
+    let h = and-seven (allBelow (p .blocks) (blockSound p t)) (allBelow lists (linked p t)) (unboundEmpty w) (inGcEmpty w)
+    (phaseKnown w && flagsKnown w) (releasedFew w && releasedSome w) (releasedEmpty w) s in
     record {
-      unbound = and-right (a && b) c abc;
-      in-gc = and-right (a && b && c) d abcd;
-      phase = and-left (phaseKnown (t .words)) (flagsKnown (t .words)) (and-right (a && b && c && d) e abcde);
-      flags = and-right (phaseKnown (t .words)) (flagsKnown (t .words)) (and-right (a && b && c && d) e abcde);
-      few = and-left (releasedFew (t .words)) (releasedSome (t .words)) (and-right (a && b && c && d && e) f abcdef);
-      some = and-right (releasedFew (t .words)) (releasedSome (t .words)) (and-right (a && b && c && d && e) f abcdef);
-      empty = and-right (a && b && c && d && e && f) g s;
+      unbound = h .2;
+      in-gc = h .3;
+      phase = and-left (phaseKnown w) (flagsKnown w) (h .4);
+      flags = and-right (phaseKnown w) (flagsKnown w) (h .4);
+      few = and-left (releasedFew w) (releasedSome w) (h .5);
+      some = and-right (releasedFew w) (releasedSome w) (h .5);
+      empty = h .6;
     }
-  where
-    a : Bool
-    a = allBelow (p .blocks) (blockSound p t)
-
-    b : Bool
-    b = allBelow lists (linked p t)
-
-    c : Bool
-    c = unboundEmpty (t .words)
-
-    d : Bool
-    d = inGcEmpty (t .words)
-
-    e : Bool
-    e = phaseKnown (t .words) && flagsKnown (t .words)
-
-    f : Bool
-    f = releasedFew (t .words) && releasedSome (t .words)
-
-    g : Bool
-    g = releasedEmpty (t .words)
-
-    abcdef : (a && b && c && d && e && f) ≡ true
-    abcdef = and-left (a && b && c && d && e && f) g s
-
-    abcde : (a && b && c && d && e) ≡ true
-    abcde = and-left (a && b && c && d && e) f abcdef
-
-    abcd : (a && b && c && d) ≡ true
-    abcd = and-left (a && b && c && d) e abcde
-
-    abc : (a && b && c) ≡ true
-    abc = and-left (a && b && c) d abcd
 
 -- ---- empty owners
 
@@ -295,11 +262,7 @@ quiet-flags w w′ F run same low known unbound in-gc =
 
 -- a word of a list after a store of v, which is 0 or 1
 set-known : (l : List ℕ) (j v i : ℕ) → v ≤ 1 → getD l i 0 ≤ 1 → j < length l → getD (set l j v) i 0 ≤ 1
-set-known l j v i lv li lj = go (ℕ-discrete i j)
-  where
-    go : Dec (i ≡ j) → getD (set l j v) i 0 ≤ 1
-    go (yes e) = rw (e, getD-set-same l j v 0 lj) lv
-    go (no ne) = rw (getD-set-other l j i v 0 ne) li
+set-known l j v i lv li lj = set-all l j v (λ x. x ≤ 1) i lj (λ y. lv) (λ n. li)
 
 -- bind
 pub bind-flags : {n : ℕ} (w : Words) (h : ℕ) → Sized n w → Flags w → w .phase ≡ 0 → isHolder h ≡ true → Flags (setBound (h - 1) 1 w)
@@ -307,7 +270,7 @@ unfolding setBound Empty
 bind-flags w h z G run is =
     quiet-flags w (setBound (h - 1) 1 w) F run refl (omega arith)
     (λ i l. set-known (w .bound) (h - 1) 1 i (omega arith) (F .bound i l) low)
-    (λ i l ne. F .unbound i l (λ e. ne (still i e (ℕ-discrete i (h - 1)))))
+    (λ i l ne. F .unbound i l (λ e. ne (set-keeps (w .bound) (h - 1) 1 i 1 refl e low)))
     (F .in-gc (omega arith))
   where
     F : FlagFacts w
@@ -315,10 +278,6 @@ bind-flags w h z G run is =
 
     low : h - 1 < length (w .bound)
     low = omega (arith, z .bound, holder-low h is, holder-high h is)
-
-    still : (i : ℕ) → getD (w .bound) i 0 ≡ 1 → Dec (i ≡ h - 1) → getD (set (w .bound) (h - 1) 1) i 0 ≡ 1
-    still i e (yes q) = rw (q, getD-set-same (w .bound) (h - 1) 1 0 low)
-    still i e (no ne) = getD-set-other (w .bound) (h - 1) i 1 0 ne ∙ e
 
 -- prepare
 pub prepare-flags : (w : Words) → Flags w → w .phase ≡ 0 → Flags (setPhase 1 w)
@@ -328,19 +287,13 @@ prepare-flags w G run =
     quiet-flags w (setPhase 1 w) F run refl (omega arith) (F .bound) (F .unbound) (F .in-gc (omega arith))
 
 -- alloc: only lists of a bound holder and abandoned ones change
-pub same-flags :
-    (w w′ : Words) → Flags w → w .phase ≡ 0 → w′ .phase ≡ w .phase → w′ .bound ≡ w .bound → w′ .released ≡ w .released
-    → (h : ℕ) → isBound w h ≡ true
-    → ((l : ℕ) → l < 1470 → l / 147 ≢ h - 1 → l / 147 ≢ 8 → getD (w′ .first) l 0 ≡ getD (w .first) l 0)
-    → Flags w′
+pub same-flags : (w w′ : Words) → Flags w → w .phase ≡ 0 → (h : ℕ) → isBound w h ≡ true → Framed (h - 1) 8 w w′ → Flags w′
 unfolding Empty
-same-flags w w′ G run phase bound released h is same =
-    quiet-flags w w′ F run released (omega arith)
-    (λ i l. rw bound (F .bound i l))
-    (λ i l ne. λ m e.
-    same m (omega arith) (λ q. absurd (ne (ap (λ (x : List ℕ). getD x i 0) bound ∙ ap (getD′ (w .bound)) (sym e ∙ q) ∙ B .is))) (omega arith)
-    ∙ F .unbound i l (λ q. ne (ap (λ (x : List ℕ). getD x i 0) bound ∙ q)) m e)
-    (λ m e. same m (omega arith) (omega (arith, B .high, B .low)) (omega arith) ∙ F .in-gc (omega arith) m e)
+same-flags w w′ G run h is R =
+    quiet-flags w w′ F run (R .released) (omega (arith, R .phase))
+    (λ i l. rw (R .bound) (F .bound i l))
+    (λ i l ne. still i l (rw (R .bound) at ne))
+    (λ m e. R .first m (omega (arith, B .high, B .low)) (omega arith) ∙ F .in-gc (omega arith) m e)
   where
     F : FlagFacts w
     F = flag-facts w G
@@ -348,159 +301,20 @@ same-flags w w′ G run phase bound released h is same =
     B : BoundAt w h
     B = bound-at w h is
 
-    getD′ : List ℕ → ℕ → ℕ
-    getD′ l i = getD l i 0
+    still : (i : ℕ) → i < 8 → getD (w .bound) i 0 ≢ 1 → (m : ℕ) → m / 147 ≡ i → getD (w′ .first) m 0 ≡ 0
+    still i l ne m e =
+        R .first m (λ q. ne (ap (λ (x : ℕ). getD (w .bound) x 0) (sym e ∙ q) ∙ B .is)) (omega arith) ∙ F .unbound i l ne m e
 
--- ---- an owner's lists put behind another's
-
--- the owner of a list
-module _ (j bin : ℕ) (low : bin < 49) where
-  available-owner : available (3 * j) bin / 147 ≡ j
-  unfolding available listOf
-  available-owner = omega arith
-
-  unswept-owner : unswept (3 * j) bin / 147 ≡ j
-  unfolding unswept listOf
-  unswept-owner = omega arith
-
-  consumed-owner : consumed (3 * j) bin / 147 ≡ j
-  unfolding consumed listOf
-  consumed-owner = omega arith
-
--- a list of an owner that is neither available nor consumed is unswept
-third-list : (j bin m : ℕ) → m / 147 ≡ j → m % 49 ≡ bin → m ≢ available (3 * j) bin → m ≢ consumed (3 * j) bin → m ≡ unswept (3 * j) bin
-unfolding available consumed unswept listOf
-third-list j bin m em e na nc = omega (arith, na, nc)
-
--- the links alone change
-pub abandon-links : (p : Params) (to from : ℕ) (w : Words) → LinksOnly w (abandonBlocks p to from w)
-unfolding abandonBlocks abandonBin
-abandon-links p to from w = each-keeps (LinksOnly w) bins (abandonBin p to from)
-    (λ bin low x X. append-links p (unswept to bin) (unswept from bin) _
-    (append-links p (consumed to bin) (consumed from bin) _ (append-links p (available to bin) (available from bin) x X))) w (links-refl w)
-
-module _ (p : Params) (i j : ℕ) where
-  -- firsts of lists of other owners than the i-th and the j-th stay
-  OwnersBut : Words → Words → Type 0
-  OwnersBut w w′ = (l : ℕ) → l / 147 ≢ i → l / 147 ≢ j → getD (w′ .first) l 0 ≡ getD (w .first) l 0
-
-  others-append : (w : Words) (a o : ℕ) (w′ : Words) → a / 147 ≡ i → o / 147 ≡ j → OwnersBut w w′ → OwnersBut w (append p a o w′)
-  unfolding OwnersBut FirstsBut
-  others-append w a o w′ ea eo O = λ l f g.
-      append-first p a o w′ l (λ x. f (ap (λ (y : ℕ). y / 147) x ∙ ea)) (λ x. g (ap (λ (y : ℕ). y / 147) x ∙ eo)) ∙ O l f g
-
-  others-bin : (w : Words) (bin : ℕ) → bin < 49 → (x : Words) → OwnersBut w x → OwnersBut w (abandonBin p (3 * i) (3 * j) bin x)
-  unfolding abandonBin
-  others-bin w bin low x X =
-      others-append w (unswept (3 * i) bin) (unswept (3 * j) bin) _ (unswept-owner i bin low) (unswept-owner j bin low)
-      (others-append w (consumed (3 * i) bin) (consumed (3 * j) bin) _ (consumed-owner i bin low) (consumed-owner j bin low)
-      (others-append w (available (3 * i) bin) (available (3 * j) bin) x (available-owner i bin low) (available-owner j bin low) X))
-
-  others-all : (w : Words) → OwnersBut w (abandonBlocks p (3 * i) (3 * j) w)
-  unfolding abandonBlocks OwnersBut
-  others-all w = each-keeps (OwnersBut w) bins (abandonBin p (3 * i) (3 * j)) (others-bin w) w (λ l f g. refl)
-
-  module _ (ne : i ≢ j) where
-    -- a list m of the j-th owner is empty if it was, or if it was appended to one of the i-th
-    append-zero :
-        (a o m : ℕ) (w : Words) → a / 147 ≡ i → m / 147 ≡ j → m < length (w .first)
-        → (m ≡ o) ⊎ (getD (w .first) m 0 ≡ 0) → getD (append p a o w .first) m 0 ≡ 0
-    unfolding FirstsBut
-    append-zero a o m w ea em low c = go (ℕ-discrete m o) c
-      where
-        go : Dec (m ≡ o) → (m ≡ o) ⊎ (getD (w .first) m 0 ≡ 0) → getD (append p a o w .first) m 0 ≡ 0
-        go (yes e) c = rw e (append-empties p a o w (rw e at low))
-        go (no f) (inl e) = absurd (f e)
-        go (no f) (inr z) = append-first p a o w m (λ e. ne (sym ea ∙ ap (λ (y : ℕ). y / 147) (sym e) ∙ em)) f ∙ z
-
-    -- so after one bin if it is a list of this bin
-    bin-zero :
-        (bin m : ℕ) (w : Words) → bin < 49 → Sized (p .blocks) w → m / 147 ≡ j → m < 1470
-        → (m % 49 ≡ bin) ⊎ (getD (w .first) m 0 ≡ 0) → getD (abandonBin p (3 * i) (3 * j) bin w .first) m 0 ≡ 0
-    unfolding abandonBin
-    bin-zero bin m w lb z em lm c = go c
-      where
-        W₁ : Words
-        W₁ = append p (available (3 * i) bin) (available (3 * j) bin) w
-
-        W₂ : Words
-        W₂ = append p (consumed (3 * i) bin) (consumed (3 * j) bin) W₁
-
-        L₁ : LinksOnly w W₁
-        L₁ = append-links p (available (3 * i) bin) (available (3 * j) bin) w (links-refl w)
-
-        z₁ : Sized (p .blocks) W₁
-        z₁ = sized-same (L₁ .lengths) z
-
-        z₂ : Sized (p .blocks) W₂
-        z₂ = sized-same (append-links p (consumed (3 * i) bin) (consumed (3 * j) bin) W₁ L₁ .lengths) z
-
-        one : (m ≡ available (3 * j) bin) ⊎ (getD (w .first) m 0 ≡ 0) → getD (W₁ .first) m 0 ≡ 0
-        one = append-zero (available (3 * i) bin) (available (3 * j) bin) m w (available-owner i bin lb) em (omega (arith, z .first))
-
-        two : (m ≡ consumed (3 * j) bin) ⊎ (getD (W₁ .first) m 0 ≡ 0) → getD (W₂ .first) m 0 ≡ 0
-        two = append-zero (consumed (3 * i) bin) (consumed (3 * j) bin) m W₁ (consumed-owner i bin lb) em (omega (arith, z₁ .first))
-
-        three : (m ≡ unswept (3 * j) bin) ⊎ (getD (W₂ .first) m 0 ≡ 0) → getD (abandonBin p (3 * i) (3 * j) bin w .first) m 0 ≡ 0
-        three = append-zero (unswept (3 * i) bin) (unswept (3 * j) bin) m W₂ (unswept-owner i bin lb) em (omega (arith, z₂ .first))
-
-        which : m % 49 ≡ bin → Dec (m ≡ available (3 * j) bin) → Dec (m ≡ consumed (3 * j) bin) → getD (abandonBin p (3 * i) (3 * j) bin w .first) m 0 ≡ 0
-        which e (yes a) d = three (inr (two (inr (one (inl a)))))
-        which e (no na) (yes c) = three (inr (two (inl c)))
-        which e (no na) (no nc) = three (inl (third-list j bin m em e na nc))
-
-        go : (m % 49 ≡ bin) ⊎ (getD (w .first) m 0 ≡ 0) → getD (abandonBin p (3 * i) (3 * j) bin w .first) m 0 ≡ 0
-        go (inl e) = which e (ℕ-discrete m (available (3 * j) bin)) (ℕ-discrete m (consumed (3 * j) bin))
-        go (inr q) = three (inr (two (inr (one (inr q)))))
-
-    -- and after n bins if it is a list of one of them
-    bins-zero :
-        (n : ℕ) → n ≤ 49 → (w : Words) → Sized (p .blocks) w → (m : ℕ) → m / 147 ≡ j → m < 1470 → m % 49 < n
-        → getD (eachBelow n (abandonBin p (3 * i) (3 * j)) w .first) m 0 ≡ 0
-    unfolding eachBelow abandonBin
-    bins-zero zero le w z m em lm lb = absurd (omega arith)
-    bins-zero (suc n) le w z m em lm lb = bin-zero n m W (omega arith) sized em lm (go (ℕ-discrete (m % 49) n) (bins-zero n (omega arith) w z m em lm))
-      where
-        W : Words
-        W = eachBelow n (abandonBin p (3 * i) (3 * j)) w
-
-        bin-links : (k : ℕ) (x : Words) → LinksOnly w x → LinksOnly w (abandonBin p (3 * i) (3 * j) k x)
-        bin-links k x X =
-            append-links p (unswept (3 * i) k) (unswept (3 * j) k) _
-            (append-links p (consumed (3 * i) k) (consumed (3 * j) k) _ (append-links p (available (3 * i) k) (available (3 * j) k) x X))
-
-        sized : Sized (p .blocks) W
-        sized = sized-same (each-keeps (LinksOnly w) n (abandonBin p (3 * i) (3 * j)) (λ k lk x X. bin-links k x X) w (links-refl w) .lengths) z
-
-        go : Dec (m % 49 ≡ n) → (m % 49 < n → getD (W .first) m 0 ≡ 0) → (m % 49 ≡ n) ⊎ (getD (W .first) m 0 ≡ 0)
-        go (yes e) ih = inl e
-        go (no f) ih = inr (ih (omega arith))
-
--- the lists of the owner j, put behind those of the owner i, are empty then
-pub abandon-empties :
-    (p : Params) (B : Bounds p) (i j : ℕ) (w : Words) → Sized (p .blocks) w → i ≢ j → i < 10 → j < 10
-    → (l : ℕ) → l / 147 ≡ j → getD (abandonBlocks p (3 * i) (3 * j) w .first) l 0 ≡ 0
-unfolding abandonBlocks
-abandon-empties p B i j w z ne li lj l e = bins-zero p i j ne 49 (omega arith) w z l e (omega arith) (omega arith)
-
--- and those of the other owners stay
-pub abandon-others :
-    (p : Params) (B : Bounds p) (i j : ℕ) (w : Words) → Sized (p .blocks) w → i ≢ j → i < 10 → j < 10
-    → (l : ℕ) → l / 147 ≢ i → l / 147 ≢ j → getD (abandonBlocks p (3 * i) (3 * j) w .first) l 0 ≡ getD (w .first) l 0
-unfolding OwnersBut
-abandon-others p B i j w z ne li lj l ni nj = others-all p i j w l ni nj
-
--- ---- destroy
-
+-- destroy: the holder's lists go behind the abandoned ones
 pub destroy-flags :
-    (p : Params) (B : Bounds p) (w : Words) (h : ℕ) → Sized (p .blocks) w → Flags w → w .phase ≡ 0 → isBound w h ≡ true
+    (p : Params) (w : Words) (h : ℕ) → Sized (p .blocks) w → Flags w → w .phase ≡ 0 → isBound w h ≡ true
     → Flags (setBound (h - 1) 0 (abandonBlocks p abandoned (localSets h) w))
 unfolding setBound localSets Empty
-destroy-flags p B w h z G run is =
-    quiet-flags w (setBound (h - 1) 0 W) F run (L .released) (omega (arith, L .phase))
-    (λ i l. rw (L .bound) (set-known (w .bound) (h - 1) 0 i (omega arith) (F .bound i l) (omega (arith, z .bound, b .low, b .high))))
-    (λ i l ne. gone i l (rw (L .bound) at ne) (ℕ-discrete i (h - 1)))
-    (λ m e. abandon-others p B 8 (h - 1) w z apart (omega arith) low m (omega arith) (omega (arith, b .low, b .high)) ∙ F .in-gc (omega arith) m e)
+destroy-flags p w h z G run is =
+    quiet-flags w (setBound (h - 1) 0 W) F run (R .released) (omega (arith, R .phase))
+    (λ i l. rw (R .bound) (set-known (w .bound) (h - 1) 0 i (omega arith) (F .bound i l) (omega (arith, z .bound, b .low, b .high))))
+    (λ i l ne. gone i l (rw (R .bound) at ne) (ℕ-discrete i (h - 1)))
+    (λ m e. R .first m (omega (arith, b .low, b .high)) (omega arith) ∙ F .in-gc (omega arith) m e)
   where
     F : FlagFacts w
     F = flag-facts w G
@@ -511,34 +325,29 @@ destroy-flags p B w h z G run is =
     W : Words
     W = abandonBlocks p abandoned (3 * (h - 1)) w
 
-    L : LinksOnly w W
-    L = abandon-links p abandoned (3 * (h - 1)) w
-
     low : h - 1 < 10
-    low = omega (arith, b .low, b .high)
+    low = omega (arith, b .high)
 
-    apart : 8 ≢ h - 1
-    apart = omega (arith, b .low, b .high)
+    R : Framed (h - 1) 8 w W
+    R = abandon-framed p (h - 1) 8 low (omega arith) w
 
     gone : (i : ℕ) → i < 8 → getD (set (w .bound) (h - 1) 0) i 0 ≢ 1 → Dec (i ≡ h - 1) → (m : ℕ) → m / 147 ≡ i → getD (W .first) m 0 ≡ 0
-    gone i l ne (yes q) m e = abandon-empties p B 8 (h - 1) w z apart (omega arith) low m (e ∙ q)
+    gone i l ne (yes q) m e = abandon-empties p 8 (h - 1) w z (omega (arith, b .low, b .high)) (omega arith) low m (e ∙ q)
     gone i l ne (no f) m e =
-        abandon-others p B 8 (h - 1) w z apart (omega arith) low m (omega arith) (λ q. f (sym e ∙ q))
-        ∙ F .unbound i l (λ q. ne (getD-set-other (w .bound) (h - 1) i 0 0 f ∙ q)) m e
+        R .first m (λ q. f (sym e ∙ q)) (omega arith)
+        ∙ F .unbound i l (λ q. ne (set-off (w .bound) (h - 1) 0 i f ∙ q)) m e
 
 -- ---- the releases
 
--- w₁ is what the release of a part made of w: it changed lists of its own holder, now all empty, abandoned ones and in-gc ones
+-- w₁ is what the release of a part made of w: the lists of its own holder, if any, are empty; those of other holders stay
 pub released-flags :
-    (p : Params) (B : Bounds p) (w w₁ : Words) (part : ℕ) → Sized (p .blocks) w₁ → Flags w → mayRelease w ≡ true
-    → hasReleased w part ≡ false → (part ≡ 0) ⊎ (isBound w part ≡ true)
-    → w₁ .phase ≡ w .phase → w₁ .bound ≡ w .bound → w₁ .released ≡ w .released
-    → ((l : ℕ) → l < 1470 → l / 147 < 8 → l / 147 ≢ part - 1 → getD (w₁ .first) l 0 ≡ getD (w .first) l 0)
-    → (part ≢ 0 → (l : ℕ) → l / 147 ≡ part - 1 → getD (w₁ .first) l 0 ≡ 0)
-    → ((part ≡ 0) → (l : ℕ) → l < 1470 → l / 147 < 8 → getD (w₁ .first) l 0 ≡ getD (w .first) l 0)
+    (p : Params) (w w₁ : Words) (part : ℕ) → Sized (p .blocks) w₁ → Flags w → (part ≡ 0) ⊎ (isBound w part ≡ true)
+    → w₁ .bound ≡ w .bound → w₁ .released ≡ w .released
+    → ((l : ℕ) → l / 147 < 8 → suc (l / 147) ≢ part → getD (w₁ .first) l 0 ≡ getD (w .first) l 0)
+    → ((l : ℕ) → suc (l / 147) ≡ part → getD (w₁ .first) l 0 ≡ 0)
     → Flags (partReleased p part w₁)
 unfolding partReleased setReleased setPhase withReleased Empty
-released-flags p B w w₁ part z G may new whose phase bound released others own shared =
+released-flags p w w₁ part z G whose bound released others own =
     if-cases Flags (allReleased w₂) (λ e. facts-flags _ last) (λ e. facts-flags w₂ (more e))
   where
     F : FlagFacts w
@@ -555,12 +364,11 @@ released-flags p B w w₁ part z G may new whose phase bound released others own
 
     -- lists of a holder that were empty are empty
     still : (i : ℕ) → i < 8 → Empty w i → Empty w₁ i
-    still i l E = λ m e. go m e (ℕ-discrete part 0) (ℕ-discrete i (part - 1))
+    still i l E = λ m e. go m e (ℕ-discrete (suc i) part)
       where
-        go : (m : ℕ) → m / 147 ≡ i → Dec (part ≡ 0) → Dec (i ≡ part - 1) → getD (w₁ .first) m 0 ≡ 0
-        go m e (yes q) d = shared q m (omega arith) (omega arith) ∙ E m e
-        go m e (no f) (yes q) = own f m (e ∙ q)
-        go m e (no f) (no g) = others m (omega arith) (omega arith) (λ q. g (sym e ∙ q)) ∙ E m e
+        go : (m : ℕ) → m / 147 ≡ i → Dec (suc i ≡ part) → getD (w₁ .first) m 0 ≡ 0
+        go m e (yes q) = own m (ap suc e ∙ q)
+        go m e (no f) = others m (omega arith) (λ q. f (sym (ap suc e) ∙ q)) ∙ E m e
 
     unbound : (i : ℕ) → i < 8 → getD (w₁ .bound) i 0 ≢ 1 → Empty w₁ i
     unbound i l ne = still i l (F .unbound i l (rw bound at ne))
@@ -570,7 +378,7 @@ released-flags p B w w₁ part z G may new whose phase bound released others own
 
     -- the mark of another part is that of before
     before : (k : ℕ) → k ≢ part → getD (set (w₁ .released) part 1) k 0 ≡ getD (w .released) k 0
-    before k ne = getD-set-other (w₁ .released) part k 1 0 ne ∙ ap (λ (x : List ℕ). getD x k 0) released
+    before k ne = set-off (w₁ .released) part 1 k ne ∙ ap (λ (x : List ℕ). getD x k 0) released
 
     more : allReleased w₂ ≡ false → FlagFacts w₂
     more left =
@@ -582,7 +390,7 @@ released-flags p B w w₁ part z G may new whose phase bound released others own
           released = λ i l. set-known (w₁ .released) part 1 i (omega arith) (rw released (F .released i l)) room;
           only = λ k l e. refl;
           whose = λ i l e. of i l e (ℕ-discrete (suc i) part);
-          some = λ e. (part, low, getD-set-same (w₁ .released) part 1 0 room);
+          some = λ e. (part, low, set-at (w₁ .released) part 1 room);
           due = λ e. left;
           empty = λ i l e. none i l e (ℕ-discrete (suc i) part);
         }
@@ -592,27 +400,22 @@ released-flags p B w w₁ part z G may new whose phase bound released others own
         of i l e (no f) = rw bound (F .whose i l (sym (before (suc i) f) ∙ e))
 
         none : (i : ℕ) → i < 8 → getD (set (w₁ .released) part 1) (suc i) 0 ≡ 1 → Dec (suc i ≡ part) → Empty w₁ i
-        none i l e (yes q) = λ m d. own (omega arith) m (omega arith)
+        none i l e (yes q) = λ m d. own m (ap suc d ∙ q)
         none i l e (no f) = still i l (F .empty i l (sym (before (suc i) f) ∙ e))
 
     W : Words
     W = abandonBlocks p abandoned inGc w₂
 
-    L : LinksOnly w₂ W
-    L = abandon-links p abandoned inGc w₂
-
-    z₂ : Sized (p .blocks) w₂
-    z₂ = sized-same (simp kept-lengths) z
+    R : Framed 9 8 w₂ W
+    R = abandon-framed p 9 8 (omega arith) (omega arith) w₂
 
     last : FlagFacts (setPhase 0 (withReleased (replicate 9 0) W))
     last =
         record {
-          unbound = λ i l ne m e.
-              abandon-others p B 8 9 w₂ z₂ (omega arith) (omega arith) (omega arith) m (omega arith) (omega arith)
-              ∙ unbound i l (rw (L .bound) at ne) m e;
-          in-gc = λ ne. abandon-empties p B 8 9 w₂ z₂ (omega arith) (omega arith) (omega arith);
+          unbound = λ i l ne m e. R .first m (omega arith) (omega arith) ∙ unbound i l (rw (R .bound) at ne) m e;
+          in-gc = λ ne. abandon-empties p 8 9 w₂ (sized-same (simp kept-lengths) z) (omega arith) (omega arith) (omega arith);
           phase = omega arith;
-          bound = λ i l. rw (L .bound) (known i l);
+          bound = λ i l. rw (R .bound) (known i l);
           released = λ i l. rw (getD-zeros 9 i) (omega arith);
           only = λ k l e. absurd (clear k e);
           whose = λ i l e. absurd (clear (suc i) e);

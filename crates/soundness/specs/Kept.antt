@@ -1,42 +1,40 @@
 -- Every call keeps tables sound, and set-up makes sound ones. So from set-up on no call is refused BadTables. Assumes nothing.
 use mathlib.Core.Path.{_≡_, refl, sym, ap, _∙_, subst}
-use mathlib.Core.Logic.{_≢_, _⊎_, inl, inr, ⊎-elim}
+use mathlib.Core.Logic.{_≢_, inl, inr, ⊎-elim}
 use mathlib.Core.Bool.{Bool, true, false, not, _&&_, _||_}
-use mathlib.Core.List.{List, [], _∷_, map}
-use Prim.Native.Nat.{ℕ, zero, suc, _+_, _-_, _*_, _/_, _%_, _<_, _≤_}
+use mathlib.Core.List.{List, []}
+use Prim.Native.Nat.{ℕ, _+_, _-_, _*_, _%_, _<_, _≤_}
 use native.Mathlib.Omega.{arith}
 use lib.Dec.{eqb, ltb, leb}
 use lib.ListN.{getD, set, length, length-set, length-map, replicate, length-replicate}
 use lib.Seq.{set-getD, set-out}
 use native.Mathlib.Decide.{ℕ-discrete}
-use borrow.Author.Tests.{eq-eqb, ne-eqb, eqb-true}
+use borrow.Author.Tests.{eq-eqb, eqb-true, not-false}
 use Rattle.model.specs.declared.Params.{Params}
 use Rattle.model.specs.declared.Offer.{Offer}
-use Rattle.model.specs.declared.Refusal.{Refusal}
-use Rattle.model.specs.declared.Refusal.the-variants.{BadTables}
-use Rattle.model.specs.Base.{if_then_else_, In, allBelow}
-use Rattle.model.specs.Params.{goodParams, wordCount, inHeap, start, minusLower, lists, bins, abandoned, inGc, localSets}
-use Rattle.model.specs.Tables.{Words, Tables, tablesOf, withWords, view, setBound, setReleased, withReleased, setPhase, setFree}
-use Rattle.model.specs.Global.{isHolder, isBound, unmarkedState, abandonBlocks, freshWords, freshTables, bindHolder, destroyHolder, prepared, markPlace, Freed, freed, releaseBin, allReleased, hasReleased, releaseHolder, sweepLater, partReleased}
+use Rattle.model.specs.Params.{wordCount, inHeap, start, minusLower, lists, localSets}
+use Rattle.model.specs.Tables.{Words, Tables, withWords, setBound, setReleased, withReleased, setPhase, setFree}
+use Rattle.model.specs.Global.{isHolder, isBound, unmarkedState, freshWords, freshTables, bindHolder, destroyHolder, prepared, markPlace, allReleased, hasReleased, releaseHolder, sweepLater, partReleased}
 use Rattle.model.specs.Memory.{marked}
-use Rattle.model.specs.Sound.{stateOf, blockSound, linked, linkOk, ownerEmpty, unboundEmpty, inGcEmpty, phaseKnown, flagsKnown, releasedFew, releasedSome, releasedEmpty, sound}
+use Rattle.model.specs.Sound.{stateOf, linkOk, ownerEmpty, unboundEmpty, inGcEmpty, phaseKnown, flagsKnown, releasedFew, releasedSome, releasedEmpty, sound}
 use Rattle.model.specs.BlockList.{blocksOn}
 use Rattle.model.specs.SizeClasses.{binOf, raised}
 use Rattle.model.specs.Block.{isCell}
 use Rattle.model.specs.Events.{Event}
 use Rattle.model.specs.FreeListAllocator.{findBlock}
-use Rattle.model.specs.Calls.{goodRequest, tooBig, goodOffer, takePlan, planAlloc, goodObject, mayRelease, releasePlan, refuses, changes, Call, bind, destroy, alloc, prepare, mark, release, sharedRelease, End, says, takes, Plan, plan, planSound, Step, takeCell, finish, step}
-use Rattle.laws.specs.Base.{and-left, and-right, if-cases, if-true, if-false, or-cases}
+use Rattle.model.specs.Calls.{goodRequest, tooBig, goodOffer, takePlan, planAlloc, goodObject, mayRelease, releasePlan, Call, bind, destroy, alloc, prepare, mark, release, sharedRelease, End, says, takes, Plan, plan, planSound, Step, takeCell, finish, step}
+use Rattle.laws.specs.Base.{and-left, and-right, if-cases, if-false, or-cases, or-none-left}
 use Rattle.laws.specs.Classes.{chosen, fits-raised}
 use Rattle.laws.specs.Below.{true-not-false, and-both}
-use Rattle.laws.specs.Frame.{each-keeps}
-use Rattle.laws.specs.Params.{Bounds, good-bounds}
+use Rattle.laws.specs.Params.{Bounds}
 use Rattle.laws.specs.Tables.{Sized, sized-same, kept-lengths, sized-view, lengths-setBound, lengths-setFree, by-lt}
 use Rattle.soundness.specs.SoundLists.{Good, sound-good, good-blocks, good-linked}
-use Rattle.soundness.specs.Flags.{Flags, sound-flags, bind-flags, prepare-flags, destroy-flags, same-flags, released-flags, abandon-empties, abandon-links, BoundAt, bound-at}
-use Rattle.soundness.specs.Release.{clear-words, KeptBy, good-kept, abandon-good, release-bin-kept, holder-good, shared-good, Rest, holder-rest, shared-rest}
-use Rattle.soundness.specs.Alloc.{find-good, find-left, find-frame, take-good}
-use Rattle.soundness.specs.Simple.{good-stays, same-states, bind-good, prepare-good, mark-good, fresh-good, fresh-flags}
+use Rattle.soundness.specs.Owners.{holder-framed, holder-empties, shared-framed}
+use Rattle.soundness.specs.Flags.{Flags, sound-flags, bind-flags, prepare-flags, destroy-flags, same-flags, released-flags, bound-at}
+use Rattle.soundness.specs.Held.{Held, clear-words}
+use Rattle.soundness.specs.Release.{abandon-held, holder-held, shared-held}
+use Rattle.soundness.specs.Alloc.{find-served, take-good}
+use Rattle.soundness.specs.Simple.{rowsOf, good-stays, same-states, bind-good, prepare-good, mark-good, fresh-good, fresh-flags}
 
 module _ (p : Params) (B : Bounds p) where
   -- tables that are good and whose flags are
@@ -62,51 +60,30 @@ module _ (p : Params) (B : Bounds p) where
         passes = good-sound (freshTables p) (λ l. []) (fresh-good p) (fresh-flags p);
       }
 
-  not-false : (a : Bool) → not a ≡ false → a ≡ true
-  not-false true e = refl
-  not-false false e = sym e
+  -- other words with the same tables of lists and blocks
+  held-stays : {ms st : List ℕ} {w : Words} (w′ : Words) → rowsOf w′ ≡ rowsOf w → Sized (p .blocks) w′ → Held p ms w st → Held p ms w′ st
+  held-stays {ms} {st} w′ e z H =
+      record { lists = H .lists; good = good-stays p w′ ms e (same-states p st) (H .good); sized = z; states = H .states }
 
-  or-first : (a b : Bool) → (a || b) ≡ false → a ≡ false
-  or-first true b e = e
-  or-first false b e = refl
+  -- the end of a release: flags alone, or in-gc merged into abandoned
+  part-held : (part : ℕ) (w : Words) (st ms : List ℕ) → Held p ms w st → Held p ms (partReleased p part w) st
+  unfolding partReleased setReleased setPhase withReleased
+  part-held part w st ms H = if-cases (λ (x : Words). Held p ms x st) (allReleased w₁)
+      (λ e.
+      let A = abandon-held p B ms 8 9 (omega arith) (omega arith) (omega arith) (omega arith) st w₁ H₁ in
+      let S = A .sized in
+      held-stays _ refl (record { first = S .first; last = S .last; bound = S .bound; released = refl; next = S .next; prev = S .prev; free = S .free; size = S .size; list = S .list; tls = S .tls }) A)
+      (λ e. H₁)
+    where
+      w₁ : Words
+      w₁ = setReleased part 1 (setPhase 2 w)
 
-  or-second : (a b : Bool) → (a || b) ≡ false → b ≡ false
-  or-second true true e = e
-  or-second true false e = refl
-  or-second false b e = e
+      H₁ : Held p ms w₁ st
+      H₁ = held-stays w₁ refl (sized-same (simp kept-lengths) (H .sized)) H
 
-  and-no : (a b : Bool) → a ≡ true → (a && b) ≡ false → b ≡ false
-  and-no true b e q = q
-  and-no false b e q = absurd (true-not-false (sym e))
-
-  -- ---- the end of a release: flags alone, or in-gc merged into abandoned
-  module _ (part : ℕ) (w : Words) (Z : Sized (p .blocks) w) (st ms : List ℕ) (L : ℕ → List ℕ) (G : Good p (tablesOf w st ms) L) where
-    w₁ : Words
-    w₁ = setReleased part 1 (setPhase 2 w)
-
-    Z₁ : Sized (p .blocks) w₁
-    unfolding w₁
-    Z₁ = sized-same (simp kept-lengths) Z
-
-    G₁ : Good p (tablesOf w₁ st ms) L
-    unfolding w₁ setReleased setPhase
-    G₁ = good-stays p ms (record { first = refl; last = refl; next = refl; prev = refl; free = refl; size = refl; list = refl; tls = refl }) (same-states p st) G
-
-    pub part-good : (M : ℕ → List ℕ) × Good p (tablesOf (partReleased p part w) st ms) M
-    unfolding partReleased w₁ setReleased setPhase withReleased
-    part-good = if-cases (λ (x : Words). (M : ℕ → List ℕ) × Good p (tablesOf x st ms) M) (allReleased w₁)
-        (λ e.
-        let m = abandon-good p B ms w₁ st L Z₁ G₁ 8 9 (omega arith) (omega arith) (λ z. omega (arith, z)) (omega arith) in
-        (m .0, good-stays p ms (record { first = refl; last = refl; next = refl; prev = refl; free = refl; size = refl; list = refl; tls = refl }) (same-states p st) (m .1)))
-        (λ e. (L, G₁))
-
-    pub part-sized : Sized (p .blocks) (partReleased p part w)
-    unfolding partReleased w₁ setPhase withReleased
-    part-sized = if-cases (Sized (p .blocks)) (allReleased w₁)
-        (λ e.
-        let S : Sized (p .blocks) (abandonBlocks p 24 27 w₁) = sized-same (abandon-links p 24 27 w₁ .lengths) Z₁ in
-        record { first = S .first; last = S .last; bound = S .bound; released = refl; next = S .next; prev = S .prev; free = S .free; size = S .size; list = S .list; tls = S .tls })
-        (λ e. Z₁)
+  -- held tables whose flags are good
+  held-kept : (t : Tables) → Held p (t .marks) (t .words) (t .states) → Flags (t .words) → Kept t
+  held-kept t H F = record { sized = H .sized; states = H .states; passes = good-sound t (H .lists) (H .good) F }
 
   module _ (t : Tables) (K : Kept t) where
     abbrev L : ℕ → List ℕ
@@ -114,6 +91,9 @@ module _ (p : Params) (B : Bounds p) where
 
     G : Good p t L
     G = sound-good p B t (K .passes)
+
+    H : Held p (t .marks) (t .words) (t .states)
+    H = record { lists = L; good = G; sized = K .sized; states = K .states }
 
     F : Flags (t .words)
     F = sound-flags p t (K .passes)
@@ -151,99 +131,37 @@ module _ (p : Params) (B : Bounds p) where
     unfolding destroyHolder localSets setBound
     destroy-kept h e o =
         let P = bound-at (t .words) h o in
-        let i : h - 1 < 10 = omega (arith, P .high) in
-        let ne : 8 ≢ h - 1 = λ z. omega (arith, P .low, P .high, z) in
-        let M = abandon-good p B (t .marks) (t .words) (t .states) L (K .sized) G 8 (h - 1) (omega arith) i ne (omega arith) in
-        let u : Words = abandonBlocks p 24 (3 * (h - 1)) (t .words) in
-        let z : Sized (p .blocks) u = sized-same (abandon-links p 24 (3 * (h - 1)) (t .words) .lengths) (K .sized) in
-        record {
-          sized = sized-same (lengths-setBound (h - 1) 0 u) z;
-          states = K .states;
-          passes = good-sound (destroyHolder p h t) (M .0)
-              (good-stays p (t .marks) (record { first = refl; last = refl; next = refl; prev = refl; free = refl; size = refl; list = refl; tls = refl }) (same-states p (t .states)) (M .1))
-              (destroy-flags p B (t .words) h (K .sized) F e o);
-        }
-
-    -- after a release the holder has no block
-    own-empty : (h : ℕ) → 1 ≤ h → h ≤ 8 → (l : ℕ) → l / 147 ≡ h - 1 → getD (releaseHolder p h (t .words) (t .states) .words .first) l 0 ≡ 0
-    unfolding releaseHolder localSets
-    own-empty h lo hi l e =
-        let I = each-keeps (KeptBy p B (t .marks)) bins (releaseBin p (3 * (h - 1)))
-        (λ bin lb x X. release-bin-kept p B (t .marks) (h - 1) bin (omega (arith, hi)) lb x X) (freed (t .words) (t .states))
-        (good-kept p B (t .marks) (t .words) (t .states) L (K .sized) (K .states) G) in
-        abandon-empties p B 9 (h - 1) _ (I .whole .sized) (λ z. omega (arith, lo, hi, z)) (omega arith) (omega (arith, hi)) l e
+        let A = abandon-held p B (t .marks) 8 (h - 1) (omega arith) (omega (arith, P .high)) (omega (arith, P .low, P .high)) (omega arith) (t .states) (t .words) H in
+        held-kept (destroyHolder p h t) (held-stays _ refl (sized-same (lengths-setBound (h - 1) 0 _) (A .sized)) A) (destroy-flags p (t .words) h (K .sized) F e o)
 
     -- a release: own blocks released or handed to in-gc
-    release-kept : (h : ℕ) → mayRelease (t .words) ≡ true → hasReleased (t .words) h ≡ false → isBound (t .words) h ≡ true
-        → Kept (releasePlan p h t (releaseHolder p h (t .words) (t .states)) .tables)
+    release-kept : (h : ℕ) → isBound (t .words) h ≡ true → Kept (releasePlan p h t (releaseHolder p h (t .words) (t .states)) .tables)
     unfolding releasePlan
-    release-kept h may due o =
-        record {
-          sized = part-sized h w₂ z₂ (f .states) (t .marks) (m .0) (m .1);
-          states = R .states ∙ K .states;
-          passes = good-sound _ _ (part-good h w₂ z₂ (f .states) (t .marks) (m .0) (m .1) .1)
-              (released-flags p B (t .words) w₂ h z₂ F may due (inr o) (R .phase) (R .bound) (R .released)
-              (λ l low lt ne. R .first l ne (λ z. omega (arith, lt, z))) (λ q l e. own-empty h (P .low) (P .high) l e) (λ z. absurd (omega (arith, P .low, z))));
-        }
-      where
-        P : BoundAt (t .words) h
-        P = bound-at (t .words) h o
+    release-kept h o =
+        let P = bound-at (t .words) h o in
+        let A = holder-held p B (t .marks) h (P .low) (P .high) (t .words) (t .states) H in
+        let R = holder-framed p (t .words) (t .states) h (P .low) (P .high) in
+        held-kept _ (part-held h _ _ (t .marks) A)
+        (released-flags p (t .words) _ h (A .sized) F (inr o) (R .bound) (R .released)
+        (λ l lt ne. R .first l (omega (arith, ne)) (omega (arith, lt)))
+        (λ l e. holder-empties p (t .words) (t .states) h (P .low) (P .high) (K .sized) l (omega (arith, e))))
 
-        f : Freed
-        f = releaseHolder p h (t .words) (t .states)
-
-        w₂ : Words
-        w₂ = releaseHolder p h (t .words) (t .states) .words
-
-        m : (M : ℕ → List ℕ) × Good p (tablesOf w₂ (releaseHolder p h (t .words) (t .states) .states) (t .marks)) M
-        m = holder-good p B (t .marks) (t .words) (t .states) L (K .sized) (K .states) G h (P .low) (P .high)
-
-        R : Rest (h - 1) 9 (t .words) (t .states) w₂ (releaseHolder p h (t .words) (t .states) .states)
-        R = holder-rest p (t .words) (t .states) h (P .low) (P .high)
-
-        z₂ : Sized (p .blocks) w₂
-        z₂ = sized-same (R .lengths) (K .sized)
-
-    shared-kept : mayRelease (t .words) ≡ true → hasReleased (t .words) 0 ≡ false
-        → Kept (releasePlan p 0 t (sweepLater p (t .words) (t .states)) .tables)
+    shared-kept : Kept (releasePlan p 0 t (sweepLater p (t .words) (t .states)) .tables)
     unfolding releasePlan
-    shared-kept may due =
-        record {
-          sized = part-sized 0 w₂ z₂ _ (t .marks) (m .0) (m .1);
-          states = R .states ∙ K .states;
-          passes = good-sound _ _ (part-good 0 w₂ z₂ _ (t .marks) (m .0) (m .1) .1)
-              (released-flags p B (t .words) w₂ 0 z₂ F may due (inl refl) (R .phase) (R .bound) (R .released)
-              (λ l low lt ne. same l lt) (λ q l e. absurd (q refl)) (λ q l low lt. same l lt));
-        }
-      where
-        w₂ : Words
-        w₂ = sweepLater p (t .words) (t .states) .words
-
-        m : (M : ℕ → List ℕ) × Good p (tablesOf w₂ (sweepLater p (t .words) (t .states) .states) (t .marks)) M
-        m = shared-good p B (t .marks) (t .words) (t .states) L (K .sized) (K .states) G
-
-        R : Rest 8 8 (t .words) (t .states) w₂ (sweepLater p (t .words) (t .states) .states)
-        R = shared-rest p (t .words) (t .states)
-
-        z₂ : Sized (p .blocks) w₂
-        z₂ = sized-same (R .lengths) (K .sized)
-
-        same : (l : ℕ) → l / 147 < 8 → getD (w₂ .first) l 0 ≡ getD (t .words .first) l 0
-        same l lt = R .first l (λ z. omega (arith, lt, z)) (λ z. omega (arith, lt, z))
+    shared-kept =
+        let A = shared-held p B (t .marks) (t .words) (t .states) H in
+        let R = shared-framed p (t .words) (t .states) in
+        held-kept _ (part-held 0 _ _ (t .marks) A)
+        (released-flags p (t .words) _ 0 (A .sized) F (inl refl) (R .bound) (R .released)
+        (λ l lt ne. R .first l (omega (arith, lt)) (omega (arith, lt))) (λ l e. absurd (omega (arith, e))))
 
     -- the search of an alloc
     find-kept : (h bin : ℕ) (offer : Offer) → t .words .phase ≡ 0 → isBound (t .words) h ≡ true → 1 ≤ bin → bin < 49 → goodOffer p t offer ≡ true
         → Kept (findBlock p h bin offer t .tables)
     find-kept h bin offer e o pos low fine =
         let P = bound-at (t .words) h o in
-        let m = find-good p B t L (K .sized) (K .states) h bin (P .low) (P .high) pos low offer fine G in
-        let S = find-left p t h bin low offer in
-        let R = find-frame p t h bin low offer in
-        record {
-          sized = sized-same (R .lengths) (K .sized);
-          states = S .states ∙ K .states;
-          passes = good-sound _ (m .0) (m .1) (same-flags (t .words) _ F e (R .phase) (R .bound) (R .released) h o (R .firsts));
-        }
+        let S = find-served p B t H h bin (P .low) (P .high) pos low offer fine in
+        held-kept _ (S .held) (same-flags (t .words) _ F e h o (S .frame))
 
   -- ---- the end of a call: the cell taken
 
@@ -275,8 +193,8 @@ module _ (p : Params) (B : Bounds p) where
           go : Dec (getD (t .states) b 0 ≡ 0) → Good p (withWords (setFree b v w) t) L
           go (yes z) =
               let C = clear-words w b (G .clear b low z) in
-              still (ap (set (w .free) b) (no-cell w b v (C .size) q ∙ sym (C .free)) ∙ set-getD (w .free) b 0)
-          go (no o) = take-good p B t L Z G b v low o q
+              still (ap (set (w .free) b) (no-cell w b v (C .1) q ∙ sym (C .0)) ∙ set-getD (w .free) b 0)
+          go (no o) = take-good p t L Z G b v low o q
 
       outside : p .blocks ≤ b → Good p (withWords (setFree b v w) t) L
       outside far = still (set-out (w .free) b v (omega (arith, Z .free)))
@@ -309,10 +227,6 @@ module _ (p : Params) (B : Bounds p) where
         let E : Bool = leb (start p b) (minusLower p place) && ltb (minusLower p place) (start p b + p .bytes) in
         true-not-false (sym (and-right C D (and-right A (C && D) (and-left (A && (C && D)) E e))) ∙ ap not (eq-eqb _ _ z))
 
-    bound-holder : (h : ℕ) → isBound (t .words) h ≡ true → isHolder h ≡ true
-    unfolding isBound
-    bound-holder h e = and-left (isHolder h) _ e
-
     running : not (eqb (t .words .phase) 0) ≡ false → t .words .phase ≡ 0
     running e = eqb-true _ _ (not-false _ e)
 
@@ -320,7 +234,7 @@ module _ (p : Params) (B : Bounds p) where
     unfolding planSound planAlloc takePlan
     plan-kept (bind h) =
         if-cases Leaves (not (eqb (t .words .phase) 0)) (λ e. K)
-        (λ e. if-cases Leaves (not (isHolder h) || isBound (t .words) h) (λ f. K) (λ f. bind-kept t K h (running e) (not-false _ (or-first _ _ f))))
+        (λ e. if-cases Leaves (not (isHolder h) || isBound (t .words) h) (λ f. K) (λ f. bind-kept t K h (running e) (not-false _ (or-none-left _ _ f))))
     plan-kept (destroy h) =
         if-cases Leaves (not (eqb (t .words .phase) 0)) (λ e. K)
         (λ e. if-cases Leaves (not (isBound (t .words) h)) (λ f. K) (λ f. destroy-kept t K h (running e) (not-false _ f)))
@@ -339,12 +253,9 @@ module _ (p : Params) (B : Bounds p) where
         (λ e. if-cases Leaves (not (goodObject p t place b)) (λ f. K) (λ f. mark-kept t K place b (object-occupied place b (not-false _ f))))
     plan-kept (release h) =
         if-cases Leaves (not (mayRelease (t .words)) || (isHolder h && hasReleased (t .words) h)) (λ e. K)
-        (λ e. if-cases Leaves (not (isBound (t .words) h)) (λ f. K)
-        (λ f. release-kept t K h (not-false _ (or-first _ _ e))
-        (and-no _ _ (bound-holder h (not-false _ f)) (or-second (not (mayRelease (t .words))) _ e)) (not-false _ f)))
+        (λ e. if-cases Leaves (not (isBound (t .words) h)) (λ f. K) (λ f. release-kept t K h (not-false _ f)))
     plan-kept sharedRelease =
-        if-cases Leaves (not (mayRelease (t .words)) || hasReleased (t .words) 0) (λ e. K)
-        (λ e. shared-kept t K (not-false _ (or-first _ _ e)) (or-second (not (mayRelease (t .words))) _ e))
+        if-cases Leaves (not (mayRelease (t .words)) || hasReleased (t .words) 0) (λ e. K) (λ e. shared-kept t K)
 
   pub step-kept : (t : Tables) (h : List ℕ) (c : Call) → Kept t → Kept (step p t h c .tables)
   unfolding step plan

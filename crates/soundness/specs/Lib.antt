@@ -1,8 +1,10 @@
 pub mod Lists
 pub mod SoundLists
-pub mod Moves
 pub mod Removes
+pub mod Moves
+pub mod Owners
 pub mod Flags
+pub mod Held
 pub mod Simple
 pub mod Release
 pub mod Alloc

@@ -1,33 +1,29 @@
 -- No call of a run from set-up is refused BadTables, whatever is lent, called and written. Assumes nothing.
-use mathlib.Core.Path.{_≡_, refl, sym, ap, _∙_, subst}
-use mathlib.Core.Logic.{_≢_, _⊎_, inl, inr, ⊎-elim}
-use mathlib.Core.Bool.{Bool, true, false, not, _&&_, _||_}
+use mathlib.Core.Path.{_≡_, refl, sym, ap, _∙_}
+use mathlib.Core.Logic.{_≢_, ⊎-elim}
+use mathlib.Core.Bool.{true, not, _&&_, _||_}
 use mathlib.Core.List.{List, [], _∷_}
-use Prim.Native.Nat.{ℕ, _-_, _*_, _/_, _<_, _≤_}
-use native.Mathlib.Omega.{arith}
+use Prim.Native.Nat.{ℕ, _-_, _/_}
 use lib.Dec.{eqb}
-use lib.ListN.{getD, set, length, length-set, length-replicate}
-use borrow.Author.Tests.{eq-eqb, eqb-true}
+use lib.ListN.{length, length-set, length-replicate}
 use Rattle.model.specs.declared.Params.{Params}
-use Rattle.model.specs.Base.{if_then_else_, In}
-use Rattle.model.specs.Params.{goodParams, Lent, fits, wordCount, heapBytes}
+use Rattle.model.specs.Base.{In}
+use Rattle.model.specs.Params.{goodParams, Lent, fits, heapBytes}
 use Rattle.model.specs.Memory.{marked, zeroed}
-use Rattle.model.specs.Tables.{Words, Tables, tablesOf, view, flat}
+use Rattle.model.specs.Tables.{Tables}
 use Rattle.model.specs.Events.{Event, initialised, swept, released, taken, eventHeap, eventsHeap}
 use Rattle.model.specs.SizeClasses.{binOf, raised}
 use Rattle.model.specs.Global.{isHolder, isBound, hasReleased, freshTables, bindHolder, destroyHolder, prepared, markPlace}
 use Rattle.model.specs.Sound.{linkOk, sound}
-use Rattle.model.specs.Calls.{Reply, answered, refusalNumber, Call, bind, destroy, alloc, prepare, mark, release, sharedRelease, End, says, takes, Plan, goodRequest, tooBig, goodOffer, goodObject, takePlan, planAlloc, mayRelease, releasePlan, planSound, plan, Step, takeCell, finish, step, Result, tablesIn, lentOf, resultFrom, badSetup, call, setUp}
-use Rattle.model.specs.Runs.{Write, written, Turn, State, foundBy, stepOf, resultOf, turned, begun, Seen, trace}
-use Rattle.laws.specs.Base.{and-left, and-right, if-cases, if-true, if-false}
-use Rattle.laws.specs.Below.{and-both}
+use Rattle.model.specs.Calls.{Reply, answered, Call, bind, destroy, alloc, prepare, mark, release, sharedRelease, End, says, takes, Plan, goodRequest, tooBig, goodOffer, goodObject, takePlan, planAlloc, mayRelease, releasePlan, planSound, plan, Step, takeCell, finish, step, Result, lentOf, resultFrom, call, setUp}
+use Rattle.model.specs.Runs.{Write, written, Turn, State, foundBy, resultOf, turned, begun, Seen, trace}
+use Rattle.laws.specs.Base.{if-cases}
 use Rattle.laws.specs.Params.{Bounds, good-bounds}
 use Rattle.laws.specs.Memory.{length-overwrite}
 use Rattle.laws.specs.Marks.{length-setMark, length-cleared}
 use Rattle.laws.specs.Cells.{length-linkAll}
-use Rattle.laws.specs.Tables.{view-flat, length-flat}
-use Rattle.laws.specs.Classes.{chosen, fits-raised}
-use Rattle.soundness.specs.Alloc.{find-left}
+use Rattle.laws.specs.Lent.{fits-parts, answered-fits, set-up-is, call-is}
+use Rattle.soundness.specs.Alloc.{find-marks}
 use Rattle.soundness.specs.Replies.{never-bad}
 use Rattle.soundness.specs.Kept.{Kept, fresh-kept, step-kept}
 
@@ -58,7 +54,7 @@ module _ (p : Params) where
   finish-marks t es h (takes b align offset fresh) =
       if-cases (λ (x : Step). x .tables .marks ≡ t .marks) (linkOk p (t .words) b _) (λ e. refl) (λ e. refl)
 
-  module _ (B : Bounds p) (t : Tables) where
+  module _ (t : Tables) where
     abbrev Same : Plan → Type 0
     Same q = length (q .tables .marks) ≡ length (t .marks)
 
@@ -74,9 +70,7 @@ module _ (p : Params) where
         (λ f. if-cases Same (not (goodRequest p size align offset)) (λ g. refl)
         (λ g. if-cases Same (tooBig p size align) (λ i. refl)
         (λ i. if-cases Same (not (goodOffer p t offer)) (λ j. refl)
-        (λ j.
-        let n = chosen p (raised p size align) (omega (arith, fits-raised p size align i, B .bytes-high)) in
-        ap length (find-left p t h (binOf p (raised p size align)) (omega (arith, n .to)) offer .marks))))))
+        (λ j. ap length (find-marks p h (binOf p (raised p size align)) offer t))))))
     plan-marks prepare = if-cases Same (not (eqb (t .words .phase) 0)) (λ e. refl) (λ e. length-cleared (t .marks))
     plan-marks (mark place b) =
         if-cases Same (not (eqb (t .words .phase) 1)) (λ e. refl)
@@ -110,25 +104,9 @@ module _ (p : Params) (fine : goodParams p ≡ true) where
     pub heap : length h ≡ heapBytes p
 
   module _ (t : Tables) (h : List ℕ) (K : Fits t h) where
-    lent-fits : fits p (lentOf t h) ≡ true
-    unfolding fits wordCount
-    lent-fits =
-        and-both (and-both (and-both (and-both fine
-        (eq-eqb _ _ (length-flat (p .blocks) (t .words) (K .kept .sized))))
-        (eq-eqb _ _ (K .kept .states)))
-        (eq-eqb _ _ (K .marks)))
-        (eq-eqb _ _ (K .heap))
-
-    lent-tables : tablesIn (lentOf t h) ≡ t
-    lent-tables = ap (λ (w : Words). tablesOf w (t .states) (t .marks)) (view-flat (p .blocks) (t .words) (K .kept .sized))
-
-    call-is : (c : Call) → call p (lentOf t h) c ≡ resultFrom (step p t h c)
-    unfolding call
-    call-is c = if-true (fits p (lentOf t h)) _ _ lent-fits ∙ ap (λ (x : Tables). resultFrom (step p x h c)) lent-tables
-
     step-fits : (c : Call) → Fits (step p t h c .tables) (step p t h c .heap)
     step-fits c =
-        record { kept = step-kept p B t h c (K .kept); marks = step-marks p B t h c ∙ K .marks; heap = step-heap p B t h c ∙ K .heap }
+        record { kept = step-kept p B t h c (K .kept); marks = step-marks p t h c ∙ K .marks; heap = step-heap p t h c ∙ K .heap }
 
   length-written : (ws : List Write) (h : List ℕ) → length (written p ws h) ≡ length h
   unfolding written
@@ -137,13 +115,12 @@ module _ (p : Params) (fine : goodParams p ≡ true) where
 
   -- set-up that is answered
   set-up-fits : (l : Lent) → fits p l ≡ true → Fits (freshTables p) (l .heap)
-  unfolding fits freshTables
+  unfolding freshTables
   set-up-fits l e =
       record {
         kept = fresh-kept p B;
         marks = length-replicate (heapBytes p / 64) 0;
-        heap = eqb-true _ _ (and-right (goodParams p && eqb (length (l .words)) (wordCount p) && eqb (length (l .states)) (p .blocks)
-            && eqb (length (l .marks)) (heapBytes p / 64)) (eqb (length (l .heap)) (heapBytes p)) e);
+        heap = fits-parts p l e .1;
       }
 
   -- one turn: holders write, and a call is made
@@ -154,7 +131,7 @@ module _ (p : Params) (fine : goodParams p ≡ true) where
       → resultOf p s u ≡ resultFrom (step p t (written p (u .writes) h) (u .call))
   unfolding resultOf foundBy
   turn-is u t h s e K =
-      ap (λ (l : Lent). call p (foundBy p l u) (u .call)) e ∙ call-is t (written p (u .writes) h) (writes-fit u t h K) (u .call)
+      ap (λ (l : Lent). call p (foundBy p l u) (u .call)) e ∙ call-is p t (written p (u .writes) h) fine (K .kept .sized) (K .kept .states) (K .marks) (length-written (u .writes) h ∙ K .heap) (u .call)
 
   turn-never : (u : Turn) (t : Tables) (h : List ℕ) (s : State) → s .lent ≡ lentOf t h → Fits t h
       → (x : Seen) → x .reply ≡ resultOf p s u .reply → x .reply .number ≢ 2
@@ -172,30 +149,11 @@ module _ (p : Params) (fine : goodParams p ≡ true) where
       (λ i. run-never us (step p t (written p (u .writes) h) (u .call) .tables) (step p t (written p (u .writes) h) (u .call) .heap) (turned p s u)
       (ap (λ (r : Result). r .lent) (turn-is u t h s e K)) (step-fits t (written p (u .writes) h) (writes-fit u t h K) (u .call)) x i) m
 
-set-up-params : (p : Params) (l : Lent) → fits p l ≡ true → goodParams p ≡ true
-unfolding fits
-set-up-params p l e =
-    let a = goodParams p in
-    let b = eqb (length (l .words)) (wordCount p) in
-    let c = eqb (length (l .states)) (p .blocks) in
-    let d = eqb (length (l .marks)) (heapBytes p / 64) in
-    and-left a b (and-left (a && b) c (and-left (a && b && c) d (and-left (a && b && c && d) _ e)))
-
-set-up-lent : (p : Params) (l : Lent) → fits p l ≡ true → setUp p l .lent ≡ lentOf (freshTables p) (l .heap)
-unfolding setUp
-set-up-lent p l f = ap (λ (r : Result). r .lent) (if-true (fits p l) _ _ f)
-
-set-up-refused : (p : Params) (l : Lent) → fits p l ≡ false → setUp p l .reply ≢ answered []
-unfolding setUp refusalNumber
-set-up-refused p l f e =
-    omega (arith, ap (λ (r : Reply). r .number) (sym (ap (λ (x : Result). x .reply) (if-false (fits p l) _ (badSetup l) f)) ∙ e))
-
 -- After a set-up that was answered, no call of a run is refused BadTables, whatever is called and whatever is written
 pub no-bad-tables : (p : Params) (l : Lent) (us : List Turn) → setUp p l .reply ≡ answered []
     → (x : Seen) → In x (trace p (begun p l) us) → x .reply .number ≢ 2
 unfolding begun
-no-bad-tables p l us e x m = go (fits p l) refl
-  where
-    go : (b : Bool) → fits p l ≡ b → x .reply .number ≢ 2
-    go true f = run-never p (set-up-params p l f) us (freshTables p) (l .heap) (begun p l) (set-up-lent p l f) (set-up-fits p (set-up-params p l f) l f) x m
-    go false f = absurd (set-up-refused p l f e)
+no-bad-tables p l us e x m =
+    let f : fits p l ≡ true = answered-fits p l e in
+    let fine : goodParams p ≡ true = fits-parts p l f .0 in
+    run-never p fine us (freshTables p) (l .heap) (begun p l) (ap (λ (r : Result). r .lent) (set-up-is p l f)) (set-up-fits p fine l f) x m

@@ -1,7 +1,7 @@
 -- Sound tables and lists of blocks: what the test `sound` says of the block lists is `Good`, and lists that are `Good` pass the
 -- tests of each block and of each list. Assumes nothing.
 use mathlib.Core.Path.{_≡_, refl, sym, ap, _∙_, subst}
-use mathlib.Core.Logic.{_≢_, inl, inr, ⊎-elim}
+use mathlib.Core.Logic.{_≢_, ⊎-elim}
 use mathlib.Core.Bool.{Bool, true, false, not, _&&_, _||_}
 use mathlib.Core.List.{List, [], _∷_}
 use Prim.Native.Nat.{ℕ, zero, suc, _+_, _-_, _/_, _%_, _≤_, _<_}
@@ -11,7 +11,7 @@ use lib.Dec.{eqb, leb}
 use lib.ListN.{length, getD}
 use borrow.Author.Tests.{eqb-true, eqb-false, leb-true, leb-false, eq-eqb, ne-eqb, le-leb, not-true}
 use Rattle.model.specs.declared.Params.{Params}
-use Rattle.model.specs.Base.{allBelow, In, member, sumBelow, flag}
+use Rattle.model.specs.Base.{allBelow, In, member}
 use Rattle.model.specs.Params.{start, blockAt, isStart, listWord, lists}
 use Rattle.model.specs.Tables.{Words, Tables, tablesOf}
 use Rattle.model.specs.SizeClasses.{cellBytes}
@@ -19,92 +19,15 @@ use Rattle.model.specs.BlockList.{walk, blocksOn}
 use Rattle.model.specs.Block.{Unallocated}
 use Rattle.model.specs.Global.{isHolder}
 use Rattle.model.specs.Sound.{stateOf, stateKnown, blockClear, listNamed, binNamed, setNamed, onListNamed, sizeOk, linkOk, tlsOk, blockSound, linkedFrom, linked, unboundEmpty, inGcEmpty, phaseKnown, flagsKnown, releasedFew, releasedSome, releasedEmpty, sound}
-use Rattle.laws.specs.Base.{and-left, and-right, or-cases, bool-cases, all-below, below-all, in-member, member-in}
-use Rattle.laws.specs.Below.{true-not-false, and-both, and-three, and-four}
-use Rattle.laws.specs.Params.{Bounds, start-pos, start-same, start-blockAt, blockAt-start, blockAt-isStart, isStart-start}
+use Rattle.laws.specs.Base.{and-left, and-right, or-cases, all-below, below-all, in-member, member-in}
+use Rattle.laws.specs.Below.{true-not-false, and-both, and-three, and-five, and-seven}
+use Rattle.laws.specs.Params.{Bounds, start-pos, start-blockAt, blockAt-start, blockAt-isStart, isStart-start}
 use Rattle.laws.specs.Linked.{linked-end, linked-long, linked-on, walk-end, walk-on}
-use Rattle.laws.specs.Pigeon.{Distinct, Under, members-count, sum-le, sum-ones, flag-le, flag-one}
-use Rattle.soundness.specs.Lists.{Here, Seg, Lists, AllOn}
-
--- ---- how long a list without repetition is
-
--- at most n numbers below n are members
-few-members : (n : ℕ) (xs : List ℕ) → sumBelow n (λ b. flag (member b xs)) ≤ n
-few-members n xs =
-    let at-most : sumBelow n (λ b. flag (member b xs)) ≤ sumBelow n (λ b. 1) =
-    sum-le (λ b. flag (member b xs)) (λ b. 1) n
-    (λ b h. let f : flag (member b xs) ≤ flag true = flag-le (member b xs) true (λ e. refl) in omega (arith, flag-one {b = true} refl)) in
-    omega (arith, sum-ones n)
-
--- so a list of them without repetition is at most n long
-pub distinct-short : (n : ℕ) (xs : List ℕ) → Distinct xs → Under n xs → length xs ≤ n
-distinct-short n xs d u = omega (arith, members-count n xs d u, few-members n xs)
+use Rattle.soundness.specs.Lists.{Seg, Lists, AllOn, seg-short, on-list}
 
 -- ---- the blocks that stand from a link on
 
 module _ (p : Params) (B : Bounds p) (st : List ℕ) (w : Words) (word last : ℕ) where
-  -- they are as many by any account
-  seg-length : (b c a : ℕ) (xs ys : List ℕ) → Seg p st w word last b a xs → Seg p st w word last c a ys → length xs ≡ length ys
-  unfolding Seg
-  seg-length b c a [] [] s t = refl
-  seg-length b c a [] (y ∷ ys) s t = absurd (omega (arith, start-pos p B y (t .0 .low), s .0, t .0 .at))
-  seg-length b c a (x ∷ xs) [] s t = absurd (omega (arith, start-pos p B x (s .0 .low), t .0, s .0 .at))
-  seg-length b c a (x ∷ xs) (y ∷ ys) s t =
-      let e : y ≡ x = start-same p B y x (t .0 .low) (s .0 .low) (sym (t .0 .at) ∙ s .0 .at) in
-      ap suc (seg-length (start p x) (start p x) (getD (w .next) x 0) xs ys (s .1)
-      (subst (λ (z : ℕ). Seg p st w word last (start p z) (getD (w .next) z 0) ys) e (t .1)))
-
-  -- what stands from the block x on
-  pub record Tail (x long : ℕ) : Type 0 where
-    pub before : ℕ
-    pub rest : List ℕ
-    pub from : Seg p st w word last before (start p x) (x ∷ rest)
-    pub short : length rest < long
-
-  -- a block that stands there has its tail
-  pub seg-tail : (b a x : ℕ) (xs : List ℕ) → Seg p st w word last b a xs → In x xs → Tail x (length xs)
-  unfolding Seg In
-  seg-tail b a x [] s m = absurd m
-  seg-tail b a x (y ∷ ys) s (inl e) =
-      record {
-        before = b;
-        rest = ys;
-        from = subst (λ (z : ℕ). Seg p st w word last b (start p z) (z ∷ ys)) (sym e)
-            (subst (λ (z : ℕ). Seg p st w word last b z (y ∷ ys)) (s .0 .at) s);
-        short = omega arith;
-      }
-  seg-tail b a x (y ∷ ys) s (inr m) =
-      let r = seg-tail (start p y) (getD (w .next) y 0) x ys (s .1) m in
-      record { before = r .before; rest = r .rest; from = r .from; short = omega (arith, r .short) }
-
-  -- each of them is an occupied block that names the list
-  pub seg-here : (b a x : ℕ) (xs : List ℕ) → Seg p st w word last b a xs → In x xs → (c : ℕ) × Here p st w word c (start p x) x
-  unfolding Seg
-  seg-here b a x xs s m = let r = seg-tail b a x xs s m in (r .before, r .from .0)
-
-  -- no block stands there twice
-  pub seg-distinct : (b a : ℕ) (xs : List ℕ) → Seg p st w word last b a xs → Distinct xs
-  unfolding Seg Distinct
-  seg-distinct b a [] s = tt
-  seg-distinct b a (x ∷ xs) s = (⊎-elim twice (λ z. z) (bool-cases (member x xs)), seg-distinct (start p x) (getD (w .next) x 0) xs (s .1))
-    where
-      twice : member x xs ≡ true → member x xs ≡ false
-      twice m =
-          let r = seg-tail (start p x) (getD (w .next) x 0) x xs (s .1) (member-in x xs m) in
-          let whole : Seg p st w word last b (start p x) (x ∷ xs) = subst (λ (z : ℕ). Seg p st w word last b z (x ∷ xs)) (s .0 .at) s in
-          let same : length (x ∷ xs) ≡ length (x ∷ r .rest) = seg-length b (r .before) (start p x) (x ∷ xs) (x ∷ r .rest) whole (r .from) in
-          absurd (omega (arith, same, r .short))
-
-  -- all are numbers of blocks
-  seg-under : (b a : ℕ) (xs : List ℕ) → Seg p st w word last b a xs → Under (p .blocks) xs
-  unfolding Seg Under
-  seg-under b a [] s = tt
-  seg-under b a (x ∷ xs) s = (s .0 .low, seg-under (start p x) (getD (w .next) x 0) xs (s .1))
-
-  -- so they are no more than there are blocks
-  pub seg-short : (b a : ℕ) (xs : List ℕ) → Seg p st w word last b a xs → length xs ≤ p .blocks
-  seg-short b a xs s = distinct-short (p .blocks) xs (seg-distinct b a xs s) (seg-under b a xs s)
-
   -- a walk that may pass them meets them
   pub seg-walk : (k b a : ℕ) (xs : List ℕ) → Seg p st w word last b a xs → length xs ≤ k → walk k p (w .next) a ≡ xs
   unfolding Seg
@@ -145,35 +68,19 @@ module _ (p : Params) (B : Bounds p) where
       seg-walk p B st w (listWord l) (getD (w .last) l 0) (p .blocks) 0 (getD (w .first) l 0) (L l) (S .seg l h)
       (seg-short p B st w (listWord l) (getD (w .last) l 0) 0 (getD (w .first) l 0) (L l) (S .seg l h))
 
-  -- a block on a list is an occupied block that names it
-  pub lists-here : (st : List ℕ) (w : Words) (L : ℕ → List ℕ) → Lists p st w L → (l b : ℕ) → l < 1470 → In b (L l)
-      → (c : ℕ) × Here p st w (listWord l) c (start p b) b
-  lists-here st w L S l b h m = seg-here p B st w (listWord l) (getD (w .last) l 0) 0 (getD (w .first) l 0) b (L l) (S .seg l h) m
-
   -- 2. a block on a list is on the list that it names
   pub lists-on : (st : List ℕ) (w : Words) (L : ℕ → List ℕ) → Lists p st w L → (l b : ℕ) → l < 1470 → In b (L l)
       → (onListNamed p w b ≡ true) × (listNamed w b ≡ l)
   unfolding onListNamed listNamed listWord
   lists-on st w L S l b h m =
       let n : ℕ = getD (w .list) b 0 in
-      let e : n ≡ 1 + l = lists-here st w L S l b h m .1 .names in
+      let e : n ≡ 1 + l = on-list p S l b h m .names in
       let s : n - 1 ≡ l = omega arith in
       let meets : member b (blocksOn p (n - 1) w) ≡ true =
       rw (s, lists-walk st w L S l h) (in-member b (L l) m) in
       (and-both (and-both (le-leb 1 n (omega arith)) (le-leb n 1470 (omega arith))) meets, s)
 
 -- ---- what sound tables say
-
--- the first two of seven tests; all of five
-two-of-seven : (a b c d e f g : Bool) → (a && b && c && d && e && f && g) ≡ true → (a ≡ true) × (b ≡ true)
-two-of-seven a b c d e f g h =
-    let r = and-four a b c d (and-left (a && b && c && d) e (and-left (a && b && c && d && e) f (and-left (a && b && c && d && e && f) g h))) in
-    (r .0, r .1)
-
-five : (a b c d e : Bool) → (a && b && c && d && e) ≡ true → (a ≡ true) × (b ≡ true) × (c ≡ true) × (d ≡ true) × (e ≡ true)
-five a b c d e h =
-    let r = and-four a b c d (and-left (a && b && c && d) e h) in
-    (r .0, r .1, r .2, r .3, and-right (a && b && c && d) e h)
 
 -- each block and each list passes its test
 pub record SoundParts (p : Params) (t : Tables) : Type 0 where
@@ -184,7 +91,7 @@ pub record SoundParts (p : Params) (t : Tables) : Type 0 where
 pub sound-parts : (p : Params) (t : Tables) → sound p t ≡ true → SoundParts p t
 unfolding sound
 sound-parts p t s =
-    let h = two-of-seven (allBelow (p .blocks) (blockSound p t)) (allBelow lists (linked p t)) (unboundEmpty (t .words))
+    let h = and-seven (allBelow (p .blocks) (blockSound p t)) (allBelow lists (linked p t)) (unboundEmpty (t .words))
     (inGcEmpty (t .words)) (phaseKnown (t .words) && flagsKnown (t .words))
     (releasedFew (t .words) && releasedSome (t .words)) (releasedEmpty (t .words)) s in
     record { blocks = all-below (p .blocks) (blockSound p t) (h .0); linked = all-below lists (linked p t) (h .1) }
@@ -201,7 +108,7 @@ pub record BlockParts (p : Params) (t : Tables) (b : ℕ) : Type 0 where
 pub block-parts : (p : Params) (t : Tables) (b : ℕ) → blockSound p t b ≡ true → stateOf t b ≢ 0 → BlockParts p t b
 unfolding blockSound
 block-parts p t b s ne =
-    let h = five (stateKnown t b) (onListNamed p (t .words) b) (sizeOk p (t .words) b)
+    let h = and-five (stateKnown t b) (onListNamed p (t .words) b) (sizeOk p (t .words) b)
     (linkOk p (t .words) b (getD (t .words .free) b 0)) (tlsOk (t .words) b)
     (rw (ne-eqb (stateOf t b) Unallocated ne) at s) in
     record { known = h .0; on = h .1; size = h .2; free = h .3; tls = h .4 }
@@ -276,7 +183,7 @@ module _ (p : Params) (B : Bounds p) (t : Tables) where
   unfolding linkedFrom
   linked-step k l before a h ne =
       let b : ℕ = blockAt p a in
-      let f = five (isStart p a) (not (eqb (stateOf t b) Unallocated)) (eqb (getD (t .words .list) b 0) (listWord l))
+      let f = and-five (isStart p a) (not (eqb (stateOf t b) Unallocated)) (eqb (getD (t .words .list) b 0) (listWord l))
       (eqb (getD (t .words .prev) b 0) before) (linkedFrom k p t l a (getD (t .words .next) b 0))
       (rw (ne-eqb a 0 ne) at h) in
       record {
@@ -314,17 +221,7 @@ module _ (p : Params) (B : Bounds p) (t : Tables) where
   -- 3. the walks of sound tables are their lists of blocks
   pub sound-lists : sound p t ≡ true → Lists p (t .states) (t .words) (λ l. blocksOn p l (t .words))
   unfolding linked blocksOn
-  sound-lists s =
-      record {
-        seg = stands;
-        distinct = λ l h.
-            seg-distinct p B (t .states) (t .words) (listWord l) (getD (t .words .last) l 0) 0 (getD (t .words .first) l 0)
-            (walk (p .blocks) p (t .words .next) (getD (t .words .first) l 0)) (stands l h);
-      }
-    where
-      stands : (l : ℕ) → l < 1470
-          → Seg p (t .states) (t .words) (listWord l) (getD (t .words .last) l 0) 0 (getD (t .words .first) l 0) (walk (p .blocks) p (t .words .next) (getD (t .words .first) l 0))
-      stands l h = linked-seg (p .blocks) l 0 (getD (t .words .first) l 0) (sound-parts p t s .linked l h)
+  sound-lists s = record { seg = λ l h. linked-seg (p .blocks) l 0 (getD (t .words .first) l 0) (sound-parts p t s .linked l h) }
 
   -- the list that a block names: its number, and that its walk meets the block
   on-parts : (b : ℕ) → onListNamed p (t .words) b ≡ true
@@ -346,7 +243,7 @@ module _ (p : Params) (B : Bounds p) (t : Tables) where
   pub sound-fit : sound p t ≡ true → (l b : ℕ) → l < 1470 → In b (blocksOn p l (t .words)) → Fit p t l b
   unfolding stateOf
   sound-fit s l b h m =
-      let H = lists-here p B (t .states) (t .words) (λ l. blocksOn p l (t .words)) (sound-lists s) l b h m .1 in
+      let H = on-list p (sound-lists s) l b h m in
       parts-fit p t l b (lists-on p B (t .states) (t .words) (λ l. blocksOn p l (t .words)) (sound-lists s) l b h m .1)
       (block-parts p t b (sound-parts p t s .blocks b (H .low)) (H .occupied))
 
@@ -356,7 +253,7 @@ module _ (p : Params) (B : Bounds p) (t : Tables) where
   unfolding blockSound stateOf
   block-sound L S l b h m F =
       let on = lists-on p B (t .states) (t .words) L S l b h m in
-      let H = lists-here p B (t .states) (t .words) L S l b h m .1 in
+      let H = on-list p S l b h m in
       rw (ne-eqb (getD (t .states) b 0) 0 (H .occupied))
       (and-both (and-both (and-both (and-both (F .known) (on .0)) (fit-size p t l b (on .1) F)) (F .free)) (fit-tls p t l b (on .1) F))
 

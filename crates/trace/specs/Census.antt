@@ -13,7 +13,7 @@ use Rattle.model.specs.Census.{section, occupied, blockRow, freeRows, linesOf, 
 use Rattle.listing.specs.Print.{refusedRows}
 use Rattle.laws.specs.Text.{placeAfter, Printed, printed-append, length-printed}
 use Rattle.model.specs.Memory.{overwrite}
-use Rattle.trace.specs.Room.{census-few}
+use Rattle.trace.specs.Room.{census-short}
 use Rattle.native_ms.specs.Promise.{lend, SetUpPromised}
 use Rattle.trace.specs.Run.{TraceRan}
 use Rattle.trace.specs.Sections.{tablesRead, blocksText, freeText}
@@ -80,11 +80,11 @@ census-printed trace p = rw lends-zeros at p
 -- ---- what the call promises
 
 -- As many bytes of the listing as the buffer holds stand at its front, the others are as before, and r says how many: all of
--- them if it holds 700,000.
+-- them if it holds 20,000.
 pub record Listed (h h′ : List ℕ) (r : ℕ) (text : List ℕ) : Type 0 where
   pub printed : Printed h h′ 0 r text
   pub inside : r ≤ length h′
-  pub whole : 700000 ≤ length h → take r h′ ≡ text
+  pub whole : 20000 ≤ length h → take r h′ ≡ text
 
 take-overwrite : (text h : List ℕ) → length text ≤ length h → take (length text) (overwrite 0 text h) ≡ text
 unfolding overwrite
@@ -107,4 +107,4 @@ pub census-listed : {h h′ : List ℕ} {r : ℕ} (trace : List ℕ)
     → Listed h h′ r (census trace)
 census-listed trace p =
     let q = census-printed trace p in
-    record { printed = q; inside = printed-inside q; whole = λ f. whole-printed q (omega (arith, f, census-few trace)) }
+    record { printed = q; inside = printed-inside q; whole = λ f. whole-printed q (omega (arith, f, census-short trace)) }

@@ -13,7 +13,7 @@ mod run;
 mod sections;
 
 // No listing is longer.
-pub const LISTING_BYTES: usize = 700000;
+pub const LISTING_BYTES: usize = 20000;
 
 // The three sections of what stands after a trace's lines.
 fn listing(

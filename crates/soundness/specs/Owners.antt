@@ -1,0 +1,294 @@
+-- What calls leave of the words that are no block's: phase, bound holders, released marks, lengths, and the firsts of lists of
+-- other owners. The owner of the list l is l / 147: 0 to 7 the holders 1 to 8, 8 abandoned, 9 in-gc. Assumes nothing.
+use mathlib.Core.Path.{_≡_, refl, sym, ap, _∙_}
+use mathlib.Core.Logic.{_≢_, _⊎_, inl, inr}
+use mathlib.Core.List.{List}
+use Prim.Native.Nat.{ℕ, zero, suc, _-_, _*_, _/_, _%_, _≤_, _<_}
+use native.Mathlib.Omega.{arith}
+use native.Mathlib.Decide.{ℕ-discrete}
+use lib.Dec.{eqb}
+use lib.ListN.{getD}
+use Rattle.model.specs.declared.Params.{Params}
+use Rattle.model.specs.Base.{eachBelow}
+use Rattle.model.specs.Params.{start, blockAt, listOf, localSets, abandoned, available, unswept, consumed, bins}
+use Rattle.model.specs.Tables.{Words, setNext, setPrev, setFree, setSize, setList, setTls}
+use Rattle.model.specs.BlockList.{push, pop, remove, append}
+use Rattle.model.specs.Block.{clearBlock}
+use Rattle.model.specs.Global.{abandonBin, abandonBlocks, Freed, freed, releaseFrom, releaseBlocks, appendTo, releaseBin, releaseHolder, sweepLaterBin, sweepLater}
+use Rattle.laws.specs.Base.{if-cases}
+use Rattle.laws.specs.Stores.{set-off}
+use Rattle.laws.specs.Tables.{Sized, sized-same, lengths, kept-lengths}
+use Rattle.laws.specs.Frame.{LinksOnly, links-refl, push-links, pop-links, append-links, remove-links, each-keeps, FirstsBut, push-first, pop-firsts, append-first, remove-first, append-empties}
+
+-- ---- list numbers
+
+-- the list l is of the owner i and of the bin n
+pub record Numbered (l i n : ℕ) : Type 0 where
+  pub low : l < 1470
+  pub bin : l % 49 ≡ n
+  pub owner : l / 147 ≡ i
+
+module _ (i bin : ℕ) (li : i < 10) (lb : bin < 49) where
+  pub available-numbered : Numbered (available (3 * i) bin) i bin
+  unfolding available listOf
+  available-numbered = record { low = omega arith; bin = omega arith; owner = omega arith }
+
+  pub unswept-numbered : Numbered (unswept (3 * i) bin) i bin
+  unfolding unswept listOf
+  unswept-numbered = record { low = omega arith; bin = omega arith; owner = omega arith }
+
+  pub consumed-numbered : Numbered (consumed (3 * i) bin) i bin
+  unfolding consumed listOf
+  consumed-numbered = record { low = omega arith; bin = omega arith; owner = omega arith }
+
+  pub unswept-consumed : unswept (3 * i) bin ≢ consumed (3 * i) bin
+  unfolding unswept consumed listOf
+  unswept-consumed e = omega (arith, e)
+
+  pub unswept-available : unswept (3 * i) bin ≢ available (3 * i) bin
+  unfolding unswept available listOf
+  unswept-available e = omega (arith, e)
+
+-- a list of an owner that is neither available nor consumed is unswept
+third-list : (j bin m : ℕ) → m / 147 ≡ j → m % 49 ≡ bin → m ≢ available (3 * j) bin → m ≢ consumed (3 * j) bin → m ≡ unswept (3 * j) bin
+unfolding available consumed unswept listOf
+third-list j bin m em e na nc = omega (arith, na, nc)
+
+-- ---- the frame
+
+-- all that stays where lists of the owners j and k alone change
+pub record Framed (j k : ℕ) (w w′ : Words) : Type 0 where
+  pub phase : w′ .phase ≡ w .phase
+  pub bound : w′ .bound ≡ w .bound
+  pub released : w′ .released ≡ w .released
+  pub lengths : lengths w′ ≡ lengths w
+  pub first : (m : ℕ) → m / 147 ≢ j → m / 147 ≢ k → getD (w′ .first) m 0 ≡ getD (w .first) m 0
+
+pub framed-refl : {j k : ℕ} (w : Words) → Framed j k w w
+framed-refl w = record { phase = refl; bound = refl; released = refl; lengths = refl; first = λ m f g. refl }
+
+pub framed-trans : {j k : ℕ} {t u v : Words} → Framed j k t u → Framed j k u v → Framed j k t v
+framed-trans a b =
+    record {
+      phase = b .phase ∙ a .phase;
+      bound = b .bound ∙ a .bound;
+      released = b .released ∙ a .released;
+      lengths = b .lengths ∙ a .lengths;
+      first = λ m f g. b .first m f g ∙ a .first m f g;
+    }
+
+-- stores into words of a block that are no links, and into all of them
+pub free-framed : {j k : ℕ} (b v : ℕ) (w : Words) → Framed j k w (setFree b v w)
+unfolding setFree
+free-framed b v w = record { phase = refl; bound = refl; released = refl; lengths = simp kept-lengths; first = λ m f g. refl }
+
+pub size-framed : {j k : ℕ} (b v : ℕ) (w : Words) → Framed j k w (setSize b v w)
+unfolding setSize
+size-framed b v w = record { phase = refl; bound = refl; released = refl; lengths = simp kept-lengths; first = λ m f g. refl }
+
+pub tls-framed : {j k : ℕ} (b v : ℕ) (w : Words) → Framed j k w (setTls b v w)
+unfolding setTls
+tls-framed b v w = record { phase = refl; bound = refl; released = refl; lengths = simp kept-lengths; first = λ m f g. refl }
+
+cleared-framed : {j k : ℕ} (b : ℕ) (w : Words) → Framed j k w (clearBlock b w)
+unfolding clearBlock setTls setList setSize setFree setPrev setNext
+cleared-framed b w = record { phase = refl; bound = refl; released = refl; lengths = simp kept-lengths; first = λ m f g. refl }
+
+module _ (p : Params) (j k : ℕ) where
+  -- the list l is one of theirs
+  abbrev pub Theirs : ℕ → Type 0
+  Theirs l = (l / 147 ≡ j) ⊎ (l / 147 ≡ k)
+
+  not-theirs : (l m : ℕ) → Theirs l → m / 147 ≢ j → m / 147 ≢ k → m ≢ l
+  not-theirs l m (inl e) f g x = f (ap (λ (y : ℕ). y / 147) x ∙ e)
+  not-theirs l m (inr e) f g x = g (ap (λ (y : ℕ). y / 147) x ∙ e)
+
+  -- list operations
+  links-framed : {w w′ : Words} (l o : ℕ) → Theirs l → Theirs o → LinksOnly w w′ → FirstsBut l o w w′ → Framed j k w w′
+  unfolding FirstsBut
+  links-framed l o hl ho K F =
+      record {
+        phase = K .phase;
+        bound = K .bound;
+        released = K .released;
+        lengths = K .lengths;
+        first = λ m f g. F m (not-theirs l m hl f g) (not-theirs o m ho f g);
+      }
+
+  pub push-framed : (l b : ℕ) (w : Words) → Theirs l → Framed j k w (push p l b w)
+  unfolding FirstsBut
+  push-framed l b w hl =
+      links-framed l l hl hl (push-links p l b w (links-refl w))
+      (λ m f g. ap (λ (y : List ℕ). getD y m 0) (push-first p l b w) ∙ set-off (w .first) l (start p b) m f)
+
+  pub pop-framed : (l : ℕ) (w : Words) → Theirs l → Framed j k w (pop p l w .words)
+  pop-framed l w hl = links-framed l l hl hl (pop-links p l w (links-refl w)) (pop-firsts p l w)
+
+  append-framed : (l o : ℕ) (w : Words) → Theirs l → Theirs o → Framed j k w (append p l o w)
+  append-framed l o w hl ho = links-framed l o hl ho (append-links p l o w (links-refl w)) (append-first p l o w)
+
+  -- one block released
+  release-framed : (l b : ℕ) (w : Words) → Theirs l → Framed j k w (clearBlock b (remove p l b w))
+  release-framed l b w hl =
+      framed-trans (links-framed l l hl hl (remove-links p l b w (links-refl w)) (remove-first p l b w)) (cleared-framed b (remove p l b w))
+
+  -- ---- releases
+
+  from-framed : (n l a : ℕ) → Theirs l → (w : Words) (st : List ℕ) → Framed j k w (releaseFrom n p l a w st .words)
+  unfolding releaseFrom
+  from-framed zero l a hl w st = framed-refl w
+  from-framed (suc n) l a hl w st =
+      if-cases (λ (f : Freed). Framed j k w (f .words)) (eqb a 0) (λ t. framed-refl w)
+      (λ t. if-cases (λ (f : Freed). Framed j k w (f .words)) (eqb (getD st (blockAt p a) 0) 255)
+      (λ u. framed-trans (release-framed l (blockAt p a) w hl) (from-framed n l (getD (w .next) (blockAt p a) 0) hl _ _))
+      (λ u. from-framed n l (getD (w .next) (blockAt p a) 0) hl w st))
+
+  blocks-framed : (l : ℕ) (f : Freed) → Theirs l → Framed j k (f .words) (releaseBlocks p l f .words)
+  unfolding releaseBlocks
+  blocks-framed l f hl = from-framed (p .blocks) l (getD (f .words .first) l 0) hl (f .words) (f .states)
+
+  to-framed : (l o : ℕ) (f : Freed) → Theirs l → Theirs o → Framed j k (f .words) (appendTo p l o f .words)
+  unfolding appendTo
+  to-framed l o f hl ho = append-framed l o (f .words) hl ho
+
+  module _ (bin : ℕ) (lj : j < 10) (lb : bin < 49) where
+    release-bin-framed : (f : Freed) → Framed j k (f .words) (releaseBin p (3 * j) bin f .words)
+    unfolding releaseBin
+    release-bin-framed f =
+        let a = inl (available-numbered j bin lj lb .owner) in
+        let u = inl (unswept-numbered j bin lj lb .owner) in
+        let c = inl (consumed-numbered j bin lj lb .owner) in
+        framed-trans (blocks-framed (available (3 * j) bin) f a)
+        (framed-trans (to-framed (unswept (3 * j) bin) (available (3 * j) bin) _ u a)
+        (framed-trans (blocks-framed (consumed (3 * j) bin) _ c) (to-framed (unswept (3 * j) bin) (consumed (3 * j) bin) _ u c)))
+
+    module _ (lk : k < 10) where
+      abandon-bin-framed : (w : Words) → Framed j k w (abandonBin p (3 * k) (3 * j) bin w)
+      unfolding abandonBin
+      abandon-bin-framed w =
+          framed-trans (append-framed (available (3 * k) bin) (available (3 * j) bin) w (inr (available-numbered k bin lk lb .owner)) (inl (available-numbered j bin lj lb .owner)))
+          (framed-trans (append-framed (consumed (3 * k) bin) (consumed (3 * j) bin) _ (inr (consumed-numbered k bin lk lb .owner)) (inl (consumed-numbered j bin lj lb .owner)))
+          (append-framed (unswept (3 * k) bin) (unswept (3 * j) bin) _ (inr (unswept-numbered k bin lk lb .owner)) (inl (unswept-numbered j bin lj lb .owner))))
+
+  -- the lists of the owner j go behind those of the owner k
+  pub abandon-framed : j < 10 → k < 10 → (w : Words) → Framed j k w (abandonBlocks p (3 * k) (3 * j) w)
+  unfolding abandonBlocks
+  abandon-framed lj lk w =
+      each-keeps (Framed j k w) bins (abandonBin p (3 * k) (3 * j)) (λ bin lb x X. framed-trans X (abandon-bin-framed bin lj lb lk x)) w (framed-refl w)
+
+module _ (p : Params) (w : Words) (st : List ℕ) where
+  -- a holder's release changes the lists of this holder and of in-gc alone
+  bins-framed : (h : ℕ) → 1 ≤ h → h ≤ 8 → Framed (h - 1) 9 w (eachBelow bins (releaseBin p (3 * (h - 1))) (freed w st) .words)
+  bins-framed h lo hi =
+      each-keeps (λ (f : Freed). Framed (h - 1) 9 w (f .words)) bins (releaseBin p (3 * (h - 1)))
+      (λ bin lb f F. framed-trans F (release-bin-framed p (h - 1) 9 bin (omega arith) lb f)) (freed w st) (framed-refl w)
+
+  pub holder-framed : (h : ℕ) → 1 ≤ h → h ≤ 8 → Framed (h - 1) 9 w (releaseHolder p h w st .words)
+  unfolding releaseHolder localSets
+  holder-framed h lo hi = framed-trans (bins-framed h lo hi) (abandon-framed p (h - 1) 9 (omega arith) (omega arith) _)
+
+  -- the shared release those of abandoned
+  pub shared-framed : Framed 8 8 w (sweepLater p w st .words)
+  unfolding sweepLater sweepLaterBin
+  shared-framed =
+      each-keeps (λ (f : Freed). Framed 8 8 w (f .words)) bins (sweepLaterBin p)
+      (λ bin lb f F.
+      let eight : 8 < 10 = omega arith in
+      let a = inl (available-numbered 8 bin eight lb .owner) in
+      let u = inl (unswept-numbered 8 bin eight lb .owner) in
+      let c = inl (consumed-numbered 8 bin eight lb .owner) in
+      framed-trans F (framed-trans (blocks-framed p 8 8 (available abandoned bin) f a)
+      (framed-trans (blocks-framed p 8 8 (consumed abandoned bin) _ c)
+      (framed-trans (blocks-framed p 8 8 (unswept abandoned bin) _ u)
+      (framed-trans (to-framed p 8 8 (unswept abandoned bin) (available abandoned bin) _ u a)
+      (to-framed p 8 8 (unswept abandoned bin) (consumed abandoned bin) _ u c))))))
+      (freed w st) (framed-refl w)
+
+-- ---- an owner's lists put behind another's
+
+-- the links alone change
+bin-links : (p : Params) (to from bin : ℕ) {t : Words} (w : Words) → LinksOnly t w → LinksOnly t (abandonBin p to from bin w)
+unfolding abandonBin
+bin-links p to from bin w K =
+    append-links p (unswept to bin) (unswept from bin) _
+    (append-links p (consumed to bin) (consumed from bin) _ (append-links p (available to bin) (available from bin) w K))
+
+pub abandon-links : (p : Params) (to from : ℕ) (w : Words) → LinksOnly w (abandonBlocks p to from w)
+unfolding abandonBlocks
+abandon-links p to from w = each-keeps (LinksOnly w) bins (abandonBin p to from) (λ bin lb x X. bin-links p to from bin x X) w (links-refl w)
+
+module _ (p : Params) (i j : ℕ) (ne : i ≢ j) (li : i < 10) (lj : j < 10) (m : ℕ) (em : m / 147 ≡ j) where
+  -- the list m of the owner j is empty if it was, or if it was appended to one of the owner i
+  append-zero : (a o : ℕ) (w : Words) → a / 147 ≡ i → Sized (p .blocks) w → (m ≡ o) ⊎ (getD (w .first) m 0 ≡ 0) → getD (append p a o w .first) m 0 ≡ 0
+  unfolding FirstsBut
+  append-zero a o w ea z c = go (ℕ-discrete m o) c
+    where
+      go : Dec (m ≡ o) → (m ≡ o) ⊎ (getD (w .first) m 0 ≡ 0) → getD (append p a o w .first) m 0 ≡ 0
+      go (yes e) c = rw e (append-empties p a o w (omega (arith, z .first)))
+      go (no f) (inl e) = absurd (f e)
+      go (no f) (inr q) = append-first p a o w m (λ e. ne (sym ea ∙ ap (λ (y : ℕ). y / 147) (sym e) ∙ em)) f ∙ q
+
+  -- so after one bin if it is a list of this bin
+  bin-zero : (bin : ℕ) (w : Words) → bin < 49 → Sized (p .blocks) w → (m % 49 ≡ bin) ⊎ (getD (w .first) m 0 ≡ 0)
+      → getD (abandonBin p (3 * i) (3 * j) bin w .first) m 0 ≡ 0
+  unfolding abandonBin
+  bin-zero bin w lb z c = go c
+    where
+      W₁ : Words
+      W₁ = append p (available (3 * i) bin) (available (3 * j) bin) w
+
+      W₂ : Words
+      W₂ = append p (consumed (3 * i) bin) (consumed (3 * j) bin) W₁
+
+      L₁ : LinksOnly w W₁
+      L₁ = append-links p (available (3 * i) bin) (available (3 * j) bin) w (links-refl w)
+
+      one : (m ≡ available (3 * j) bin) ⊎ (getD (w .first) m 0 ≡ 0) → getD (W₁ .first) m 0 ≡ 0
+      one = append-zero (available (3 * i) bin) (available (3 * j) bin) w (available-numbered i bin li lb .owner) z
+
+      two : (m ≡ consumed (3 * j) bin) ⊎ (getD (W₁ .first) m 0 ≡ 0) → getD (W₂ .first) m 0 ≡ 0
+      two = append-zero (consumed (3 * i) bin) (consumed (3 * j) bin) W₁ (consumed-numbered i bin li lb .owner) (sized-same (L₁ .lengths) z)
+
+      three : (m ≡ unswept (3 * j) bin) ⊎ (getD (W₂ .first) m 0 ≡ 0) → getD (abandonBin p (3 * i) (3 * j) bin w .first) m 0 ≡ 0
+      three =
+          append-zero (unswept (3 * i) bin) (unswept (3 * j) bin) W₂ (unswept-numbered i bin li lb .owner)
+          (sized-same (append-links p (consumed (3 * i) bin) (consumed (3 * j) bin) W₁ L₁ .lengths) z)
+
+      which : m % 49 ≡ bin → Dec (m ≡ available (3 * j) bin) → Dec (m ≡ consumed (3 * j) bin) → getD (abandonBin p (3 * i) (3 * j) bin w .first) m 0 ≡ 0
+      which e (yes a) d = three (inr (two (inr (one (inl a)))))
+      which e (no na) (yes c) = three (inr (two (inl c)))
+      which e (no na) (no nc) = three (inl (third-list j bin m em e na nc))
+
+      go : (m % 49 ≡ bin) ⊎ (getD (w .first) m 0 ≡ 0) → getD (abandonBin p (3 * i) (3 * j) bin w .first) m 0 ≡ 0
+      go (inl e) = which e (ℕ-discrete m (available (3 * j) bin)) (ℕ-discrete m (consumed (3 * j) bin))
+      go (inr q) = three (inr (two (inr (one (inr q)))))
+
+  -- and after n bins if it is a list of one of them
+  bins-zero : (n : ℕ) → n ≤ 49 → (w : Words) → Sized (p .blocks) w → m % 49 < n
+      → getD (eachBelow n (abandonBin p (3 * i) (3 * j)) w .first) m 0 ≡ 0
+  unfolding eachBelow
+  bins-zero zero le w z lb = absurd (omega arith)
+  bins-zero (suc n) le w z lb = bin-zero n W (omega arith) sized (go (ℕ-discrete (m % 49) n) (bins-zero n (omega arith) w z))
+    where
+      W : Words
+      W = eachBelow n (abandonBin p (3 * i) (3 * j)) w
+
+      sized : Sized (p .blocks) W
+      sized = sized-same (each-keeps (LinksOnly w) n (abandonBin p (3 * i) (3 * j)) (λ k lk x X. bin-links p (3 * i) (3 * j) k x X) w (links-refl w) .lengths) z
+
+      go : Dec (m % 49 ≡ n) → (m % 49 < n → getD (W .first) m 0 ≡ 0) → (m % 49 ≡ n) ⊎ (getD (W .first) m 0 ≡ 0)
+      go (yes e) ih = inl e
+      go (no f) ih = inr (ih (omega arith))
+
+-- the lists of the owner j, put behind those of the owner i, are empty then
+pub abandon-empties : (p : Params) (i j : ℕ) (w : Words) → Sized (p .blocks) w → i ≢ j → i < 10 → j < 10
+    → (l : ℕ) → l / 147 ≡ j → getD (abandonBlocks p (3 * i) (3 * j) w .first) l 0 ≡ 0
+unfolding abandonBlocks
+abandon-empties p i j w z ne li lj l e = bins-zero p i j ne li lj l e 49 (omega arith) w z (omega arith)
+
+-- so a holder that has released has no block
+pub holder-empties : (p : Params) (w : Words) (st : List ℕ) (h : ℕ) → 1 ≤ h → h ≤ 8 → Sized (p .blocks) w
+    → (l : ℕ) → l / 147 ≡ h - 1 → getD (releaseHolder p h w st .words .first) l 0 ≡ 0
+unfolding releaseHolder localSets
+holder-empties p w st h lo hi z l e =
+    abandon-empties p 9 (h - 1) _ (sized-same (bins-framed p w st h lo hi .lengths) z) (omega arith) (omega arith) (omega arith) l e
