@@ -11,6 +11,7 @@ pub mod Lower
 pub mod Requests
 pub mod BlockList
 pub mod Frame
+pub mod Walks
 pub mod Pigeon
 pub mod Linked
 pub mod Text

@@ -14,17 +14,18 @@ use Rattle.model.specs.declared.Params.{Params}
 use Rattle.model.specs.declared.Offer.{Offer}
 use Rattle.model.specs.declared.Offer.the-variants.{Nothing, Fresh}
 use Rattle.model.specs.Base.{if_then_else_, allBelow, In}
-use Rattle.model.specs.Params.{start, blockAt, localSets, available, unswept, consumed, lists}
+use Rattle.model.specs.Params.{start, localSets, available, lists}
 use Rattle.model.specs.Tables.{Words, Tables, setTls, setSize, setFree}
 use Rattle.model.specs.SizeClasses.{cellBytes}
-use Rattle.model.specs.BlockList.{Popped, popped, push, pop}
+use Rattle.model.specs.BlockList.{push, pop}
 use Rattle.model.specs.Block.{Unallocated, cellCount, isCell, cellsDown, initChain, initBlock, sweepChain, sweptWords}
-use Rattle.model.specs.FreeListAllocator.{Found, found, after, andThen, inFound, sweepOf, findFreeBlockWith, recycleLocalBlocks, acquireAbandoned, acquireFresh, findBlock}
+use Rattle.model.specs.FreeListAllocator.{Found, acquireFresh, findBlock}
 use Rattle.model.specs.Sound.{stateOf, stateKnown, blockClear, onListNamed, sizeOk, linkOk, tlsOk, blockSound, linked, unboundEmpty, inGcEmpty, phaseKnown, flagsKnown, releasedFew, releasedSome, releasedEmpty, sound}
 use Rattle.laws.specs.Below.{and-left, and-right, or-cases, and-four, allBelow-at, test}
 use Rattle.laws.specs.Params.{Bounds, start-out, start-end}
 use Rattle.laws.specs.Cells.{Free, in-cellsDown}
 use Rattle.laws.specs.Frame.{links-refl, push-links, pop-links}
+use Rattle.laws.specs.Walks.{plain-steps, find-keeps}
 
 abbrev Small : List ℕ → Type 0
 Small l = (b : ℕ) → getD l b 0 < 2 ^ 47
@@ -136,113 +137,6 @@ module _ (p : Params) (g : Bounds p) where
 
   -- ---- searches
 
-  skim-low : (k avail full : ℕ) (t : Words) → Low t → Low (findFreeBlockWith k p avail full t .words)
-  unfolding findFreeBlockWith
-  skim-low zero avail full t h = h
-  skim-low (suc k) avail full t h =
-      go (skim-low k avail full (push p full b (pop p avail t .words)) (push-low p full b _ (pop-low p avail t h))) (eqb f 0) (eqb (getD (t .free) b 0) 0)
-    where
-      f : ℕ
-      f = getD (t .first) avail 0
-
-      b : ℕ
-      b = blockAt p f
-
-      rest : Popped
-      rest = findFreeBlockWith k p avail full (push p full b (pop p avail t .words))
-
-      go : Low (rest .words) → (q r : Bool) → Low ((if q then popped 0 t else if r then rest else popped f t) .words)
-      go ih true r = h
-      go ih false true = ih
-      go ih false false = h
-
-  recycle-low : (k : ℕ) (ms : List ℕ) (owner bin : ℕ) (t : Words) → Low t → Low (recycleLocalBlocks k p ms owner bin t .words)
-  unfolding recycleLocalBlocks
-  recycle-low zero ms owner bin t h = h
-  recycle-low (suc k) ms owner bin t h =
-      go (recycle-low k ms owner bin (push p (consumed owner bin) b w) (push-low p (consumed owner bin) b w w-low)) (eqb (g′ .at) 0) (eqb (getD (w .free) b 0) 0)
-    where
-      g′ : Popped
-      g′ = pop p (unswept owner bin) t
-
-      b : ℕ
-      b = blockAt p (g′ .at)
-
-      w : Words
-      w = sweptWords p ms b (g′ .words)
-
-      w-low : Low w
-      w-low = swept-low ms b (g′ .words) (pop-low p (unswept owner bin) t h)
-
-      rest : Found
-      rest = recycleLocalBlocks k p ms owner bin (push p (consumed owner bin) b w)
-
-      go : Low (rest .words) → (q r : Bool) → Low ((if q then found 0 (g′ .words) else after (sweepOf p ms b (g′ .words)) (if r then rest else found (g′ .at) (push p (available owner bin) b w))) .words)
-      go ih true r = pop-low p (unswept owner bin) t h
-      go ih false true = ih
-      go ih false false = push-low p (available owner bin) b w w-low
-
-  acquire-low : (k : ℕ) (ms : List ℕ) (holder bin : ℕ) (t : Words) → Low t → Low (acquireAbandoned k p ms holder bin t .words)
-  unfolding acquireAbandoned
-  acquire-low zero ms holder bin t h = h
-  acquire-low (suc k) ms holder bin t h =
-      go (acquire-low k ms holder bin (push p c b w) (push-low p c b w w-low)) (acquire-low k ms holder bin (push p c b′ w″) (push-low p c b′ w″ w″-low))
-      (eqb (g₁ .at) 0) (eqb (g₂ .at) 0) (eqb (getD (w .free) b 0) 0) (eqb (getD (w″ .free) b′ 0) 0)
-    where
-      a : ℕ
-      a = available (localSets holder) bin
-
-      c : ℕ
-      c = consumed (localSets holder) bin
-
-      g₁ : Popped
-      g₁ = pop p (available 24 bin) t
-
-      b : ℕ
-      b = blockAt p (g₁ .at)
-
-      w : Words
-      w = setTls b holder (g₁ .words)
-
-      g₂ : Popped
-      g₂ = pop p (unswept 24 bin) (g₁ .words)
-
-      b′ : ℕ
-      b′ = blockAt p (g₂ .at)
-
-      w′ : Words
-      w′ = setTls b′ holder (g₂ .words)
-
-      w″ : Words
-      w″ = sweptWords p ms b′ w′
-
-      g₁-low : Low (g₁ .words)
-      g₁-low = pop-low p (available 24 bin) t h
-
-      g₂-low : Low (g₂ .words)
-      g₂-low = pop-low p (unswept 24 bin) (g₁ .words) g₁-low
-
-      w-low : Low w
-      w-low = tls-low b holder (g₁ .words) g₁-low
-
-      w″-low : Low w″
-      w″-low = swept-low ms b′ w′ (tls-low b′ holder (g₂ .words) g₂-low)
-
-      rest : Found
-      rest = acquireAbandoned k p ms holder bin (push p c b w)
-
-      rest′ : Found
-      rest′ = acquireAbandoned k p ms holder bin (push p c b′ w″)
-
-      go : Low (rest .words) → Low (rest′ .words) → (q r s u : Bool) → Low ((if q
-          then (if r then found 0 (g₂ .words) else after (sweepOf p ms b′ w′) (if u then rest′ else found (g₂ .at) (push p a b′ w″)))
-          else (if s then rest else found (g₁ .at) (push p a b w))) .words)
-      go ih ih′ true true s u = g₂-low
-      go ih ih′ true false s true = ih′
-      go ih ih′ true false s false = push-low p a b′ w″ w″-low
-      go ih ih′ false r true u = ih
-      go ih ih′ false r false u = push-low p a b w w-low
-
   fresh-low : (holder bin : ℕ) (offer : Offer) (f : Found) (t : Tables) → Low (f .words) → Low (acquireFresh p holder bin offer f t .tables .words)
   unfolding acquireFresh
   fresh-low holder bin Nothing f t h = h
@@ -250,30 +144,7 @@ module _ (p : Params) (g : Bounds p) where
       init-low (b .0) (cellBytes p bin) holder (push p (available (localSets holder) bin) (b .0) (f .words)) (push-low p (available (localSets holder) bin) (b .0) (f .words) h)
 
   pub find-low : (holder bin : ℕ) (offer : Offer) (t : Tables) → Low (t .words) → Low (findBlock p holder bin offer t .tables .words)
-  unfolding findBlock
-  find-low holder bin offer t h = go (eqb (s .at) 0) (eqb (f .at) 0) (eqb (d .at) 0)
-    where
-      s : Popped
-      s = findFreeBlockWith (p .blocks) p (available (localSets holder) bin) (consumed (localSets holder) bin) (t .words)
-
-      f : Found
-      f = recycleLocalBlocks (p .blocks) p (t .marks) (localSets holder) bin (s .words)
-
-      d : Found
-      d = andThen f (acquireAbandoned (p .blocks) p (t .marks) holder bin (f .words))
-
-      s-low : Low (s .words)
-      s-low = skim-low (p .blocks) (available (localSets holder) bin) (consumed (localSets holder) bin) (t .words) h
-
-      f-low : Low (f .words)
-      f-low = recycle-low (p .blocks) (t .marks) (localSets holder) bin (s .words) s-low
-
-      d-low : Low (d .words)
-      d-low = acquire-low (p .blocks) (t .marks) holder bin (f .words) f-low
-
-      go : (q r u : Bool) → Low ((if q then (if r then (if u then acquireFresh p holder bin offer d t else inFound d t) else inFound f t)
-          else inFound (found (s .at) (s .words)) t) .tables .words)
-      go true true true = fresh-low holder bin offer d t d-low
-      go true true false = d-low
-      go true false u = f-low
-      go false r u = s-low
+  find-low holder bin offer t =
+      find-keeps p holder bin t (λ es w. Low w) (λ es a w. Low w)
+      (plain-steps p (t .marks) holder bin Low (pop-low p) (push-low p) (λ b w. tls-low b holder w) (swept-low (t .marks)))
+      (λ s. Low (s .tables .words)) offer (λ f e o. fresh-low holder bin offer f t o) (λ f e o. o)

@@ -13,14 +13,15 @@ use borrow.Author.Tests.{eq-eqb, ne-eqb}
 use mir.Syntax.{w64}
 use mir.Val.{Fits}
 use Rattle.model.specs.declared.Params.{Params}
-use Rattle.model.specs.Base.{if_then_else_, eachBelow, filter}
+use Rattle.model.specs.Base.{eachBelow, filter}
 use Rattle.model.specs.Params.{goodParams, blockAt, listOf, available, unswept, consumed, localSets}
 use Rattle.model.specs.Tables.{Words}
 use Rattle.model.specs.BlockList.{remove, append}
 use Rattle.model.specs.Block.{Unallocated, Unmarked, clearBlock}
-use Rattle.model.specs.Events.{Event, eventHeap, eventsHeap, isRelease, releases}
+use Rattle.model.specs.Events.{Event, released, eventHeap, eventsHeap, isRelease, releases}
 use Rattle.model.specs.Global.{Freed, freed, afterRelease, releaseFrom, releaseBlocks, appendTo, releaseBin, releaseHolder, abandonBlocks, sweepLaterBin, sweepLater}
 use Rattle.laws.specs.Params.{good-bounds}
+use Rattle.laws.specs.Walks.{releasedOne, from-keeps, blocks-keep-any, bins-keep-any, later-keeps-any}
 use Rattle.native_ms.specs.Released.{Out, out, total, attemptRelease, releasedBins}
 
 -- n more
@@ -281,25 +282,19 @@ holder-total p h {owner} {n} t s {t₁} {t₂} {s₁} eo e q =
 
 -- ---- counts are small
 
-few-events : (k b : ℕ) (x y : Bool) (f g h : Freed) → releases (f .events) ≤ k → releases (g .events) ≤ k → releases (h .events) ≤ k → releases ((if x then f else if y then afterRelease b g else h) .events) ≤ suc k
+count-one : (es : List Event) (b : ℕ) → releases (es ++ (released b ∷ [])) ≡ releases es + 1
 unfolding releases filter isRelease
-few-events k b true y f g h ef eg eh = omega arith
-few-events k b false true f g h ef eg eh = omega arith
-few-events k b false false f g h ef eg eh = omega arith
+count-one es b = releases-append es (released b ∷ [])
 
 few-none : (k : ℕ) (t : Words) (s : List ℕ) → releases (freed t s .events) ≤ k
 unfolding releases filter
 few-none k t s = omega arith
 
+-- as many as the walk may still pass are still to come
 from-few : (k : ℕ) (p : Params) (l a : ℕ) (t : Words) (s : List ℕ) → releases (releaseFrom k p l a t s .events) ≤ k
-unfolding releaseFrom
-from-few zero p l a t s = few-none 0 t s
-from-few (suc k) p l a t s =
-    let b : ℕ = blockAt p a in
-    let next : ℕ = getD (t .next) b 0 in
-    few-events k b (eqb a 0) (eqb (getD s b 0) Unmarked) (freed t s)
-    (releaseFrom k p l next (clearBlock b (remove p l b t)) (set s b Unallocated)) (releaseFrom k p l next t s)
-    (few-none k t s) (from-few k p l next (clearBlock b (remove p l b t)) (set s b Unallocated)) (from-few k p l next t s)
+from-few k p l a t s =
+    from-keeps p l (λ j b f. releases (f .events) + j ≤ k) (λ j b f o some u. omega (arith, o, count-one (f .events) (blockAt p b)))
+    (λ j b f o some. omega (arith, o)) (λ f. releases (f .events) ≤ k) (λ j b f o. omega (arith, o)) k a (freed t s) (omega (arith, few-none 0 t s))
 
 blocks-few : (k : ℕ) (p : Params) (l a : ℕ) (t : Words) (s : List ℕ) {r : ℕ} {t₁ : Words} {s₁ : List ℕ}
     → out r t₁ s₁ ≡ total (releaseFrom k p l a t s) → r ≤ k
@@ -387,56 +382,25 @@ unfolding eventsHeap
 quiet-append p [] fs h = refl
 quiet-append p (e ∷ es) fs h = quiet-append p es fs (eventHeap p e h)
 
-quiet-if : (p : Params) (b : ℕ) (x y : Bool) (f g k : Freed) → Quiet p (f .events) → Quiet p (g .events) → Quiet p (k .events) → Quiet p ((if x then f else if y then afterRelease b g else k) .events)
+quiet-one : (p : Params) (l b : ℕ) (f : Freed) → Quiet p (f .events) → Quiet p (releasedOne p l b f .events)
 unfolding Quiet eventsHeap eventHeap
-quiet-if p b true y f g k ef eg ek = ef
-quiet-if p b false true f g k ef eg ek = eg
-quiet-if p b false false f g k ef eg ek = ek
-
-quiet-none : (p : Params) (t : Words) (s : List ℕ) → Quiet p (freed t s .events)
-unfolding Quiet eventsHeap
-quiet-none p t s h = refl
-
-quiet-from : (k : ℕ) (p : Params) (l a : ℕ) (t : Words) (s : List ℕ) → Quiet p (releaseFrom k p l a t s .events)
-unfolding releaseFrom
-quiet-from zero p l a t s = quiet-none p t s
-quiet-from (suc k) p l a t s =
-    let b : ℕ = blockAt p a in
-    let next : ℕ = getD (t .next) b 0 in
-    quiet-if p b (eqb a 0) (eqb (getD s b 0) Unmarked) (freed t s)
-    (releaseFrom k p l next (clearBlock b (remove p l b t)) (set s b Unallocated)) (releaseFrom k p l next t s)
-    (quiet-none p t s) (quiet-from k p l next (clearBlock b (remove p l b t)) (set s b Unallocated)) (quiet-from k p l next t s)
+quiet-one p l b f q h = quiet-append p (f .events) (released b ∷ []) h ∙ q h
 
 quiet-blocks : (p : Params) (l : ℕ) (f : Freed) → Quiet p (f .events) → Quiet p (releaseBlocks p l f .events)
-unfolding Quiet releaseBlocks
-quiet-blocks p l f q h =
-    let g : Freed = releaseFrom (p .blocks) p l (getD (f .words .first) l 0) (f .words) (f .states) in
-    quiet-append p (f .events) (g .events) h ∙ ap (eventsHeap p (g .events)) (q h)
-    ∙ quiet-from (p .blocks) p l (getD (f .words .first) l 0) (f .words) (f .states) h
+quiet-blocks p l = blocks-keep-any p l (λ f. Quiet p (f .events)) (λ b f q u. quiet-one p l b f q)
 
 quiet-to : (p : Params) (l o : ℕ) (f : Freed) → Quiet p (f .events) → Quiet p (appendTo p l o f .events)
 unfolding appendTo
 quiet-to p l o f q = q
 
-quiet-bin : (p : Params) (owner bin : ℕ) (f : Freed) → Quiet p (f .events) → Quiet p (releaseBin p owner bin f .events)
-unfolding releaseBin
-quiet-bin p owner bin f q = quiet-to _ _ _ _ (quiet-blocks _ _ _ (quiet-to _ _ _ _ (quiet-blocks _ _ _ q)))
-
-quiet-later : (p : Params) (bin : ℕ) (f : Freed) → Quiet p (f .events) → Quiet p (sweepLaterBin p bin f .events)
-unfolding sweepLaterBin
-quiet-later p bin f q =
-    quiet-to _ _ _ _ (quiet-to _ _ _ _ (quiet-blocks _ _ _ (quiet-blocks _ _ _ (quiet-blocks _ _ _ q))))
-
-quiet-each : (p : Params) (F : ℕ → Freed → Freed) → ((i : ℕ) (f : Freed) → Quiet p (f .events) → Quiet p (F i f .events)) → (n : ℕ) (f : Freed) → Quiet p (f .events) → Quiet p (eachBelow n F f .events)
-unfolding eachBelow
-quiet-each p F each zero f q = q
-quiet-each p F each (suc n) f q = each n (eachBelow n F f) (quiet-each p F each n f q)
+quiet-none : (p : Params) (t : Words) (s : List ℕ) → Quiet p (freed t s .events)
+unfolding Quiet eventsHeap
+quiet-none p t s h = refl
 
 pub quiet-holder : (p : Params) (h : ℕ) (t : Words) (s : List ℕ) → Quiet p (releaseHolder p h t s .events)
 unfolding releaseHolder
-quiet-holder p h t s =
-    quiet-each p (releaseBin p (localSets h)) (λ i f. quiet-bin p (localSets h) i f) 49 (freed t s) (quiet-none p t s)
+quiet-holder p h t s = bins-keep-any p (λ f. Quiet p (f .events)) (quiet-blocks p) (quiet-to p) (localSets h) (freed t s) (quiet-none p t s)
 
 pub quiet-shared : (p : Params) (t : Words) (s : List ℕ) → Quiet p (sweepLater p t s .events)
 unfolding sweepLater
-quiet-shared p t s = quiet-each p (sweepLaterBin p) (λ i f. quiet-later p i f) 49 (freed t s) (quiet-none p t s)
+quiet-shared p t s = later-keeps-any p (λ f. Quiet p (f .events)) (quiet-blocks p) (quiet-to p) (freed t s) (quiet-none p t s)

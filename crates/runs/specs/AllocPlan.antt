@@ -2,7 +2,7 @@
 use mathlib.Core.Path.{_≡_, refl, sym, ap, _∙_, subst}
 use mathlib.Core.Logic.{_≢_, _⊎_, inl, inr, ⊎-elim}
 use mathlib.Core.Bool.{true, false}
-use mathlib.Core.List.{List, [], _∷_, _++_}
+use mathlib.Core.List.{List, [], _∷_}
 use Prim.Native.Nat.{ℕ, zero, suc, _+_, _-_, _*_, _/_, _%_, _≤_, _<_}
 use native.Mathlib.Omega.{arith}
 use native.Mathlib.Nat.{le-div-iff-mul-le}
@@ -14,14 +14,13 @@ use Rattle.model.specs.declared.Params.{Params}
 use Rattle.model.specs.declared.Offer.{Offer}
 use Rattle.model.specs.declared.Offer.the-variants.{Nothing, Fresh}
 use Rattle.model.specs.declared.Refusal.the-variants.{Exhausted}
-use Rattle.model.specs.Base.{if_then_else_}
-use Rattle.model.specs.Params.{start, blockAt, listWord, localSets, available, unswept, consumed}
+use Rattle.model.specs.Params.{start, blockAt, listWord, localSets, available, unswept}
 use Rattle.model.specs.Tables.{Words, Tables, tablesOf, withWords, setFree, setSize, setTls}
 use Rattle.model.specs.SizeClasses.{cellBytes, alignAllocation}
-use Rattle.model.specs.BlockList.{Popped, push, pop, blocksOn}
+use Rattle.model.specs.BlockList.{push, blocksOn}
 use Rattle.model.specs.Block.{Unmarked, linkAll, initChain, initBlock, cellsDown, cellCount}
-use Rattle.model.specs.Events.{initialised, eventHeap, eventsHeap}
-use Rattle.model.specs.FreeListAllocator.{findFreeBlockWith, Found, found, recycleLocalBlocks, acquireAbandoned, Search, inFound, acquireFresh, findBlock}
+use Rattle.model.specs.Events.{Event, initialised, eventHeap, eventsHeap}
+use Rattle.model.specs.FreeListAllocator.{Found, Search, inFound, acquireFresh, findBlock}
 use Rattle.model.specs.Calls.{alloc, goodOffer, takePlan}
 use Rattle.model.specs.Sound.{stateOf, sound, sizeOk, binNamed, listNamed}
 use Rattle.model.specs.Runs.{Book, bookEvent, bookEvents, bookAnswer, takerOf, entered, frees, hits}
@@ -32,20 +31,13 @@ use Rattle.laws.specs.Tables.{sized-same, kept-lengths, lengths}
 use Rattle.laws.specs.Memory as Mem
 use Rattle.laws.specs.Cells.{chainStands}
 use Rattle.laws.specs.Frame.{LinksOnly, links-refl, push-links, push-list, push-first}
-use Rattle.soundness.specs.Owners.{available-numbered, consumed-numbered}
+use Rattle.laws.specs.Walks.{find-keeps}
 use Rattle.soundness.specs.SoundLists.{sound-parts, block-parts, sound-lists}
 use Rattle.runs.specs.Links.{Occupied}
 use Rattle.runs.specs.Inv.{was-held, init-core, init-bytes}
-use Rattle.runs.specs.Steps.{shadowEvent, shadowEvents, isTaken, EventOk, EventsOk, no-events, more-events, events-append, heap-append, book-append, shadow-append, same-bytes}
-use Rattle.runs.specs.Search.{Settled, wordBin, available-settled, consumed-settled, unswept-unsettled, available-bin, consumed-bin, Searching, Ready, Skimmed, skim, Acquired, acquire, plain}
+use Rattle.runs.specs.Steps.{shadowEvent, shadowEvents, isTaken, EventOk, EventsOk, no-events, events-behind, behind, same-bytes}
+use Rattle.runs.specs.Search.{Settled, wordBin, available-settled, unswept-unsettled, Searching, Ready, Going, Gone, steps}
 use Rattle.runs.specs.Plans.{refusal-some, bookFor, Inv, EndOk, Planned, Serves, set-steady}
-
--- no holder has an unswept list, so there is nothing to sweep there
-recycle-idle : (k : ℕ) (p : Params) (ms : List ℕ) (owner bin : ℕ) (w : Words) → getD (w .first) (unswept owner bin) 0 ≡ 0
-    → recycleLocalBlocks k p ms owner bin w ≡ found 0 w
-unfolding recycleLocalBlocks pop
-recycle-idle zero p ms owner bin w e = refl
-recycle-idle (suc k) p ms owner bin w e = rw (eq-eqb _ _ e)
 
 module _ (p : Params) (B : Bounds p) (t : Tables) (h : List ℕ) (sh : List (List ℕ)) (bk : Book) (I : Inv p B t h sh bk)
     (good : sound p t ≡ true) (running : t .words .phase ≡ 0) (hd : ℕ) (lo : 1 ≤ hd) (hi : hd ≤ 8)
@@ -104,13 +96,16 @@ module _ (p : Params) (B : Bounds p) (t : Tables) (h : List ℕ) (sh : List (Lis
   found-inv : (w : Words) (h′ : List ℕ) (sh′ : List (List ℕ)) (bk′ : Book) → Searching p B (t .states) (t .marks) hd w h′ sh′ bk′ → Inv p B (withWords w t) h′ sh′ bk′
   found-inv w h′ sh′ bk′ S = record { core = S .core; sized = S .lengths; young = λ c m o. (S .phase, S .young c m o); idle = S .idle }
 
-  found-searched : (f : Found) → Acquired p B (t .states) (t .marks) hd bin h sh bk f → Searched (inFound f t)
-  found-searched f A =
+  abbrev On : List Event → Words → Type 0
+  On = Going p B (t .states) (t .marks) hd h sh bk
+
+  found-searched : (f : Found) → On (f .events) (f .words) → (f .at ≡ 0) ⊎ Ready p B (t .states) (t .marks) hd bin (f .words) (f .at) → Searched (inFound f t)
+  found-searched f A result =
       record {
         events = A .events;
         inv = found-inv (f .words) _ _ _ (A .searching);
         phase = A .searching .phase;
-        result = ⊎-elim inl (λ r. inr (ready r)) (A .result);
+        result = ⊎-elim inl (λ r. inr (ready r)) result;
       }
     where
       ready : Ready p B (t .states) (t .marks) hd bin (f .words) (f .at) → Cellful (withWords (f .words) t) (shadowEvents (f .events) sh) (f .at)
@@ -139,7 +134,7 @@ module _ (p : Params) (B : Bounds p) (t : Tables) (h : List ℕ) (sh : List (Lis
       go zero le = absurd (omega arith)
       go (suc n) le = (start p b + n * cellBytes p bin, cellsDown (λ a. false) (start p b) (cellBytes p bin) n, refl)
 
-  module _ (b : ℕ) (lb : b < p .blocks) (none : getD (t .states) b 0 ≡ 0) (f : Found) (A : Acquired p B (t .states) (t .marks) hd bin h sh bk f) where
+  module _ (b : ℕ) (lb : b < p .blocks) (none : getD (t .states) b 0 ≡ 0) (f : Found) (A : On (f .events) (f .words)) where
     S : Searching p B (t .states) (t .marks) hd (f .words) (eventsHeap p (f .events) h) (shadowEvents (f .events) sh) (bookEvents p hd (f .events) bk)
     S = A .searching
 
@@ -161,6 +156,9 @@ module _ (p : Params) (B : Bounds p) (t : Tables) (h : List ℕ) (sh : List (Lis
     abbrev book : Book
     book = bookEvents p hd (f .events) bk
 
+    abbrev tables : Tables
+    tables = tablesOf (initBlock p b (cellBytes p bin) hd (push p (available (localSets hd) bin) b (f .words))) (set (t .states) b Unmarked) (t .marks)
+
     links : LinksOnly (f .words) (push p list b (f .words))
     links = push-links p list b (f .words) (links-refl (f .words))
 
@@ -177,8 +175,7 @@ module _ (p : Params) (B : Bounds p) (t : Tables) (h : List ℕ) (sh : List (Lis
               (cellBytes-least p {bin = bin} low) (cellBytes-words p {bin = bin} low) refl hd c m);
         }
 
-    init-inv : Inv p B (tablesOf (initBlock p b cell hd (push p list b (f .words))) (set (t .states) b Unmarked) (t .marks))
-        (linkAll p chain heap) (set shadow b chain) (bookEvent p hd (initialised b chain) book)
+    init-inv : Inv p B tables (linkAll p chain heap) (set shadow b chain) (bookEvent p hd (initialised b chain) book)
     unfolding initBlock setTls setSize setFree entered
     init-inv =
         record {
@@ -199,20 +196,7 @@ module _ (p : Params) (B : Bounds p) (t : Tables) (h : List ℕ) (sh : List (Lis
               ∙ S .idle j n lj ln;
         }
 
-    -- the events of the search and the init, as one row
-    rows-heap : eventsHeap p (f .events ++ (initialised b chain ∷ [])) h ≡ linkAll p chain heap
-    unfolding eventsHeap eventHeap
-    rows-heap = heap-append p B hd (f .events) (initialised b chain ∷ []) h
-
-    rows-shadow : shadowEvents (f .events ++ (initialised b chain ∷ [])) sh ≡ set shadow b chain
-    unfolding shadowEvents shadowEvent
-    rows-shadow = shadow-append p B hd (f .events) (initialised b chain ∷ []) sh
-
-    rows-book : bookEvents p hd (f .events ++ (initialised b chain ∷ [])) bk ≡ bookEvent p hd (initialised b chain) book
-    unfolding bookEvents
-    rows-book = book-append p B hd (f .events) (initialised b chain ∷ []) bk
-
-    fresh-cellful : Cellful (tablesOf (initBlock p b cell hd (push p list b (f .words))) (set (t .states) b Unmarked) (t .marks)) (set shadow b chain) (start p b)
+    fresh-cellful : Cellful tables (set shadow b chain) (start p b)
     unfolding initBlock setTls setSize setFree
     fresh-cellful =
         let k = init-some b in
@@ -230,20 +214,19 @@ module _ (p : Params) (B : Bounds p) (t : Tables) (h : List ℕ) (sh : List (Lis
         }
 
     fresh-searched : Searched (acquireFresh p hd bin (Fresh (record { 0 = b })) f t)
-    unfolding acquireFresh initBlock setTls setSize setFree isTaken
+    unfolding acquireFresh eventHeap shadowEvent initBlock setTls setSize setFree isTaken
     fresh-searched =
         record {
-          events = events-append p B hd (f .events) (initialised b chain ∷ []) h bk (A .events)
-              (more-events p B hd (initialised b chain) [] heap book refl init-ok (no-events p B hd _ _));
-          inv = rw (rows-heap, rows-shadow, rows-book) init-inv;
+          events = events-behind p B hd (f .events) (initialised b chain) h bk (A .events) refl init-ok;
+          inv = behind p B hd (Inv p B tables) (f .events) (initialised b chain) h sh bk init-inv;
           phase = links .phase ∙ S .phase;
-          result = inr (rw rows-shadow fresh-cellful);
+          result = inr (behind p B hd (λ x y z. Cellful tables y (start p b)) (f .events) (initialised b chain) h sh bk fresh-cellful);
         }
 
-  offered : (offer : Offer) → goodOffer p t offer ≡ true → (f : Found) → Acquired p B (t .states) (t .marks) hd bin h sh bk f → Searched (acquireFresh p hd bin offer f t)
+  offered : (offer : Offer) → goodOffer p t offer ≡ true → (f : Found) → f .at ≡ 0 → On (f .events) (f .words) → Searched (acquireFresh p hd bin offer f t)
   unfolding acquireFresh goodOffer stateOf
-  offered Nothing fine f A = found-searched f A
-  offered (Fresh b) fine f A =
+  offered Nothing fine f e A = found-searched f A (inl e)
+  offered (Fresh b) fine f e A =
       fresh-searched (b .0)
       (ltb-true _ _ (and-left (ltb (b .0) (p .blocks)) (eqb (getD (t .states) (b .0) 0) 0) fine))
       (eqb-true _ _ (and-right (ltb (b .0) (p .blocks)) (eqb (getD (t .states) (b .0) 0) 0) fine)) f A
@@ -251,45 +234,11 @@ module _ (p : Params) (B : Bounds p) (t : Tables) (h : List ℕ) (sh : List (Lis
   -- ---- the whole search
 
   pub find-searched : (offer : Offer) → goodOffer p t offer ≡ true → Searched (findBlock p hd bin offer t)
-  unfolding findBlock localSets
-  find-searched offer fine = go (G .result)
-    where
-      lav : available (localSets hd) bin < 1470
-      lav = rw own (available-numbered (hd - 1) bin (omega arith) low .low)
-
-      lco : consumed (localSets hd) bin < 1470
-      lco = rw own (consumed-numbered (hd - 1) bin (omega arith) low .low)
-
-      g : Popped
-      g = findFreeBlockWith (p .blocks) p (available (localSets hd) bin) (consumed (localSets hd) bin) (t .words)
-
-      G : Skimmed p B (t .states) (t .marks) hd bin h sh bk g
-      G = skim p B (t .states) (t .marks) hd (available (localSets hd) bin) (consumed (localSets hd) bin) lav lco
-          (rw own (available-settled (hd - 1) bin (omega arith) low)) (rw own (consumed-settled (hd - 1) bin (omega arith) low))
-          bin (rw own (available-bin (hd - 1) bin (omega arith) low)) (rw own (consumed-bin (hd - 1) bin (omega arith) low))
-          (p .blocks) (t .words) h sh bk starting
-
-      still : recycleLocalBlocks (p .blocks) p (t .marks) (localSets hd) bin (g .words) ≡ found 0 (g .words)
-      still = recycle-idle (p .blocks) p (t .marks) (localSets hd) bin (g .words) (rw own (G .searching .idle (hd - 1) bin (omega arith) low))
-
-      a : Found
-      a = acquireAbandoned (p .blocks) p (t .marks) hd bin (g .words)
-
-      A : Acquired p B (t .states) (t .marks) hd bin h sh bk a
-      A = acquire p B (t .states) (t .marks) hd bin (hd - 1) low (omega arith) own (p .blocks) (g .words) h sh bk (G .searching)
-
-      nonzero : (x : ℕ) (w : Words) (st : List ℕ) → Ready p B (t .states) (t .marks) hd bin w x → x ≢ 0
-      nonzero x w st r z = some-start p B (r .block) (r .occupied .0) (sym (r .at) ∙ z)
-
-      last : (a .at ≡ 0) ⊎ Ready p B (t .states) (t .marks) hd bin (a .words) (a .at) → Searched (if eqb (a .at) 0 then acquireFresh p hd bin offer a t else inFound a t)
-      last (inl z) = rw (eq-eqb _ _ z) (offered offer fine a A)
-      last (inr r) = rw (ne-eqb _ _ (nonzero (a .at) (a .words) (t .states) r)) (found-searched a A)
-
-      go : (g .at ≡ 0) ⊎ Ready p B (t .states) (t .marks) hd bin (g .words) (g .at) → Searched (findBlock p hd bin offer t)
-      go (inr r) =
-          rw (ne-eqb _ _ (nonzero (g .at) (g .words) (t .states) r))
-          (found-searched (found (g .at) (g .words)) (plain p B (t .states) (t .marks) hd bin (g .at) (g .words) h sh bk (G .searching) (inr r)))
-      go (inl e) = rw (eq-eqb _ _ e, still) (last (A .result))
+  unfolding eventsHeap shadowEvents bookEvents
+  find-searched offer fine =
+      find-keeps p hd bin t On (Gone p B (t .states) (t .marks) hd h sh bk bin)
+      (steps p B (t .states) (t .marks) hd h sh bk bin (hd - 1) low (omega arith) own) Searched offer
+      (λ f e A. offered offer fine f e A) (λ f e A. found-searched f (A .going) (inr (A .ready))) (record { events = no-events p B hd h bk; searching = starting })
 
   -- ---- the plan
 

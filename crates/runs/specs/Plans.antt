@@ -20,8 +20,8 @@ use Rattle.model.specs.Tables.{Words, Tables, setFirst, setLast, setBound, setR
 use Rattle.model.specs.SizeClasses.{alignAllocation}
 use Rattle.model.specs.BlockList.{append, remove, relabel, link}
 use Rattle.model.specs.Block.{Marked, clearBlock}
-use Rattle.model.specs.Events.{Event, released, eventHeap, eventsHeap}
-use Rattle.model.specs.Global.{bindHolder, destroyHolder, abandonBin, abandonBlocks, unmarkedState, prepared, markPlace, Freed, freed, afterRelease, releaseFrom, releaseBlocks, appendTo, releaseBin, releaseHolder, sweepLaterBin, sweepLater, partReleased, allReleased}
+use Rattle.model.specs.Events.{released, eventHeap, eventsHeap}
+use Rattle.model.specs.Global.{bindHolder, destroyHolder, abandonBin, abandonBlocks, unmarkedState, prepared, markPlace, Freed, freed, releaseBlocks, appendTo, releaseBin, releaseHolder, sweepLaterBin, sweepLater, partReleased, allReleased}
 use Rattle.model.specs.Calls.{refusalNumber, Reply, refused, Call, bind, destroy, alloc, prepare, mark, release, sharedRelease, End, says, takes, Plan, refuses, changes, goodObject, mayRelease, releasePlan}
 use Rattle.model.specs.Sound.{stateOf}
 use Rattle.model.specs.Runs.{Cell, Book, aged, bookEvent, bookEvents, bookAnswer, takerOf, frees, entered, hits, unmarked}
@@ -31,9 +31,10 @@ use Rattle.laws.specs.Tables.{Sized, sized-same, kept-lengths}
 use Rattle.laws.specs.Memory as Mem
 use Rattle.laws.specs.Marks.{marked-cleared, length-setMark, length-cleared, bytes-setMark, bytes-cleared, marked-setMark}
 use Rattle.laws.specs.Frame.{LinksOnly, links-refl, append-links, remove-links, each-keeps, FirstsBut, link-list, append-first, append-none}
+use Rattle.laws.specs.Walks.{releasedOne, blocks-keep-any, bins-keep-any, later-keeps-any}
 use Rattle.soundness.specs.Owners.{unswept-numbered, abandon-links, abandon-framed, holder-framed, holder-empties, shared-framed}
 use Rattle.runs.specs.Inv.{Held, Placed, Core, set-cases, release-core, release-unmarked}
-use Rattle.runs.specs.Steps.{shadowEvent, shadowEvents, isTaken, EventOk, EventsOk, no-events, more-events, events-append, heap-append, book-append, shadow-append}
+use Rattle.runs.specs.Steps.{shadowEvent, shadowEvents, isTaken, EventOk, EventsOk, no-events, events-behind, behind}
 use Rattle.runs.specs.Search.{Settled, Idle, available-settled, consumed-settled, unswept-unsettled}
 
 -- no refusal has the number 0
@@ -362,77 +363,31 @@ module _ (p : Params) (B : Bounds p) where
     unfolding bookEvent entered
     old-after b bk old c m = old c (in-filter (λ (x : Cell). not (frees p (released b) x)) c (bk .cells) m .0)
 
-    abbrev From : ℕ → Type 0
-    From k = (l a : ℕ) (w : Words) (st h : List ℕ) (sh : List (List ℕ)) (bk : Book) → Core p (w .free) (w .size) st ms h sh bk → Sized (p .blocks) w
-        → ((c : Cell) → In c (bk .cells) → c .old ≡ true) → Freeing hd ms h sh bk (releaseFrom k p l a w st)
-
     nothing-freed : (w : Words) (st h : List ℕ) (sh : List (List ℕ)) (bk : Book) → Core p (w .free) (w .size) st ms h sh bk → Sized (p .blocks) w
         → ((c : Cell) → In c (bk .cells) → c .old ≡ true) → Freeing hd ms h sh bk (freed w st)
     unfolding eventsHeap shadowEvents bookEvents
     nothing-freed w st h sh bk I z old = record { events = no-events p B hd h bk; core = I; sized = z; old = old }
 
-    -- one block released, and then the rest
-    one-freed : (l b : ℕ) (w : Words) (st h : List ℕ) (sh : List (List ℕ)) (bk : Book) (I : Core p (w .free) (w .size) st ms h sh bk) → Sized (p .blocks) w
-        → ((c : Cell) → In c (bk .cells) → c .old ≡ true) → getD st b 0 ≡ 255 → (f : Freed)
-        → (Core p (clearBlock b (remove p l b w) .free) (clearBlock b (remove p l b w) .size) (set st b 0) ms h (set sh b []) (bookEvent p hd (released b) bk)
-        → Sized (p .blocks) (clearBlock b (remove p l b w)) → ((c : Cell) → In c (bookEvent p hd (released b) bk .cells) → c .old ≡ true)
-        → Freeing hd ms h (set sh b []) (bookEvent p hd (released b) bk) f)
-        → Freeing hd ms h sh bk (afterRelease b f)
-    unfolding isTaken eventsHeap shadowEvents bookEvents eventHeap shadowEvent clearBlock setTls setList setSize setFree setPrev setNext
-    one-freed l b w st h sh bk I z old un f next =
-        let L : LinksOnly w (remove p l b w) = remove-links p l b w (links-refl w) in
-        let F = next
-        (rw (L .free, L .size) (release-core p B (w .free) (w .size) st ms h sh bk I b un hd))
-        (sized-same (simp kept-lengths (L .lengths)) z)
-        (old-after b bk old) in
-        record {
-          events = more-events p B hd (released b) (f .events) h bk refl (released-ok (w .free) (w .size) st h sh bk I b un old) (F .events);
-          core = F .core;
-          sized = F .sized;
-          old = F .old;
-        }
-
-    releases-from : (k : ℕ) → From k
-    unfolding releaseFrom
-    releases-from zero l a w st h sh bk I z old = nothing-freed w st h sh bk I z old
-    releases-from (suc k) l a w st h sh bk I z old = go (ℕ-discrete a 0) (ℕ-discrete (getD st (blockAt p a) 0) 255) (releases-from k l _ _ _ h _ _) (releases-from k l _ w st h sh bk I z old)
-      where
-        b : ℕ
-        b = blockAt p a
-
-        next : ℕ
-        next = getD (w .next) b 0
-
-        go : Dec (a ≡ 0) → Dec (getD st b 0 ≡ 255)
-            → (Core p (clearBlock b (remove p l b w) .free) (clearBlock b (remove p l b w) .size) (set st b 0) ms h (set sh b []) (bookEvent p hd (released b) bk)
-            → Sized (p .blocks) (clearBlock b (remove p l b w)) → ((c : Cell) → In c (bookEvent p hd (released b) bk .cells) → c .old ≡ true)
-            → Freeing hd ms h (set sh b []) (bookEvent p hd (released b) bk) (releaseFrom k p l next (clearBlock b (remove p l b w)) (set st b 0)))
-            → Freeing hd ms h sh bk (releaseFrom k p l next w st)
-            → Freeing hd ms h sh bk
-            (if eqb a 0 then freed w st
-            else if eqb (getD st b 0) 255
-            then afterRelease b (releaseFrom k p l next (clearBlock b (remove p l b w)) (set st b 0))
-            else releaseFrom k p l next w st)
-        go (yes e) d f g = rw (eq-eqb _ _ e) (nothing-freed w st h sh bk I z old)
-        go (no n) (yes u) f g =
-            rw (ne-eqb _ _ n, eq-eqb _ _ u) (one-freed l b w st h sh bk I z old u (releaseFrom k p l next (clearBlock b (remove p l b w)) (set st b 0)) f)
-        go (no n) (no u) f g = rw (ne-eqb _ _ n, ne-eqb _ _ u) g
-
     -- ---- rows of releases and appends
 
     module _ (h : List ℕ) (sh : List (List ℕ)) (bk : Book) where
-      pub release-freeing : (l : ℕ) (f : Freed) → Freeing hd ms h sh bk f → Freeing hd ms h sh bk (releaseBlocks p l f)
-      unfolding releaseBlocks
-      release-freeing l f F =
-          let G : Freeing hd ms (eventsHeap p (f .events) h) (shadowEvents (f .events) sh) (bookEvents p hd (f .events) bk) (releaseFrom (p .blocks) p l (getD (f .words .first) l 0) (f .words) (f .states)) =
-          releases-from (p .blocks) l (getD (f .words .first) l 0) (f .words) (f .states) (eventsHeap p (f .events) h) (shadowEvents (f .events) sh) (bookEvents p hd (f .events) bk) (F .core) (F .sized) (F .old) in
-          let es : List Event = releaseFrom (p .blocks) p l (getD (f .words .first) l 0) (f .words) (f .states) .events in
+      one-freed : (l b : ℕ) (f : Freed) → Freeing hd ms h sh bk f → getD (f .states) b 0 ≡ 255 → Freeing hd ms h sh bk (releasedOne p l b f)
+      unfolding isTaken eventHeap shadowEvent clearBlock setTls setList setSize setFree setPrev setNext
+      one-freed l b f F un =
+          let L : LinksOnly (f .words) (remove p l b (f .words)) = remove-links p l b (f .words) (links-refl (f .words)) in
           record {
-            events = events-append p B hd (f .events) es h bk (F .events) (G .events);
-            core = rw (heap-append p B hd (f .events) es h, shadow-append p B hd (f .events) es sh, book-append p B hd (f .events) es bk) (G .core);
-            sized = G .sized;
-            old = rw (book-append p B hd (f .events) es bk) (G .old);
+            events = events-behind p B hd (f .events) (released b) h bk (F .events) refl (released-ok (f .words .free) (f .words .size) (f .states) _ _ _ (F .core) b un (F .old));
+            core = behind p B hd (Core p (R .free) (R .size) (set (f .states) b 0) ms) (f .events) (released b) h sh bk
+                (rw (L .free, L .size) (release-core p B (f .words .free) (f .words .size) (f .states) ms _ _ _ (F .core) b un hd));
+            sized = sized-same (simp kept-lengths (L .lengths)) (F .sized);
+            old = behind p B hd (λ g c k. (d : Cell) → In d (k .cells) → d .old ≡ true) (f .events) (released b) h sh bk (old-after b _ (F .old));
           }
+        where
+          R : Words
+          R = clearBlock b (remove p l b (f .words))
+
+      pub release-freeing : (l : ℕ) (f : Freed) → Freeing hd ms h sh bk f → Freeing hd ms h sh bk (releaseBlocks p l f)
+      release-freeing l = blocks-keep-any p l (Freeing hd ms h sh bk) (λ b f F un. one-freed l b f F un)
 
       pub append-freeing : (l o : ℕ) (f : Freed) → Freeing hd ms h sh bk f → Freeing hd ms h sh bk (appendTo p l o f)
       unfolding appendTo
@@ -447,18 +402,10 @@ module _ (p : Params) (B : Bounds p) where
 
       -- the holder's lists, and the abandoned ones
       holder-freeing : (owner : ℕ) (f : Freed) → Freeing hd ms h sh bk f → Freeing hd ms h sh bk (eachBelow bins (releaseBin p owner) f)
-      unfolding releaseBin
-      holder-freeing owner f F = each-keeps (Freeing hd ms h sh bk) bins (releaseBin p owner)
-          (λ bin low g G. append-freeing (unswept owner bin) (consumed owner bin) _ (release-freeing (consumed owner bin) _
-          (append-freeing (unswept owner bin) (available owner bin) _ (release-freeing (available owner bin) g G)))) f F
+      holder-freeing = bins-keep-any p (Freeing hd ms h sh bk) release-freeing append-freeing
 
       shared-freeing : (f : Freed) → Freeing hd ms h sh bk f → Freeing hd ms h sh bk (eachBelow bins (sweepLaterBin p) f)
-      unfolding sweepLaterBin
-      shared-freeing f F = each-keeps (Freeing hd ms h sh bk) bins (sweepLaterBin p)
-          (λ bin low g G. append-freeing (unswept abandoned bin) (consumed abandoned bin) _
-          (append-freeing (unswept abandoned bin) (available abandoned bin) _
-          (release-freeing (unswept abandoned bin) _
-          (release-freeing (consumed abandoned bin) _ (release-freeing (available abandoned bin) g G))))) f F
+      shared-freeing = later-keeps-any p (Freeing hd ms h sh bk) release-freeing append-freeing
 
   -- ---- destroy: available and consumed blocks go over; there are no unswept ones
 

@@ -1,33 +1,34 @@
 -- The search of an alloc keeps the invariant, and what it finds is a block with a free cell that waits for no sweep.
 use mathlib.Core.Path.{_≡_, refl, sym, ap, _∙_, subst}
-use mathlib.Core.Logic.{_≢_, _⊎_, inl, inr}
+use mathlib.Core.Logic.{_≢_, ⊎-elim}
 use mathlib.Core.Bool.{Bool, true, false, _&&_}
-use mathlib.Core.List.{List}
-use Prim.Native.Nat.{ℕ, zero, suc, _-_, _*_, _/_, _%_, _≤_, _<_}
+use mathlib.Core.List.{List, [], _∷_, _++_}
+use Prim.Native.Nat.{ℕ, _-_, _*_, _/_, _%_, _≤_, _<_}
 use native.Mathlib.Omega.{arith}
 use native.Mathlib.Decide.{ℕ-discrete}
 use lib.Dec.{eqb}
 use lib.ListN.{getD, set}
 use lib.Seq.{getD-set-other}
-use borrow.Author.Tests.{eqb-true, eq-eqb, ne-eqb}
+use borrow.Author.Tests.{eqb-true}
 use Rattle.model.specs.declared.Params.{Params}
-use Rattle.model.specs.Base.{if_then_else_, In}
-use Rattle.model.specs.Params.{start, blockAt, listWord, listOf, available, unswept, consumed, localSets, abandoned}
+use Rattle.model.specs.Base.{In}
+use Rattle.model.specs.Params.{start, blockAt, listWord, listOf, available, unswept, consumed, localSets}
 use Rattle.model.specs.Tables.{Words, setFree, setTls}
 use Rattle.model.specs.SizeClasses.{cellBytes}
-use Rattle.model.specs.BlockList.{Popped, popped, push, pop}
+use Rattle.model.specs.BlockList.{Popped, push, pop}
 use Rattle.model.specs.Block.{linkAll, sweepChain, sweptWords}
-use Rattle.model.specs.Events.{eventHeap, eventsHeap}
-use Rattle.model.specs.FreeListAllocator.{findFreeBlockWith, Found, found, after, sweepOf, acquireAbandoned}
+use Rattle.model.specs.Events.{Event, eventHeap, eventsHeap}
+use Rattle.model.specs.FreeListAllocator.{sweepOf}
 use Rattle.model.specs.Runs.{Cell, Book, bookEvent, bookEvents, frees, entered, hits, unmarked}
 use Rattle.laws.specs.Base.{and-left}
 use Rattle.laws.specs.Tables.{Sized, sized-same, kept-lengths}
 use Rattle.laws.specs.Params.{Bounds, some-start, blockAt-start}
 use Rattle.laws.specs.Frame.{LinksOnly, links-refl, push-links, pop-links, FirstsBut, pop-firsts, push-first}
+use Rattle.laws.specs.Walks.{Files, Steps}
 use Rattle.soundness.specs.Owners.{available-numbered, unswept-numbered, consumed-numbered}
-use Rattle.runs.specs.Links.{Occupied, Linked, Loose, linked-same, loose-same, Pop, Empty, pop-cases, Pushed, push-pushed}
+use Rattle.runs.specs.Links.{Occupied, Linked, Loose, linked-same, loose-same, Pop, pop-cases, Pushed, push-pushed}
 use Rattle.runs.specs.Inv.{Core, was-held, sweep-core, sweep-bytes, sweep-frees}
-use Rattle.runs.specs.Steps.{shadowEvent, shadowEvents, isTaken, EventOk, EventsOk, no-events, more-events, same-bytes}
+use Rattle.runs.specs.Steps.{shadowEvent, shadowEvents, isTaken, EventOk, EventsOk, events-behind, behind, same-bytes}
 
 -- ---- list words
 
@@ -215,217 +216,158 @@ module _ (p : Params) (B : Bounds p) (st ms : List ℕ) (hd : ℕ) where
           strike : (c : Cell) → In c (bk .cells) → frees p (sweepOf p ms b w) c ≡ (hits p (sweepOf p ms b w) c && unmarked p bk c)
           strike = sweep-frees p B (w .free) (w .size) st ms h sh bk (S .core) b (ob .0) chain (ob .1) (S .wide b ob) refl hd
 
-  -- ---- skimming the available list
+  -- ---- the search on its way: es happened so far
 
-  pub record Skimmed (bin : ℕ) (h : List ℕ) (sh : List (List ℕ)) (bk : Book) (g : Popped) : Type 0 where
-    pub searching : Searching (g .words) h sh bk
-    pub result : (g .at ≡ 0) ⊎ Ready bin (g .words) (g .at)
+  module _ (h : List ℕ) (sh : List (List ℕ)) (bk : Book) where
+    pub record Going (es : List Event) (w : Words) : Type 0 where
+      pub events : EventsOk p B hd es h bk
+      pub searching : Searching w (eventsHeap p es h) (shadowEvents es sh) (bookEvents p hd es bk)
 
-  module _ (av full : ℕ) (lav : av < 1470) (lfull : full < 1470) (sav : Settled (listWord av)) (sfull : Settled (listWord full))
-      (bin : ℕ) (bav : wordBin (listWord av) ≡ bin) (bfull : wordBin (listWord full) ≡ bin) where
-    pub skim : (k : ℕ) (w : Words) (h : List ℕ) (sh : List (List ℕ)) (bk : Book) → Searching w h sh bk
-        → Skimmed bin h sh bk (findFreeBlockWith k p av full w)
-    unfolding findFreeBlockWith
-    skim zero w h sh bk S = record { searching = S; result = inl refl }
-    skim (suc k) w h sh bk S = go (pop-cases p st B w (S .lengths) (S .linked) av lav)
-        (λ b P. skim k (push p full b (P .words)) h sh bk (pushed-searching (P .words) h sh bk (popped-searching w h sh bk S av b P) b full (P .popping .occupied) (P .popping .loose) lfull sfull bin (popped-size w h sh bk S av b bin P bav) bfull))
-      where
-        go : Empty p st B w (S .lengths) (S .linked) av ⊎ ((b : ℕ) × Pop p st B w (S .lengths) (S .linked) av b)
-            → ((b : ℕ) (P : Pop p st B w (S .lengths) (S .linked) av b) → Skimmed bin h sh bk (findFreeBlockWith k p av full (push p full b (P .words))))
-            → Skimmed bin h sh bk (if eqb (getD (w .first) av 0) 0 then popped 0 w
-            else if eqb (getD (w .free) (blockAt p (getD (w .first) av 0)) 0) 0 then findFreeBlockWith k p av full (push p full (blockAt p (getD (w .first) av 0)) (pop p av w .words))
-            else popped (getD (w .first) av 0) w)
-        go (inl E) ih = rw (eq-eqb _ _ (E .first)) (record { searching = S; result = inl refl })
-        go (inr z) ih =
-            rw (
-              z .1 .first,
-              ne-eqb (start p (z .0)) 0 (some-start p B (z .0) (z .1 .popping .occupied .0)),
-              blockAt-start p B (z .0) (z .1 .popping .occupied .0),
-              z .1 .is,
-            )
-            (fork (z .0) (z .1) (ih (z .0) (z .1)) (ℕ-discrete (getD (w .free) (z .0) 0) 0))
-          where
-            fork : (b : ℕ) (P : Pop p st B w (S .lengths) (S .linked) av b) → Skimmed bin h sh bk (findFreeBlockWith k p av full (push p full b (P .words)))
-                → Dec (getD (w .free) b 0 ≡ 0)
-                → Skimmed bin h sh bk (if eqb (getD (w .free) b 0) 0 then findFreeBlockWith k p av full (push p full b (P .words)) else popped (start p b) w)
-            fork b P next (yes e) = rw (eq-eqb _ _ e) next
-            fork b P next (no f) =
-                rw (ne-eqb _ _ f) (record {
-                  searching = S;
-                  result = inr (record {
-                    block = b;
-                    occupied = P .popping .occupied;
-                    at = refl;
-                    free = f;
-                    settled = subst Settled (sym (P .popping .word)) sav;
-                    size = S .class b (P .popping .occupied) ∙ ap (λ (x : ℕ). cellBytes p (wordBin x)) (P .popping .word) ∙ ap (cellBytes p) bav;
-                  });
-                })
+    -- and at its end
+    pub record Gone (bin : ℕ) (es : List Event) (a : ℕ) (w : Words) : Type 0 where
+      pub going : Going es w
+      pub ready : Ready bin w a
 
-  -- ---- blocks taken over from abandoned
+    -- the holder's sets are 3j, 3j + 1, 3j + 2
+    module _ (bin j : ℕ) (low : bin < 49) (few : j < 8) (own : localSets hd ≡ 3 * j) where
+      av-low : available (localSets hd) bin < 1470
+      av-low = rw own (available-numbered j bin (omega arith) low .low)
 
-  pub record Acquired (bin : ℕ) (h : List ℕ) (sh : List (List ℕ)) (bk : Book) (f : Found) : Type 0 where
-    pub events : EventsOk p B hd (f .events) h bk
-    pub searching : Searching (f .words) (eventsHeap p (f .events) h) (shadowEvents (f .events) sh) (bookEvents p hd (f .events) bk)
-    pub result : (f .at ≡ 0) ⊎ Ready bin (f .words) (f .at)
+      co-low : consumed (localSets hd) bin < 1470
+      co-low = rw own (consumed-numbered j bin (omega arith) low .low)
 
-  -- nothing happened to cells
-  pub plain : (bin a : ℕ) (w : Words) (h : List ℕ) (sh : List (List ℕ)) (bk : Book) → Searching w h sh bk → (a ≡ 0) ⊎ Ready bin w a → Acquired bin h sh bk (found a w)
-  unfolding eventsHeap shadowEvents bookEvents
-  plain bin a w h sh bk S r = record { events = no-events p B hd h bk; searching = S; result = r }
+      av-settled : Settled (listWord (available (localSets hd) bin))
+      av-settled = rw own (available-settled j bin (omega arith) low)
 
-  -- a sweep happened first
-  first-swept : (bin : ℕ) (w : Words) (h : List ℕ) (sh : List (List ℕ)) (bk : Book) (S : Searching w h sh bk) (b : ℕ) (f : Found)
-      → EventOk p B hd (sweepOf p ms b w) h bk
-      → Acquired bin (eventHeap p (sweepOf p ms b w) h) (shadowEvent (sweepOf p ms b w) sh) (bookEvent p hd (sweepOf p ms b w) bk) f
-      → Acquired bin h sh bk (after (sweepOf p ms b w) f)
-  unfolding eventsHeap shadowEvents bookEvents isTaken
-  first-swept bin w h sh bk S b f o A =
-      record {
-        events = more-events p B hd (sweepOf p ms b w) (f .events) h bk refl o (A .events);
-        searching = A .searching;
-        result = A .result;
-      }
+      co-settled : Settled (listWord (consumed (localSets hd) bin))
+      co-settled = rw own (consumed-settled j bin (omega arith) low)
 
-  -- the two lists of abandoned that are tried, and the holder's own (its sets are 3j, 3j + 1, 3j + 2)
-  module _ (bin j : ℕ) (low : bin < 49) (few : j ≤ 9) (own : localSets hd ≡ 3 * j) where
-    av : ℕ
-    av = available (localSets hd) bin
+      av-bin : wordBin (listWord (available (localSets hd) bin)) ≡ bin
+      av-bin = rw own (available-bin j bin (omega arith) low)
 
-    co : ℕ
-    co = consumed (localSets hd) bin
+      co-bin : wordBin (listWord (consumed (localSets hd) bin)) ≡ bin
+      co-bin = rw own (consumed-bin j bin (omega arith) low)
 
-    av-low : available (localSets hd) bin < 1470
-    av-low = rw own (available-numbered j bin (omega arith) low .low)
-
-    co-low : consumed (localSets hd) bin < 1470
-    co-low = rw own (consumed-numbered j bin (omega arith) low .low)
-
-    av-settled : Settled (listWord (available (localSets hd) bin))
-    av-settled = rw own (available-settled j bin few low)
-
-    co-settled : Settled (listWord (consumed (localSets hd) bin))
-    co-settled = rw own (consumed-settled j bin few low)
-
-    av-bin : wordBin (listWord (available (localSets hd) bin)) ≡ bin
-    av-bin = rw own (available-bin j bin few low)
-
-    co-bin : wordBin (listWord (consumed (localSets hd) bin)) ≡ bin
-    co-bin = rw own (consumed-bin j bin few low)
-
-    -- the end of a round, after the popped unswept block
-    abbrev unsweptPart : ℕ → Popped → Found
-    unsweptPart k g =
-        if eqb (g .at) 0 then found 0 (g .words)
-        else after (sweepOf p ms (blockAt p (g .at)) (setTls (blockAt p (g .at)) hd (g .words)))
-        (if eqb (getD (sweptWords p ms (blockAt p (g .at)) (setTls (blockAt p (g .at)) hd (g .words)) .free) (blockAt p (g .at)) 0) 0
-        then acquireAbandoned k p ms hd bin
-        (push p (consumed (localSets hd) bin) (blockAt p (g .at)) (sweptWords p ms (blockAt p (g .at)) (setTls (blockAt p (g .at)) hd (g .words))))
-        else found (g .at)
-        (push p (available (localSets hd) bin) (blockAt p (g .at)) (sweptWords p ms (blockAt p (g .at)) (setTls (blockAt p (g .at)) hd (g .words)))))
-
-    Round : ℕ → Type 0
-    Round k = (w : Words) (h : List ℕ) (sh : List (List ℕ)) (bk : Book) → Searching w h sh bk → Acquired bin h sh bk (acquireAbandoned k p ms hd bin w)
-
-    -- a block that is no link's goes to the holder: to available if it has a free cell, else to consumed and the search goes on
-    module _ (k : ℕ) (ih : Round k) (w : Words) (h : List ℕ) (sh : List (List ℕ)) (bk : Book) (S : Searching w h sh bk)
-        (b : ℕ) (ob : Occupied p st b) (loose : Loose p st w b) (cell : getD (w .size) b 0 ≡ cellBytes p bin) where
-      settle : Acquired bin h sh bk
-          (if eqb (getD (w .free) b 0) 0 then acquireAbandoned k p ms hd bin (push p (consumed (localSets hd) bin) b w)
-          else found (start p b) (push p (available (localSets hd) bin) b w))
-      unfolding Round
-      settle = go (ℕ-discrete (getD (w .free) b 0) 0)
+      -- a block that is no link's goes to the holder: to available if it has a free cell, else to consumed
+      files : (es : List Event) (w : Words) (b : ℕ) → Going es w → Occupied p st b → Loose p st w b → getD (w .size) b 0 ≡ cellBytes p bin
+          → Files p ms hd bin Going (Gone bin) es (start p b) w
+      files es w b G ob loose cell =
+          let S = G .searching in
+          record {
+            full = λ q. rw is (record { events = G .events; searching = pushed-searching w _ _ _ S b _ ob loose co-low co-settled bin cell co-bin });
+            has = λ f. rw is (record {
+              going = record { events = G .events; searching = pushed-searching w _ _ _ S b _ ob loose av-low av-settled bin cell av-bin };
+              ready = pushed-ready w _ _ _ S b _ ob loose av-low av-settled bin cell av-bin (rw is at f);
+            });
+          }
         where
-          go : Dec (getD (w .free) b 0 ≡ 0) → Acquired bin h sh bk
-              (if eqb (getD (w .free) b 0) 0 then acquireAbandoned k p ms hd bin (push p (consumed (localSets hd) bin) b w)
-              else found (start p b) (push p (available (localSets hd) bin) b w))
-          go (yes e) =
-              rw (eq-eqb _ _ e)
-              (ih (push p (consumed (localSets hd) bin) b w) h sh bk
-              (pushed-searching w h sh bk S b (consumed (localSets hd) bin) ob loose co-low co-settled bin cell co-bin))
-          go (no f) =
-              rw (ne-eqb _ _ f)
-              (plain bin (start p b) (push p (available (localSets hd) bin) b w) h sh bk
-              (pushed-searching w h sh bk S b (available (localSets hd) bin) ob loose av-low av-settled bin cell av-bin)
-              (inr (pushed-ready w h sh bk S b (available (localSets hd) bin) ob loose av-low av-settled bin cell av-bin f)))
+          is : blockAt p (start p b) ≡ b
+          is = blockAt-start p B b (ob .0)
 
-    tls-loose : (w : Words) (b v c : ℕ) → Loose p st w c → Loose p st (setTls b v w) c
-    unfolding setTls
-    tls-loose w b v c L = loose-same p st _ refl L
+      tls-loose : (w : Words) (b v c : ℕ) → Loose p st w c → Loose p st (setTls b v w) c
+      unfolding setTls
+      tls-loose w b v c L = loose-same p st _ refl L
 
-    tls-size : (w : Words) (b v c : ℕ) → getD (setTls b v w .size) c 0 ≡ getD (w .size) c 0
-    unfolding setTls
-    tls-size w b v c = refl
+      tls-size : (w : Words) (b v c : ℕ) → getD (setTls b v w .size) c 0 ≡ getD (w .size) c 0
+      unfolding setTls
+      tls-size w b v c = refl
 
-    swept-size : (w : Words) (b c : ℕ) → getD (sweptWords p ms b w .size) c 0 ≡ getD (w .size) c 0
-    unfolding sweptWords setFree
-    swept-size w b c = refl
+      swept-size : (w : Words) (b c : ℕ) → getD (sweptWords p ms b w .size) c 0 ≡ getD (w .size) c 0
+      unfolding sweptWords setFree
+      swept-size w b c = refl
 
-    swept-loose : (w : Words) (b c : ℕ) → Loose p st w c → Loose p st (sweptWords p ms b w) c
-    unfolding sweptWords setFree
-    swept-loose w b c L = loose-same p st _ refl L
+      swept-loose : (w : Words) (b c : ℕ) → Loose p st w c → Loose p st (sweptWords p ms b w) c
+      unfolding sweptWords setFree
+      swept-loose w b c L = loose-same p st _ refl L
 
-    -- an available block of abandoned
-    module _ (k : ℕ) (ih : Round k) (w : Words) (h : List ℕ) (sh : List (List ℕ)) (bk : Book) (S : Searching w h sh bk) where
-      take-available : (b : ℕ) (P : Pop p st B w (S .lengths) (S .linked) (available abandoned bin) b) → Acquired bin h sh bk
-          (if eqb (getD (setTls b hd (P .words) .free) b 0) 0
-          then acquireAbandoned k p ms hd bin (push p (consumed (localSets hd) bin) b (setTls b hd (P .words)))
-          else found (start p b) (push p (available (localSets hd) bin) b (setTls b hd (P .words))))
-      take-available b P =
-          settle k ih (setTls b hd (P .words)) h sh bk
-          (tls-searching (P .words) h sh bk (popped-searching w h sh bk S (available abandoned bin) b P) b hd)
-          b (P .popping .occupied) (tls-loose (P .words) b hd b (P .popping .loose))
-          (tls-size (P .words) b hd b ∙ popped-size w h sh bk S (available abandoned bin) b bin P (available-bin 8 bin (omega arith) low))
+      module _ (es : List Event) (w : Words) (G : Going es w) where
+        S : Searching w (eventsHeap p es h) (shadowEvents es sh) (bookEvents p hd es bk)
+        S = G .searching
 
-      -- an unswept block of abandoned: its list word says that its cells are old
-      take-unswept : (b : ℕ) (P : Pop p st B w (S .lengths) (S .linked) (unswept abandoned bin) b) → Acquired bin h sh bk
-          (after (sweepOf p ms b (setTls b hd (P .words)))
-          (if eqb (getD (sweptWords p ms b (setTls b hd (P .words)) .free) b 0) 0
-          then acquireAbandoned k p ms hd bin (push p (consumed (localSets hd) bin) b (sweptWords p ms b (setTls b hd (P .words))))
-          else found (start p b) (push p (available (localSets hd) bin) b (sweptWords p ms b (setTls b hd (P .words))))))
-      take-unswept b P =
-          first-swept bin W h sh bk T b _ (swept-ok W h sh bk T b ob aged)
-          (settle k ih (sweptWords p ms b W) (eventHeap p (sweepOf p ms b W) h) (shadowEvent (sweepOf p ms b W) sh) (bookEvent p hd (sweepOf p ms b W) bk)
-          (swept-searching W h sh bk T b ob aged) b ob (swept-loose W b b (tls-loose (P .words) b hd b (P .popping .loose)))
-          (swept-size W b b ∙ tls-size (P .words) b hd b ∙ popped-size w h sh bk S (unswept abandoned bin) b bin P (unswept-bin 8 bin (omega arith) low)))
-        where
+        -- the head of a list
+        abbrev At : ℕ → ℕ → Type 0
+        At l b = Pop p st B w (S .lengths) (S .linked) l b
+
+        head-of : (l : ℕ) → l < 1470 → getD (w .first) l 0 ≢ 0 → (b : ℕ) × At l b
+        head-of l ll some = ⊎-elim (λ E. absurd (some (E .first))) (λ z. z) (pop-cases p st B w (S .lengths) (S .linked) l ll)
+
+        module _ (l b : ℕ) (P : At l b) where
+          is-head : blockAt p (getD (w .first) l 0) ≡ b
+          is-head = ap (blockAt p) (P .first) ∙ blockAt-start p B b (P .popping .occupied .0)
+
+          move-full : wordBin (listWord l) ≡ bin
+              → Going es (push p (consumed (localSets hd) bin) (blockAt p (getD (w .first) l 0)) (pop p l w .words))
+          move-full e =
+              rw (is-head, P .is) (record {
+                events = G .events;
+                searching = pushed-searching (P .words) _ _ _ (popped-searching w _ _ _ S l b P) b _ (P .popping .occupied) (P .popping .loose) co-low co-settled bin
+                    (popped-size w _ _ _ S l b bin P e) co-bin;
+              })
+
+          see : wordBin (listWord l) ≡ bin → Settled (listWord l) → getD (w .free) (blockAt p (getD (w .first) l 0)) 0 ≢ 0 → Gone bin es (getD (w .first) l 0) w
+          see e s f =
+              record {
+                going = G;
+                ready = record {
+                  block = b;
+                  occupied = P .popping .occupied;
+                  at = P .first;
+                  free = rw is-head at f;
+                  settled = subst Settled (sym (P .popping .word)) s;
+                  size = S .class b (P .popping .occupied) ∙ ap (λ (x : ℕ). cellBytes p (wordBin x)) (P .popping .word) ∙ ap (cellBytes p) e;
+                };
+              }
+
+          -- it becomes the holder's
           W : Words
           W = setTls b hd (P .words)
 
-          T : Searching W h sh bk
-          T = tls-searching (P .words) h sh bk (popped-searching w h sh bk S (unswept abandoned bin) b P) b hd
+          T : Searching W (eventsHeap p es h) (shadowEvents es sh) (bookEvents p hd es bk)
+          unfolding W
+          T = tls-searching (P .words) _ _ _ (popped-searching w _ _ _ S l b P) b hd
 
-          ob : Occupied p st b
-          ob = P .popping .occupied
+          take-over : wordBin (listWord l) ≡ bin
+              → Files p ms hd bin Going (Gone bin) es (getD (w .first) l 0) (setTls (blockAt p (getD (w .first) l 0)) hd (pop p l w .words))
+          unfolding W
+          take-over e =
+              rw (is-head, P .is, P .first)
+              (files es W b (record { events = G .events; searching = T }) (P .popping .occupied) (tls-loose (P .words) b hd b (P .popping .loose))
+              (tls-size (P .words) b hd b ∙ popped-size w _ _ _ S l b bin P e))
 
-          aged : (c : Cell) → In c (bk .cells) → blockAt p (c .start) ≡ b → c .old ≡ true
-          aged c m e = go (c .old) refl
+          -- and is swept: its list word says that its cells are old
+          take-swept : wordBin (listWord l) ≡ bin → (Settled (listWord l) → ⊥)
+              → let u : Words = setTls (blockAt p (getD (w .first) l 0)) hd (pop p l w .words) in
+              Files p ms hd bin Going (Gone bin) (es ++ (sweepOf p ms (blockAt p (getD (w .first) l 0)) u ∷ [])) (getD (w .first) l 0)
+              (sweptWords p ms (blockAt p (getD (w .first) l 0)) u)
+          unfolding W isTaken
+          take-swept e un =
+              rw (is-head, P .is, P .first)
+              (files _ (sweptWords p ms b W) b
+              (record {
+                events = events-behind p B hd es (sweepOf p ms b W) h bk (G .events) refl (swept-ok W _ _ _ T b (P .popping .occupied) aged);
+                searching = behind p B hd (Searching (sweptWords p ms b W)) es (sweepOf p ms b W) h sh bk (swept-searching W _ _ _ T b (P .popping .occupied) aged);
+              })
+              (P .popping .occupied) (swept-loose W b b (tls-loose (P .words) b hd b (P .popping .loose)))
+              (swept-size W b b ∙ tls-size (P .words) b hd b ∙ popped-size w _ _ _ S l b bin P e))
             where
-              go : (t : Bool) → c .old ≡ t → c .old ≡ true
-              go true o = o
-              go false o =
-                  absurd (unswept-unsettled 8 bin (omega arith) low
-                  (subst Settled (ap (λ (x : ℕ). getD (w .list) x 0) e ∙ P .popping .word) (S .young c m o)))
+              aged : (c : Cell) → In c (bookEvents p hd es bk .cells) → blockAt p (c .start) ≡ b → c .old ≡ true
+              aged c m q = go (c .old) refl
+                where
+                  go : (t : Bool) → c .old ≡ t → c .old ≡ true
+                  go true o = o
+                  go false o = absurd (un (subst Settled (ap (λ (x : ℕ). getD (w .list) x 0) q ∙ P .popping .word) (S .young c m o)))
 
-      next-round : Acquired bin h sh bk (acquireAbandoned (suc k) p ms hd bin w)
-      unfolding acquireAbandoned
-      next-round = go (pop-cases p st B w (S .lengths) (S .linked) (available abandoned bin) (available-numbered 8 bin (omega arith) low .low))
-        where
-          go : Empty p st B w (S .lengths) (S .linked) (available abandoned bin) ⊎ ((b : ℕ) × Pop p st B w (S .lengths) (S .linked) (available abandoned bin) b)
-              → Acquired bin h sh bk (acquireAbandoned (suc k) p ms hd bin w)
-          go (inr z) =
-              rw (z .1 .is, ne-eqb (start p (z .0)) 0 (some-start p B (z .0) (z .1 .popping .occupied .0)), blockAt-start p B (z .0) (z .1 .popping .occupied .0))
-              (take-available (z .0) (z .1))
-          go (inl E) = rw (E .is) (unsw (pop-cases p st B w (S .lengths) (S .linked) (unswept abandoned bin) (unswept-numbered 8 bin (omega arith) low .low)))
-            where
-              unsw : Empty p st B w (S .lengths) (S .linked) (unswept abandoned bin) ⊎ ((b : ℕ) × Pop p st B w (S .lengths) (S .linked) (unswept abandoned bin) b)
-                  → Acquired bin h sh bk (unsweptPart k (pop p (unswept abandoned bin) w))
-              unsw (inl F) = rw (F .is) (plain bin 0 w h sh bk S (inl refl))
-              unsw (inr z) =
-                  rw (z .1 .is, ne-eqb (start p (z .0)) 0 (some-start p B (z .0) (z .1 .popping .occupied .0)), blockAt-start p B (z .0) (z .1 .popping .occupied .0))
-                  (take-unswept (z .0) (z .1))
-
-    pub acquire : (k : ℕ) (w : Words) (h : List ℕ) (sh : List (List ℕ)) (bk : Book) → Searching w h sh bk → Acquired bin h sh bk (acquireAbandoned k p ms hd bin w)
-    unfolding acquireAbandoned Round
-    acquire zero w h sh bk S = plain bin 0 w h sh bk S (inl refl)
-    acquire (suc k) w h sh bk S = next-round k (acquire k) w h sh bk S
+      -- every step keeps the invariant
+      pub steps : Steps p ms hd bin Going (Gone bin)
+      steps =
+          record {
+            moved = λ es w G some q. let z = head-of es w G _ av-low some in move-full es w G _ (z .0) (z .1) av-bin;
+            seen = λ es w G some f. let z = head-of es w G _ av-low some in see es w G _ (z .0) (z .1) av-bin av-settled f;
+            recycled = λ es w G some. absurd (some (rw own (G .searching .idle j bin few low)));
+            over = λ es w G some.
+                let z = head-of es w G _ (available-numbered 8 bin (omega arith) low .low) some in
+                take-over es w G _ (z .0) (z .1) (available-bin 8 bin (omega arith) low);
+            swept = λ es w G none some.
+                let z = head-of es w G _ (unswept-numbered 8 bin (omega arith) low .low) some in
+                take-swept es w G _ (z .0) (z .1) (unswept-bin 8 bin (omega arith) low) (unswept-unsettled 8 bin (omega arith) low);
+          }

@@ -102,6 +102,18 @@ module _ (p : Params) (B : Bounds p) (hd : ℕ) where
   shadow-append [] fs sh = refl
   shadow-append (e ∷ es) fs sh = shadow-append es fs (shadowEvent e sh)
 
+  -- one event behind others
+  pub events-behind : (es : List Event) (e : Event) (h : List ℕ) (bk : Book) → EventsOk es h bk → isTaken e ≡ false
+      → EventOk e (eventsHeap p es h) (bookEvents p hd es bk) → EventsOk (es ++ (e ∷ [])) h bk
+  events-behind es e h bk o q r = events-append es (e ∷ []) h bk o (more-events e [] _ _ q r (no-events _ _))
+
+  pub behind : (P : List ℕ → List (List ℕ) → Book → Type 0) (es : List Event) (e : Event) (h : List ℕ) (sh : List (List ℕ)) (bk : Book)
+      → P (eventHeap p e (eventsHeap p es h)) (shadowEvent e (shadowEvents es sh)) (bookEvent p hd e (bookEvents p hd es bk))
+      → P (eventsHeap p (es ++ (e ∷ [])) h) (shadowEvents (es ++ (e ∷ [])) sh) (bookEvents p hd (es ++ (e ∷ [])) bk)
+  unfolding eventsHeap shadowEvents bookEvents
+  behind P [] e h sh bk r = r
+  behind P (d ∷ es) e h sh bk r = behind P es e (eventHeap p d h) (shadowEvent d sh) (bookEvent p hd d bk) r
+
   -- ---- the two clauses of demand 3 that speak of events: of a plan's events, and of these and the cell taken at the end
 
   pub events-lost : (es fs : List Event) (h : List ℕ) (bk : Book) → EventsOk es h bk → LostExactly p hd fs (bookEvents p hd es bk) → LostExactly p hd (es ++ fs) bk

@@ -2,15 +2,15 @@
 -- but for this block, which is on no list), perhaps gets a new free head or holder, and is then filed.
 -- Assumes nothing.
 use mathlib.Core.Path.{_≡_, refl, sym, ap, _∙_, subst}
-use mathlib.Core.Logic.{_≢_, _⊎_, inl, inr, ⊎-elim}
+use mathlib.Core.Logic.{_≢_, inl, inr, ⊎-elim}
 use mathlib.Core.Bool.{Bool, true, false, _||_}
 use mathlib.Core.List.{List, [], _∷_, headD}
-use Prim.Native.Nat.{ℕ, zero, suc, _-_, _%_, _<_, _≤_}
+use Prim.Native.Nat.{ℕ, _-_, _%_, _<_, _≤_}
 use native.Mathlib.Omega.{arith}
 use native.Mathlib.Decide.{ℕ-discrete}
 use lib.Dec.{eqb, ltb}
 use lib.ListN.{getD, set, length, length-set}
-use borrow.Author.Tests.{eqb-true, eq-eqb, ne-eqb, ltb-true, le-leb}
+use borrow.Author.Tests.{eqb-true, ltb-true, le-leb}
 use Rattle.model.specs.declared.Params.{Params}
 use Rattle.model.specs.declared.Offer.{Offer}
 use Rattle.model.specs.declared.Offer.the-variants.{Nothing, Fresh}
@@ -18,22 +18,24 @@ use Rattle.model.specs.Base.{if_then_else_, In}
 use Rattle.model.specs.Params.{start, blockAt, listWord, localSets, abandoned, available, unswept, consumed}
 use Rattle.model.specs.Tables.{Words, Tables, tablesOf, withWords, setFirst, setLast, setNext, setPrev, setFree, setSize, setList, setTls}
 use Rattle.model.specs.SizeClasses.{cellBytes}
-use Rattle.model.specs.BlockList.{Popped, popped, push, pop}
+use Rattle.model.specs.BlockList.{push, pop}
 use Rattle.model.specs.Block.{Unmarked, isCell, cellsDown, cellCount, keeps, sweepChain, sweptWords, initChain, initBlock}
 use Rattle.model.specs.Memory.{marked}
-use Rattle.model.specs.FreeListAllocator.{findFreeBlockWith, Found, found, after, sweepOf, andThen, recycleLocalBlocks, acquireAbandoned, Search, inFound, acquireFresh, findBlock}
+use Rattle.model.specs.Events.{Event}
+use Rattle.model.specs.FreeListAllocator.{Found, Search, acquireFresh, findBlock}
 use Rattle.model.specs.Global.{isHolder}
 use Rattle.model.specs.Sound.{stateOf, stateKnown, linkOk, blockClear}
 use Rattle.model.specs.Calls.{goodOffer}
-use Rattle.laws.specs.Base.{if-cases, and-left, and-right, or-right}
-use Rattle.laws.specs.Params.{Bounds, blockAt-start, some-start}
+use Rattle.laws.specs.Base.{and-left, and-right, or-right}
+use Rattle.laws.specs.Params.{Bounds, blockAt-start}
 use Rattle.laws.specs.Stores.{set-at, set-off}
 use Rattle.laws.specs.Tables.{Sized, sized-same, kept-lengths}
 use Rattle.laws.specs.Classes.{cellBytes-least}
 use Rattle.laws.specs.Cells.{whole-isCell, in-chain}
 use Rattle.laws.specs.Frame.{LinksOnly, links-refl, push-links, pop-links}
+use Rattle.laws.specs.Walks.{Files, Steps, plain-steps, find-keeps}
 use Rattle.soundness.specs.Lists.{Lists, AllOn, Off, OnSome, put, put-in, in-put, linksOf, Links, On, on-list, free-off, lists-same, first-none, first-some}
-use Rattle.soundness.specs.Moves.{push-stays, push-lists, pop-none, pop-at, pop-off, pop-stays, pop-lists}
+use Rattle.soundness.specs.Moves.{push-stays, push-lists, pop-off, pop-stays, pop-lists}
 use Rattle.soundness.specs.SoundLists.{Fit, Good}
 use Rattle.soundness.specs.Owners.{Numbered, available-numbered, unswept-numbered, consumed-numbered, Framed, framed-refl, framed-trans, Theirs, push-framed, pop-framed, free-framed, size-framed, tls-framed}
 use Rattle.soundness.specs.Held.{Held, SameWords, links-words, fit-as, fit-same, clear-same}
@@ -196,30 +198,24 @@ module _ (p : Params) (B : Bounds p) (st ms : List ℕ) (h bin : ℕ) (lo : 1 �
   -- the first block of a list, which a pop takes
   record Head (l : ℕ) (w : Words) : Type 0 where
     block : ℕ
-    first : getD (w .first) l 0 ≡ start p block
-    at : pop p l w .at ≡ start p block
+    here : blockAt p (getD (w .first) l 0) ≡ block
     taken : Taken l block (pop p l w .words)
 
-  -- a list is empty, and a pop does nothing; or it has a first block
-  abbrev Heads : ℕ → Words → Type 0
-  Heads l w = ((getD (w .first) l 0 ≡ 0) × (pop p l w ≡ popped 0 w)) ⊎ Head l w
-
-  head-cases : (l : ℕ) (w : Words) → l < 1470 → Theirs p (h - 1) 8 l → Searched w
-      → Heads l w
+  head-of : (l : ℕ) (w : Words) → l < 1470 → Theirs p (h - 1) 8 l → Searched w → getD (w .first) l 0 ≢ 0 → Head l w
   unfolding In
-  head-cases l w ll mine S = go (S .held .lists l) refl
+  head-of l w ll mine S some = go (S .held .lists l) refl
     where
       H : Held p ms w st
       H = S .held
 
-      go : (xs : List ℕ) → H .lists l ≡ xs → Heads l w
-      go [] e = inl (first-none p B (H .good .lists) l ll e, pop-none p B st w (H .sized) (H .lists) (H .good .lists) l ll e)
+      go : (xs : List ℕ) → H .lists l ≡ xs → Head l w
+      go [] e = absurd (some (first-none p B (H .good .lists) l ll e))
       go (x ∷ xs) e =
           let F = pop-framed p (h - 1) 8 l w mine in
-          inr (record {
+          let i = first-some p B (H .good .lists) l ll x xs e in
+          record {
             block = x;
-            first = first-some p B (H .good .lists) l ll x xs e .at;
-            at = pop-at p B st w (H .sized) (H .lists) (H .good .lists) l x xs ll e;
+            here = ap (blockAt p) (i .at) ∙ blockAt-start p B x (i .low);
             taken = record {
               lists = put l xs (H .lists);
               out = pop-out p B st ms w (H .sized) (H .lists) (H .good) l x xs ll e;
@@ -228,7 +224,7 @@ module _ (p : Params) (B : Bounds p) (st ms : List ℕ) (h bin : ℕ) (lo : 1 �
               states = H .states;
               frame = framed-trans (S .frame) F;
             };
-          })
+          }
 
   -- words stored into the block that was taken
   tweak-taken : (l x : ℕ) (w u : Words) → Taken l x w → Tweaked x w u → Framed (h - 1) 8 w u → Fit p (tablesOf u st ms) l x → Taken l x u
@@ -286,107 +282,44 @@ module _ (p : Params) (B : Bounds p) (st ms : List ℕ) (h bin : ℕ) (lo : 1 �
   local-tls w l x T N = T .fit .local (omega (arith, N .owner)) ∙ omega (arith, N .owner)
 
   -- a block that was taken out is filed
-  filed : (l x : ℕ) (w : Words) (more : Words → Found) → Taken l x w → l % 49 ≡ bin → getD (w .tls) x 0 ≡ h
-      → ((v : Words) → Searched v → Searched (more v .words))
-      → Searched ((if eqb (getD (w .free) x 0) 0 then more (push p (consumed (localSets h) bin) x w) else found (start p x) (push p (available (localSets h) bin) x w)) .words)
-  filed l x w more T eb own ih =
-      if-cases (λ (f : Found). Searched (f .words)) (eqb (getD (w .free) x 0) 0)
-      (λ q. ih (push p (consumed (localSets h) bin) x w) (file-taken w l x (consumed (localSets h) bin) T eb my-consumed own))
-      (λ q. file-taken w l x (available (localSets h) bin) T eb my-available own)
+  files : (l x a : ℕ) (w : Words) (es : List Event) → blockAt p a ≡ x → Taken l x w → l % 49 ≡ bin → getD (w .tls) x 0 ≡ h
+      → Files p ms h bin (λ es w. Searched w) (λ es a w. Searched w) es a w
+  files l x a w es e T eb own =
+      record {
+        full = λ q. rw e (file-taken w l x (consumed (localSets h) bin) T eb my-consumed own);
+        has = λ q. rw e (file-taken w l x (available (localSets h) bin) T eb my-available own);
+      }
 
-  -- ---- skimming the available list
-
-  skimmed : (k : ℕ) (w : Words) → Searched w → Searched (findFreeBlockWith k p (available (localSets h) bin) (consumed (localSets h) bin) w .words)
-  unfolding findFreeBlockWith
-  skimmed zero w S = S
-  skimmed (suc k) w S = go (skimmed k) (head-cases av w (my-available .low) (inl (my-available .owner)) S)
+  -- every step of the search keeps the words so
+  steps : Steps p ms h bin (λ es w. Searched w) (λ es a w. Searched w)
+  steps =
+      record {
+        moved = λ es w S some q.
+            let z = head-of av w (my-available .low) (inl (my-available .owner)) S some in
+            rw (z .here) (file-taken _ av (z .block) _ (z .taken) (my-available .bin) my-consumed (local-tls _ av (z .block) (z .taken) my-available));
+        seen = λ es w S some q. S;
+        recycled = λ es w S some.
+            let z = head-of un w (my-unswept .low) (inl (my-unswept .owner)) S some in
+            let X = swept-taken _ un (z .block) (z .taken) in
+            rw (z .here) (files un (z .block) _ _ _ (z .here) (X .0) (my-unswept .bin) (ap (λ (y : List ℕ). getD y (z .block) 0) (X .1) ∙ local-tls _ un (z .block) (z .taken) my-unswept));
+        over = λ es w S some.
+            let N = available-numbered 8 bin (omega arith) low in
+            let z = head-of (available abandoned bin) w (N .low) (inr (N .owner)) S some in
+            let Q = tls-taken _ _ (z .block) (z .taken) (omega (arith, N .owner)) in
+            rw (z .here) (files _ (z .block) _ _ _ (z .here) (Q .0) (N .bin) (Q .1));
+        swept = λ es w S none some.
+            let N = unswept-numbered 8 bin (omega arith) low in
+            let z = head-of (unswept abandoned bin) w (N .low) (inr (N .owner)) S some in
+            let Q = tls-taken _ _ (z .block) (z .taken) (omega (arith, N .owner)) in
+            let X = swept-taken _ _ (z .block) (Q .0) in
+            rw (z .here) (files _ (z .block) _ _ _ (z .here) (X .0) (N .bin) (ap (λ (y : List ℕ). getD y (z .block) 0) (X .1) ∙ Q .1));
+      }
     where
       av : ℕ
       av = available (localSets h) bin
 
-      co : ℕ
-      co = consumed (localSets h) bin
-
-      go : ((v : Words) → Searched v → Searched (findFreeBlockWith k p av co v .words)) → Heads av w
-          → Searched (findFreeBlockWith (suc k) p av co w .words)
-      go ih (inl e) = rw (eq-eqb _ _ (e .0)) S
-      go ih (inr z) =
-          let T = z .taken in
-          rw (z .first, ne-eqb (start p (z .block)) 0 (some-start p B (z .block) (T .out .low)), blockAt-start p B (z .block) (T .out .low))
-          (if-cases (λ (g : Popped). Searched (g .words)) (eqb (getD (w .free) (z .block) 0) 0)
-          (λ q. ih (push p co (z .block) (pop p av w .words))
-          (file-taken (pop p av w .words) av (z .block) co T (my-available .bin) my-consumed (local-tls (pop p av w .words) av (z .block) T my-available)))
-          (λ q. S))
-
-  -- ---- local unswept blocks
-
-  recycled : (k : ℕ) (w : Words) → Searched w → Searched (recycleLocalBlocks k p ms (localSets h) bin w .words)
-  unfolding recycleLocalBlocks
-  recycled zero w S = S
-  recycled (suc k) w S = go (recycled k) (head-cases un w (my-unswept .low) (inl (my-unswept .owner)) S)
-    where
       un : ℕ
       un = unswept (localSets h) bin
-
-      go : ((v : Words) → Searched v → Searched (recycleLocalBlocks k p ms (localSets h) bin v .words)) → Heads un w
-          → Searched (recycleLocalBlocks (suc k) p ms (localSets h) bin w .words)
-      go ih (inl e) = rw (e .1) S
-      go ih (inr z) =
-          let T = z .taken in
-          let X = swept-taken (pop p un w .words) un (z .block) T in
-          rw (z .at, ne-eqb (start p (z .block)) 0 (some-start p B (z .block) (T .out .low)), blockAt-start p B (z .block) (T .out .low))
-          (filed un (z .block) (sweptWords p ms (z .block) (pop p un w .words)) (λ v. recycleLocalBlocks k p ms (localSets h) bin v) (X .0) (my-unswept .bin)
-          (ap (λ (y : List ℕ). getD y (z .block) 0) (X .1) ∙ local-tls (pop p un w .words) un (z .block) T my-unswept) ih)
-
-  -- ---- blocks taken over from abandoned
-
-  acquired : (k : ℕ) (w : Words) → Searched w → Searched (acquireAbandoned k p ms h bin w .words)
-  unfolding acquireAbandoned
-  acquired zero w S = S
-  acquired (suc k) w S = go (acquired k) (head-cases av w (N .low) (inr (N .owner)) S)
-    where
-      av : ℕ
-      av = available abandoned bin
-
-      un : ℕ
-      un = unswept abandoned bin
-
-      N : Numbered av 8 bin
-      N = available-numbered 8 bin (omega arith) low
-
-      U : Numbered un 8 bin
-      U = unswept-numbered 8 bin (omega arith) low
-
-      more : Words → Found
-      more v = acquireAbandoned k p ms h bin v
-
-      part : Popped → Found
-      part g =
-          if eqb (g .at) 0 then found 0 (g .words)
-          else after (sweepOf p ms (blockAt p (g .at)) (setTls (blockAt p (g .at)) h (g .words)))
-          (if eqb (getD (sweptWords p ms (blockAt p (g .at)) (setTls (blockAt p (g .at)) h (g .words)) .free) (blockAt p (g .at)) 0) 0
-          then more (push p (consumed (localSets h) bin) (blockAt p (g .at)) (sweptWords p ms (blockAt p (g .at)) (setTls (blockAt p (g .at)) h (g .words))))
-          else found (g .at) (push p (available (localSets h) bin) (blockAt p (g .at)) (sweptWords p ms (blockAt p (g .at)) (setTls (blockAt p (g .at)) h (g .words)))))
-
-      unsw : ((v : Words) → Searched v → Searched (acquireAbandoned k p ms h bin v .words)) → Heads un w
-          → Searched (part (pop p un w) .words)
-      unsw ih (inl e) = rw (e .1) S
-      unsw ih (inr z) =
-          let T = z .taken in
-          let Q = tls-taken (pop p un w .words) un (z .block) T (omega (arith, U .owner)) in
-          let X = swept-taken (setTls (z .block) h (pop p un w .words)) un (z .block) (Q .0) in
-          rw (z .at, ne-eqb (start p (z .block)) 0 (some-start p B (z .block) (T .out .low)), blockAt-start p B (z .block) (T .out .low))
-          (filed un (z .block) (sweptWords p ms (z .block) (setTls (z .block) h (pop p un w .words))) more (X .0) (U .bin)
-          (ap (λ (y : List ℕ). getD y (z .block) 0) (X .1) ∙ Q .1) ih)
-
-      go : ((v : Words) → Searched v → Searched (acquireAbandoned k p ms h bin v .words)) → Heads av w
-          → Searched (acquireAbandoned (suc k) p ms h bin w .words)
-      go ih (inl e) = rw (e .1) (unsw ih (head-cases un w (U .low) (inr (U .owner)) S))
-      go ih (inr z) =
-          let T = z .taken in
-          let Q = tls-taken (pop p av w .words) av (z .block) T (omega (arith, N .owner)) in
-          rw (z .at, ne-eqb (start p (z .block)) 0 (some-start p B (z .block) (T .out .low)), blockAt-start p B (z .block) (T .out .low))
-          (filed av (z .block) (setTls (z .block) h (pop p av w .words)) more (Q .0) (N .bin) (Q .1) ih)
 
 -- ---- the offer
 
@@ -479,33 +412,17 @@ module _ (p : Params) (B : Bounds p) (st ms : List ℕ) (w : Words) (H : Held p 
 
 -- ---- the whole search
 
--- its parts, one after the other, and how it may end
-module _ (p : Params) (h bin : ℕ) (t : Tables) where
-  skim : Popped
-  skim = findFreeBlockWith (p .blocks) p (available (localSets h) bin) (consumed (localSets h) bin) (t .words)
-
-  recycle : Found
-  recycle = recycleLocalBlocks (p .blocks) p (t .marks) (localSets h) bin (skim .words)
-
-  acquire : Found
-  acquire = andThen recycle (acquireAbandoned (p .blocks) p (t .marks) h bin (recycle .words))
-
-  find-cases : (P : Search → Type 0) (offer : Offer) → P (acquireFresh p h bin offer acquire t) → P (inFound acquire t)
-      → P (inFound recycle t) → P (inFound (found (skim .at) (skim .words)) t) → P (findBlock p h bin offer t)
-  unfolding findBlock skim recycle acquire
-  find-cases P offer a b c d =
-      if-cases P (eqb (skim .at) 0)
-      (λ e. if-cases P (eqb (recycle .at) 0) (λ e. if-cases P (eqb (acquire .at) 0) (λ e. a) (λ e. b)) (λ e. c))
-      (λ e. d)
-
 -- a search leaves the marks
 pub find-marks : (p : Params) (h bin : ℕ) (offer : Offer) (t : Tables) → findBlock p h bin offer t .tables .marks ≡ t .marks
 unfolding acquireFresh
-find-marks p h bin offer t = find-cases p h bin t (λ s. s .tables .marks ≡ t .marks) offer (fresh offer) refl refl refl
+find-marks p h bin offer t =
+    find-keeps p h bin t (λ es w. Unit {0}) (λ es a w. Unit {0})
+    (plain-steps p (t .marks) h bin (λ w. Unit {0}) (λ l w o. tt) (λ l b w o. tt) (λ b w o. tt) (λ b w o. tt))
+    (λ s. s .tables .marks ≡ t .marks) offer (λ f e o. fresh offer f) (λ f e o. refl) tt
   where
-    fresh : (o : Offer) → acquireFresh p h bin o (acquire p h bin t) t .tables .marks ≡ t .marks
-    fresh Nothing = refl
-    fresh (Fresh b) = refl
+    fresh : (o : Offer) (f : Found) → acquireFresh p h bin o f t .tables .marks ≡ t .marks
+    fresh Nothing f = refl
+    fresh (Fresh b) f = refl
 
 -- what it leaves: good tables, of which lists of the holder and abandoned ones alone changed
 pub record Served (p : Params) (h : ℕ) (t u : Tables) : Type 0 where
@@ -533,21 +450,9 @@ module _ (p : Params) (B : Bounds p) (t : Tables) (H : Held p (t .marks) (t .wor
       }
 
   pub find-served : (offer : Offer) → goodOffer p t offer ≡ true → Ok (findBlock p h bin offer t)
-  unfolding skim recycle acquire
   find-served offer fine =
-      find-cases p h bin t Ok offer (fresh-ok offer fine (acquire p h bin t) SA) (found-ok SA) (found-ok SF) (found-ok SG)
-    where
-      found-ok : {w : Words} → Good′ w → Served p h t (withWords w t)
-      found-ok S = record { held = S .held; frame = S .frame }
-
-      SG : Good′ (skim p h bin t .words)
-      SG = skimmed p B (t .states) (t .marks) h bin lo hi low (t .words) (p .blocks) (t .words) (record { held = H; frame = framed-refl (t .words) })
-
-      SF : Good′ (recycle p h bin t .words)
-      SF = recycled p B (t .states) (t .marks) h bin lo hi low (t .words) (p .blocks) (skim p h bin t .words) SG
-
-      SA : Good′ (acquire p h bin t .words)
-      SA = acquired p B (t .states) (t .marks) h bin lo hi low (t .words) (p .blocks) (recycle p h bin t .words) SF
+      find-keeps p h bin t (λ es w. Good′ w) (λ es a w. Good′ w) (steps p B (t .states) (t .marks) h bin lo hi low (t .words)) Ok offer
+      (λ f e S. fresh-ok offer fine f S) (λ f e S. record { held = S .held; frame = S .frame }) (record { held = H; frame = framed-refl (t .words) })
 
 -- ---- a cell is taken: the block's free head moves on
 pub take-good : (p : Params) (t : Tables) (L : ℕ → List ℕ) → Sized (p .blocks) (t .words) → Good p t L → (b v : ℕ)

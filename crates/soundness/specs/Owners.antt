@@ -6,48 +6,21 @@ use mathlib.Core.List.{List}
 use Prim.Native.Nat.{ℕ, zero, suc, _-_, _*_, _/_, _%_, _≤_, _<_}
 use native.Mathlib.Omega.{arith}
 use native.Mathlib.Decide.{ℕ-discrete}
-use lib.Dec.{eqb}
 use lib.ListN.{getD}
 use Rattle.model.specs.declared.Params.{Params}
 use Rattle.model.specs.Base.{eachBelow}
-use Rattle.model.specs.Params.{start, blockAt, listOf, localSets, abandoned, available, unswept, consumed, bins}
+use Rattle.model.specs.Params.{start, listOf, localSets, available, unswept, consumed, bins}
 use Rattle.model.specs.Tables.{Words, setNext, setPrev, setFree, setSize, setList, setTls}
 use Rattle.model.specs.BlockList.{push, pop, remove, append}
 use Rattle.model.specs.Block.{clearBlock}
-use Rattle.model.specs.Global.{abandonBin, abandonBlocks, Freed, freed, releaseFrom, releaseBlocks, appendTo, releaseBin, releaseHolder, sweepLaterBin, sweepLater}
-use Rattle.laws.specs.Base.{if-cases}
+use Rattle.model.specs.Global.{abandonBin, abandonBlocks, Freed, freed, releaseBlocks, appendTo, releaseBin, releaseHolder, sweepLater}
 use Rattle.laws.specs.Stores.{set-off}
 use Rattle.laws.specs.Tables.{Sized, sized-same, lengths, kept-lengths}
+pub use Rattle.laws.specs.Walks.{Numbered, available-numbered, unswept-numbered, consumed-numbered, unswept-consumed, unswept-available}
+use Rattle.laws.specs.Walks.{blocks-keep-any, bins-keep, later-keeps, abandon-keeps}
 use Rattle.laws.specs.Frame.{LinksOnly, links-refl, push-links, pop-links, append-links, remove-links, each-keeps, FirstsBut, push-first, pop-firsts, append-first, remove-first, append-empties}
 
 -- ---- list numbers
-
--- the list l is of the owner i and of the bin n
-pub record Numbered (l i n : ℕ) : Type 0 where
-  pub low : l < 1470
-  pub bin : l % 49 ≡ n
-  pub owner : l / 147 ≡ i
-
-module _ (i bin : ℕ) (li : i < 10) (lb : bin < 49) where
-  pub available-numbered : Numbered (available (3 * i) bin) i bin
-  unfolding available listOf
-  available-numbered = record { low = omega arith; bin = omega arith; owner = omega arith }
-
-  pub unswept-numbered : Numbered (unswept (3 * i) bin) i bin
-  unfolding unswept listOf
-  unswept-numbered = record { low = omega arith; bin = omega arith; owner = omega arith }
-
-  pub consumed-numbered : Numbered (consumed (3 * i) bin) i bin
-  unfolding consumed listOf
-  consumed-numbered = record { low = omega arith; bin = omega arith; owner = omega arith }
-
-  pub unswept-consumed : unswept (3 * i) bin ≢ consumed (3 * i) bin
-  unfolding unswept consumed listOf
-  unswept-consumed e = omega (arith, e)
-
-  pub unswept-available : unswept (3 * i) bin ≢ available (3 * i) bin
-  unfolding unswept available listOf
-  unswept-available e = omega (arith, e)
 
 -- a list of an owner that is neither available nor consumed is unswept
 third-list : (j bin m : ℕ) → m / 147 ≡ j → m % 49 ≡ bin → m ≢ available (3 * j) bin → m ≢ consumed (3 * j) bin → m ≡ unswept (3 * j) bin
@@ -132,56 +105,27 @@ module _ (p : Params) (j k : ℕ) where
   release-framed l b w hl =
       framed-trans (links-framed l l hl hl (remove-links p l b w (links-refl w)) (remove-first p l b w)) (cleared-framed b (remove p l b w))
 
-  -- ---- releases
+  -- ---- releases, from the words w on
 
-  from-framed : (n l a : ℕ) → Theirs l → (w : Words) (st : List ℕ) → Framed j k w (releaseFrom n p l a w st .words)
-  unfolding releaseFrom
-  from-framed zero l a hl w st = framed-refl w
-  from-framed (suc n) l a hl w st =
-      if-cases (λ (f : Freed). Framed j k w (f .words)) (eqb a 0) (λ t. framed-refl w)
-      (λ t. if-cases (λ (f : Freed). Framed j k w (f .words)) (eqb (getD st (blockAt p a) 0) 255)
-      (λ u. framed-trans (release-framed l (blockAt p a) w hl) (from-framed n l (getD (w .next) (blockAt p a) 0) hl _ _))
-      (λ u. from-framed n l (getD (w .next) (blockAt p a) 0) hl w st))
+  module _ (w : Words) where
+    blocks-framed : (l bin : ℕ) → Numbered l j bin → (f : Freed) → Framed j k w (f .words) → Framed j k w (releaseBlocks p l f .words)
+    blocks-framed l bin N =
+        blocks-keep-any p l (λ f. Framed j k w (f .words)) (λ b f F e. framed-trans F (release-framed l b (f .words) (inl (N .owner))))
 
-  blocks-framed : (l : ℕ) (f : Freed) → Theirs l → Framed j k (f .words) (releaseBlocks p l f .words)
-  unfolding releaseBlocks
-  blocks-framed l f hl = from-framed (p .blocks) l (getD (f .words .first) l 0) hl (f .words) (f .states)
-
-  to-framed : (l o : ℕ) (f : Freed) → Theirs l → Theirs o → Framed j k (f .words) (appendTo p l o f .words)
-  unfolding appendTo
-  to-framed l o f hl ho = append-framed l o (f .words) hl ho
-
-  module _ (bin : ℕ) (lj : j < 10) (lb : bin < 49) where
-    release-bin-framed : (f : Freed) → Framed j k (f .words) (releaseBin p (3 * j) bin f .words)
-    unfolding releaseBin
-    release-bin-framed f =
-        let a = inl (available-numbered j bin lj lb .owner) in
-        let u = inl (unswept-numbered j bin lj lb .owner) in
-        let c = inl (consumed-numbered j bin lj lb .owner) in
-        framed-trans (blocks-framed (available (3 * j) bin) f a)
-        (framed-trans (to-framed (unswept (3 * j) bin) (available (3 * j) bin) _ u a)
-        (framed-trans (blocks-framed (consumed (3 * j) bin) _ c) (to-framed (unswept (3 * j) bin) (consumed (3 * j) bin) _ u c)))
-
-    module _ (lk : k < 10) where
-      abandon-bin-framed : (w : Words) → Framed j k w (abandonBin p (3 * k) (3 * j) bin w)
-      unfolding abandonBin
-      abandon-bin-framed w =
-          framed-trans (append-framed (available (3 * k) bin) (available (3 * j) bin) w (inr (available-numbered k bin lk lb .owner)) (inl (available-numbered j bin lj lb .owner)))
-          (framed-trans (append-framed (consumed (3 * k) bin) (consumed (3 * j) bin) _ (inr (consumed-numbered k bin lk lb .owner)) (inl (consumed-numbered j bin lj lb .owner)))
-          (append-framed (unswept (3 * k) bin) (unswept (3 * j) bin) _ (inr (unswept-numbered k bin lk lb .owner)) (inl (unswept-numbered j bin lj lb .owner))))
+    to-framed : (l o bin : ℕ) → Numbered l j bin → Numbered o j bin → l ≢ o → (f : Freed) → Framed j k w (f .words) → Framed j k w (appendTo p l o f .words)
+    unfolding appendTo
+    to-framed l o bin N M ne f F = framed-trans F (append-framed l o (f .words) (inl (N .owner)) (inl (M .owner)))
 
   -- the lists of the owner j go behind those of the owner k
   pub abandon-framed : j < 10 → k < 10 → (w : Words) → Framed j k w (abandonBlocks p (3 * k) (3 * j) w)
-  unfolding abandonBlocks
   abandon-framed lj lk w =
-      each-keeps (Framed j k w) bins (abandonBin p (3 * k) (3 * j)) (λ bin lb x X. framed-trans X (abandon-bin-framed bin lj lb lk x)) w (framed-refl w)
+      abandon-keeps p k j lk lj (Framed j k w) (λ l o bin N M x X. framed-trans X (append-framed l o x (inr (N .owner)) (inl (M .owner)))) w (framed-refl w)
 
 module _ (p : Params) (w : Words) (st : List ℕ) where
   -- a holder's release changes the lists of this holder and of in-gc alone
   bins-framed : (h : ℕ) → 1 ≤ h → h ≤ 8 → Framed (h - 1) 9 w (eachBelow bins (releaseBin p (3 * (h - 1))) (freed w st) .words)
   bins-framed h lo hi =
-      each-keeps (λ (f : Freed). Framed (h - 1) 9 w (f .words)) bins (releaseBin p (3 * (h - 1)))
-      (λ bin lb f F. framed-trans F (release-bin-framed p (h - 1) 9 bin (omega arith) lb f)) (freed w st) (framed-refl w)
+      bins-keep p (h - 1) (omega arith) (λ f. Framed (h - 1) 9 w (f .words)) (blocks-framed p (h - 1) 9 w) (to-framed p (h - 1) 9 w) (freed w st) (framed-refl w)
 
   pub holder-framed : (h : ℕ) → 1 ≤ h → h ≤ 8 → Framed (h - 1) 9 w (releaseHolder p h w st .words)
   unfolding releaseHolder localSets
@@ -189,20 +133,8 @@ module _ (p : Params) (w : Words) (st : List ℕ) where
 
   -- the shared release those of abandoned
   pub shared-framed : Framed 8 8 w (sweepLater p w st .words)
-  unfolding sweepLater sweepLaterBin
-  shared-framed =
-      each-keeps (λ (f : Freed). Framed 8 8 w (f .words)) bins (sweepLaterBin p)
-      (λ bin lb f F.
-      let eight : 8 < 10 = omega arith in
-      let a = inl (available-numbered 8 bin eight lb .owner) in
-      let u = inl (unswept-numbered 8 bin eight lb .owner) in
-      let c = inl (consumed-numbered 8 bin eight lb .owner) in
-      framed-trans F (framed-trans (blocks-framed p 8 8 (available abandoned bin) f a)
-      (framed-trans (blocks-framed p 8 8 (consumed abandoned bin) _ c)
-      (framed-trans (blocks-framed p 8 8 (unswept abandoned bin) _ u)
-      (framed-trans (to-framed p 8 8 (unswept abandoned bin) (available abandoned bin) _ u a)
-      (to-framed p 8 8 (unswept abandoned bin) (consumed abandoned bin) _ u c))))))
-      (freed w st) (framed-refl w)
+  unfolding sweepLater
+  shared-framed = later-keeps p (λ f. Framed 8 8 w (f .words)) (blocks-framed p 8 8 w) (to-framed p 8 8 w) (freed w st) (framed-refl w)
 
 -- ---- an owner's lists put behind another's
 

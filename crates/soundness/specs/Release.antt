@@ -4,30 +4,30 @@ use mathlib.Core.Path.{_≡_, refl, sym, ap, _∙_, subst}
 use mathlib.Core.Logic.{_≢_, inl, ⊎-elim}
 use mathlib.Core.Bool.{true, false, not}
 use mathlib.Core.List.{List, [], _∷_, _++_, append-assoc}
-use Prim.Native.Nat.{ℕ, zero, suc, _-_, _*_, _/_, _%_, _<_, _≤_}
+use Prim.Native.Nat.{ℕ, _-_, _*_, _/_, _%_, _<_, _≤_}
 use native.Mathlib.Omega.{arith}
 use native.Mathlib.Decide.{ℕ-discrete}
 use lib.Dec.{eqb}
 use lib.ListN.{getD, set, length-set}
-use borrow.Author.Tests.{eqb-false, eq-eqb, ne-eqb}
+use borrow.Author.Tests.{eq-eqb, ne-eqb}
 use Rattle.model.specs.declared.Params.{Params}
 use Rattle.model.specs.Base.{In, member, filter}
-use Rattle.model.specs.Params.{start, blockAt, localSets, abandoned, available, unswept, consumed, bins}
+use Rattle.model.specs.Params.{start, blockAt, localSets}
 use Rattle.model.specs.Tables.{Words, tablesOf, setNext, setPrev, setFree, setSize, setList, setTls}
 use Rattle.model.specs.BlockList.{remove, append}
 use Rattle.model.specs.Block.{clearBlock}
-use Rattle.model.specs.Global.{abandonBin, abandonBlocks, Freed, freed, releaseFrom, releaseBlocks, appendTo, releaseBin, releaseHolder, sweepLaterBin, sweepLater}
+use Rattle.model.specs.Global.{abandonBlocks, Freed, freed, releaseBlocks, appendTo, releaseHolder, sweepLater}
 use Rattle.model.specs.Sound.{stateOf, blockClear}
-use Rattle.laws.specs.Base.{if-cases, not-both, or-none-left, or-none-right, in-append, in-append-left, in-append-right, filter-append}
+use Rattle.laws.specs.Base.{not-both, or-none-left, or-none-right, in-append, in-append-left, in-append-right, filter-append}
 use Rattle.laws.specs.Params.{Bounds, blockAt-start}
 use Rattle.laws.specs.Stores.{set-at, set-off}
 use Rattle.laws.specs.Tables.{Sized, sized-same, lengths, kept-lengths}
-use Rattle.laws.specs.Frame.{LinksOnly, links-refl, append-links, remove-links, each-keeps}
+use Rattle.laws.specs.Frame.{LinksOnly, links-refl, append-links, remove-links}
+use Rattle.laws.specs.Walks.{Numbered, releasedOne, blocks-keep, bins-keep, later-keeps, abandon-keeps}
 use Rattle.laws.specs.Pigeon.{Distinct}
 use Rattle.soundness.specs.Lists.{Seg, Run, AllOn, Off, OnSome, put, put-same, put-other, put-all, put-in, in-put, on-list, one-list, free-off, lists-distinct}
 use Rattle.soundness.specs.Removes.{without, in-without, without-in, without-none, remove-lists, remove-stays, append-lists, append-stays, clear-lists}
 use Rattle.soundness.specs.SoundLists.{Fit}
-use Rattle.soundness.specs.Owners.{Numbered, available-numbered, unswept-numbered, consumed-numbered, unswept-consumed, unswept-available}
 use Rattle.soundness.specs.Held.{Held, SameWords, links-words, fit-moves, fit-same, clear-same}
 
 -- ---- a list from some block on
@@ -139,23 +139,11 @@ module _ (p : Params) (B : Bounds p) (ms : List ℕ) where
       few : l < 1176 → l / 147 ≡ i → i < 8
       few low e = omega arith
 
-  -- ---- an owner's lists put behind another's, which is no holder
-
-  module _ (i j : ℕ) (li : i < 10) (lj : j < 10) (ne : i ≢ j) (shared : 8 ≤ i) (st : List ℕ) where
-    bin-held : (bin : ℕ) → bin < 49 → (w : Words) → Held p ms w st → Held p ms (abandonBin p (3 * i) (3 * j) bin w) st
-    unfolding abandonBin
-    bin-held bin lb w H =
-        step (unswept-numbered i bin li lb) (unswept-numbered j bin lj lb) _
-        (step (consumed-numbered i bin li lb) (consumed-numbered j bin lj lb) _
-        (step (available-numbered i bin li lb) (available-numbered j bin lj lb) w H))
-      where
-        step : {l o : ℕ} → Numbered l i bin → Numbered o j bin → (w′ : Words) → Held p ms w′ st → Held p ms (append p l o w′) st
-        step P Q w′ H′ =
-            append-placed w′ st P Q (λ e. ne (sym (P .owner) ∙ ap (λ (x : ℕ). x / 147) e ∙ Q .owner)) (λ low. absurd (omega arith)) H′
-
-    pub abandon-held : (w : Words) → Held p ms w st → Held p ms (abandonBlocks p (3 * i) (3 * j) w) st
-    unfolding abandonBlocks
-    abandon-held w H = each-keeps (λ (x : Words). Held p ms x st) bins (abandonBin p (3 * i) (3 * j)) bin-held w H
+  -- an owner's lists put behind another's, which is no holder
+  pub abandon-held : (i j : ℕ) → i < 10 → j < 10 → i ≢ j → 8 ≤ i → (st : List ℕ) (w : Words) → Held p ms w st → Held p ms (abandonBlocks p (3 * i) (3 * j) w) st
+  abandon-held i j li lj ne shared st =
+      abandon-keeps p i j li lj (λ (x : Words). Held p ms x st)
+      (λ l o bin P Q w H. append-placed w st P Q (λ e. ne (sym (P .owner) ∙ ap (λ (x : ℕ). x / 147) e ∙ Q .owner)) (λ low. absurd (omega arith)) H)
 
   -- ---- one block released
 
@@ -243,79 +231,60 @@ module _ (p : Params) (B : Bounds p) (ms : List ℕ) where
   abbrev HeldBy : Freed → Type 0
   HeldBy f = Held p ms (f .words) (f .states)
 
-  -- from any block of the list on: `done` are left behind, `rest` are still to come
-  from-held : (k : ℕ) (w : Words) (st : List ℕ) (H : Held p ms w st) (l a : ℕ) → l < 1470 → (done rest : List ℕ)
-      → H .lists l ≡ done ++ rest → At p a rest → HeldBy (releaseFrom k p l a w st)
-  unfolding releaseFrom At release-held
-  from-held zero w st H l a ll done rest e at = H
-  from-held (suc k) w st H l a ll done [] e at = if-cases HeldBy (eqb a 0) (λ t. H) (λ f. absurd (eqb-false a 0 f at))
-  from-held (suc k) w st H l a ll done (x ∷ rest) e at =
-      if-cases HeldBy (eqb a 0) (λ t. H)
-      (λ f. if-cases HeldBy (eqb (getD st b 0) 255)
-      (λ t. from-held k (clearBlock b (remove p l b w)) (set st b 0) (release-held w st H l b ll inside) l (getD (w .next) b 0) ll done rest left next)
-      (λ t. from-held k w st H l (getD (w .next) b 0) ll (done ++ (x ∷ [])) rest (e ∙ sym (append-assoc done (x ∷ []) rest)) next))
-    where
-      b : ℕ
-      b = blockAt p a
+  -- the walk stands at a: `done` are left behind, `rest` are still to come
+  record Walking (l a : ℕ) (f : Freed) : Type 0 where
+    held : HeldBy f
+    done : List ℕ
+    rest : List ℕ
+    split : held .lists l ≡ done ++ rest
+    at : At p a rest
 
+  -- it goes on by one block, which is released or stays
+  steps-held : (l a : ℕ) (f : Freed) (H : HeldBy f) (done rest : List ℕ) → l < 1470 → H .lists l ≡ done ++ rest → At p a rest → a ≢ 0
+      → Walking l (getD (f .words .next) (blockAt p a) 0) (releasedOne p l (blockAt p a) f) × Walking l (getD (f .words .next) (blockAt p a) 0) f
+  unfolding At release-held
+  steps-held l a f H done [] ll e at some = absurd (some at)
+  steps-held l a f H done (x ∷ rest) ll e at some = (
+    record { held = release-held (f .words) (f .states) H l (blockAt p a) ll (rw is-x here); done = done; rest = rest; split = left; at = next },
+    record { held = H; done = done ++ (x ∷ []); rest = rest; split = e ∙ sym (append-assoc done (x ∷ []) rest); at = next },
+  )
+    where
       here : In x (H .lists l)
       here = rw e (in-middle done x rest)
 
-      is-x : b ≡ x
+      is-x : blockAt p a ≡ x
       is-x = ap (blockAt p) at ∙ blockAt-start p B x (on-list p (H .good .lists) l x ll here .low)
 
-      inside : In b (H .lists l)
-      inside = rw is-x here
-
-      left : put l (without b (H .lists l)) (H .lists) l ≡ done ++ rest
+      left : put l (without (blockAt p a) (H .lists l)) (H .lists) l ≡ done ++ rest
       left =
-          put-same l (without b (H .lists l)) (H .lists)
+          put-same l (without (blockAt p a) (H .lists l)) (H .lists)
           ∙ rw (is-x, e) (without-middle done x rest (subst Distinct e (lists-distinct p (H .good .lists) B l ll)))
 
-      next : At p (getD (w .next) b 0) rest
-      next = rw is-x (seg-next p st w _ _ 0 _ done x rest (subst (Run p st w l) e (H .good .lists .seg l ll)))
+      next : At p (getD (f .words .next) (blockAt p a) 0) rest
+      next = rw is-x (seg-next p (f .states) (f .words) _ _ 0 _ done x rest (subst (Run p (f .states) (f .words) l) e (H .good .lists .seg l ll)))
 
-  blocks-held : (l : ℕ) → l < 1470 → (f : Freed) → HeldBy f → HeldBy (releaseBlocks p l f)
-  unfolding releaseBlocks
-  blocks-held l ll f H =
-      from-held (p .blocks) (f .words) (f .states) H l (getD (f .words .first) l 0) ll [] (H .lists l) refl
-      (seg-at p (f .states) (f .words) _ _ 0 _ (H .lists l) (H .good .lists .seg l ll))
+  blocks-held : (l bin o : ℕ) → Numbered l o bin → (f : Freed) → HeldBy f → HeldBy (releaseBlocks p l f)
+  blocks-held l bin o N f H =
+      blocks-keep p l (λ k a g. Walking l a g) (λ k a g W some u. step a g W some .0) (λ k a g W some. step a g W some .1) HeldBy (λ k a g W. W .held) f
+      (record { held = H; done = []; rest = H .lists l; split = refl; at = seg-at p (f .states) (f .words) _ _ 0 _ (H .lists l) (H .good .lists .seg l (N .low)) })
+    where
+      step : (a : ℕ) (g : Freed) → Walking l a g → a ≢ 0
+          → Walking l (getD (g .words .next) (blockAt p a) 0) (releasedOne p l (blockAt p a) g) × Walking l (getD (g .words .next) (blockAt p a) 0) g
+      step a g W some = steps-held l a g (W .held) (W .done) (W .rest) (N .low) (W .split) (W .at) some
 
   -- ---- rows of releases and appends
 
-  to-held : {l o i bin : ℕ} → Numbered l i bin → Numbered o i bin → l ≢ o → (f : Freed) → HeldBy f → HeldBy (appendTo p l o f)
+  to-held : (l o bin i : ℕ) → Numbered l i bin → Numbered o i bin → l ≢ o → (f : Freed) → HeldBy f → HeldBy (appendTo p l o f)
   unfolding appendTo
-  to-held P Q ne f H = append-placed (f .words) (f .states) P Q ne (λ low. refl) H
-
-  release-bin-held : (o bin : ℕ) → o < 10 → bin < 49 → (f : Freed) → HeldBy f → HeldBy (releaseBin p (3 * o) bin f)
-  unfolding releaseBin
-  release-bin-held o bin lo lb f H =
-      let a = available-numbered o bin lo lb in
-      let u = unswept-numbered o bin lo lb in
-      let c = consumed-numbered o bin lo lb in
-      to-held u c (unswept-consumed o bin lo lb) _
-      (blocks-held (consumed (3 * o) bin) (c .low) _
-      (to-held u a (unswept-available o bin lo lb) _ (blocks-held (available (3 * o) bin) (a .low) f H)))
-
-  sweep-later-held : (bin : ℕ) → bin < 49 → (f : Freed) → HeldBy f → HeldBy (sweepLaterBin p bin f)
-  unfolding sweepLaterBin
-  sweep-later-held bin lb f H =
-      let eight : 8 < 10 = omega arith in
-      let a = available-numbered 8 bin eight lb in
-      let u = unswept-numbered 8 bin eight lb in
-      let c = consumed-numbered 8 bin eight lb in
-      to-held u c (unswept-consumed 8 bin eight lb) _
-      (to-held u a (unswept-available 8 bin eight lb) _
-      (blocks-held (unswept abandoned bin) (u .low) _
-      (blocks-held (consumed abandoned bin) (c .low) _ (blocks-held (available abandoned bin) (a .low) f H))))
+  to-held l o bin i P Q ne f H = append-placed (f .words) (f .states) P Q ne (λ low. refl) H
 
   -- a holder's release, and the shared one
   pub holder-held : (h : ℕ) → 1 ≤ h → h ≤ 8 → (w : Words) (st : List ℕ) → Held p ms w st → HeldBy (releaseHolder p h w st)
   unfolding releaseHolder localSets
   holder-held h lo hi w st H =
       abandon-held 9 (h - 1) (omega arith) (omega arith) (omega arith) (omega arith) _ _
-      (each-keeps HeldBy bins (releaseBin p (3 * (h - 1))) (λ bin lb f F. release-bin-held (h - 1) bin (omega arith) lb f F) (freed w st) H)
+      (bins-keep p (h - 1) (omega arith) HeldBy (λ l bin. blocks-held l bin (h - 1)) (λ l o bin. to-held l o bin (h - 1)) (freed w st) H)
 
   pub shared-held : (w : Words) (st : List ℕ) → Held p ms w st → HeldBy (sweepLater p w st)
   unfolding sweepLater
-  shared-held w st H = each-keeps HeldBy bins (sweepLaterBin p) sweep-later-held (freed w st) H
+  shared-held w st H = later-keeps p HeldBy (λ l bin. blocks-held l bin 8) (λ l o bin. to-held l o bin 8) (freed w st) H
