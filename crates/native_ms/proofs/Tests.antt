@@ -52,6 +52,15 @@ fit-words p w s m h e z =
     let c = eqb m (heapBytes p / 64) in
     eqb-true _ _ (and-right g a (and-left (g && a) b (and-left (g && a && b) c (and-left _ _ (sym e ∙ z)))))
 
+pub fit-states : (p : Params) (w s m h : ℕ) {f : Bool} → f ≡ lengthsFit p w s m h → f ≡ true → s ≡ p .blocks
+unfolding lengthsFit wordCount
+fit-states p w s m h e z =
+    let g = goodParams p in
+    let a = eqb w (wordCount p) in
+    let b = eqb s (p .blocks) in
+    let c = eqb m (heapBytes p / 64) in
+    eqb-true _ _ (and-right (g && a) b (and-left (g && a && b) c (and-left _ _ (sym e ∙ z))))
+
 pub fits-same : (p : Params) (w s m h : List ℕ) → lengthsFit p (length w) (length s) (length m) (length h) ≡ fits p (lend w s m h)
 unfolding lengthsFit fits
 fits-same p w s m h = refl

@@ -12,3 +12,5 @@ pub mod Checked
 pub mod Abandoned
 pub mod Released
 pub mod Space
+pub mod Fast
+pub mod FastLaws

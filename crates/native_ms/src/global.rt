@@ -12,6 +12,7 @@ use crate::block;
 use crate::block_list;
 use crate::memory;
 use crate::params;
+use crate::fast_sound;
 use crate::sound;
 use model::Address;
 use model::Answer;
@@ -70,7 +71,7 @@ fn check_lent(p: Params, w: &[usize], st: &[u8], marks: usize, heap: usize) -> T
     if !lent_fits(p, w.len(), st.len(), marks, heap) {
         return Tested::Refused(Refusal::BadSetup);
     }
-    if !sound::sound(p, w, st) {
+    if !fast_sound::sound(p, w, st) {
         return Tested::Refused(Refusal::BadTables);
     }
     Tested::Passed

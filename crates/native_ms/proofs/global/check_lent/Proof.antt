@@ -3,7 +3,7 @@ use mathlib.Core.Path.{refl}
 use borrow.Author.Tests.{not-true, not-false}
 use Rattle.model.specs.declared.Refusal.the-variants.{BadSetup, BadTables}
 use Rattle.native_ms.specs.Checked.{lentTests}
-use Rattle.native_ms.proofs.Tests.{fit-good, test-no, test-yes, then-refused, then-passed}
+use Rattle.native_ms.proofs.Tests.{fit-good, fit-words, fit-states, test-no, test-yes, then-refused, then-passed}
 use mathlib.Core.List.{[]}
 use Rattle.native_ms.proofs.global.check_lent.Statement.{statement}
 use Rattle.native_ms.proofs.global.check_lent.Tie as tie
@@ -16,9 +16,9 @@ returns : tie.Need-returns
 unfolding lentTests
 returns c = then-refused _ (test-no BadSetup (c .before .lent-fits .ensures) (not-true _ (c .if1 .taken))) refl
 
---@ sound-requires c κs = fit-good _ _ _ _ _ (@lent-fits .ensures) (not-false _ (@if1 .left))
+--@ sound-requires c κs = record { good = fit-good _ _ _ _ _ (@lent-fits .ensures) (not-false _ (@if1 .left)); words = fit-words _ _ _ _ _ (@lent-fits .ensures) (not-false _ (@if1 .left)); states = fit-states _ _ _ _ _ (@lent-fits .ensures) (not-false _ (@if1 .left)) }
 sound-requires : tie.Need-sound-requires
-sound-requires c κs = fit-good _ _ _ _ _ (c .before .lent-fits .ensures) (not-false _ (c .if1 .left))
+sound-requires c κs = record { good = fit-good _ _ _ _ _ (c .before .lent-fits .ensures) (not-false _ (c .if1 .left)); words = fit-words _ _ _ _ _ (c .before .lent-fits .ensures) (not-false _ (c .if1 .left)); states = fit-states _ _ _ _ _ (c .before .lent-fits .ensures) (not-false _ (c .if1 .left)) }
 
 --@ returns-2 c = then-passed _ (test-yes BadSetup (@lent-fits .ensures) (not-false _ (@if1 .left))) refl (test-no BadTables (@sound .ensures []) (not-true _ (@if2 .taken)))
 returns-2 : tie.Need-returns-2

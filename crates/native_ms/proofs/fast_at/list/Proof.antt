@@ -1,0 +1,15 @@
+-- `at::list` reads its block table.
+use borrow.Author.Needs.{needs}
+use Rattle.native_ms.proofs.fast_at.list.Statement.{statement}
+use Rattle.native_ms.proofs.fast_at.list.Tie as tie
+use Rattle.model.specs.Tables.{view}
+
+block-word-requires : tie.Need-block-word-requires
+block-word-requires c κs = search needs
+
+returns : tie.Need-returns
+unfolding view
+returns c = c .block-word .ensures
+
+pub list-spec : {M : Type 1} → statement M
+list-spec = tie.close (tie.spec block-word-requires returns)
