@@ -10,7 +10,9 @@ pub mod FreeListAllocator
 pub mod Global
 pub mod Sound
 pub mod Calls
+pub mod Promise
 pub mod Answers
 pub mod Runs
+pub mod Port
 pub mod Census
 pub mod Cases

@@ -1,9 +1,9 @@
--- "Runs and held cells": the book, runs with what holders write between calls, and demand 3 as one proposition.
+-- Demand 3 as one proposition, `Demand3`, about two runs of the machine; Port.antt has it of the port. docs/DEMAND3.md quotes
+-- the demand whole and goes through it phrase by phrase.
 --
--- The book (01's term) says which cells are held. It is fed each call with the machine's events and reply, and nothing else.
--- A cell is held while it stands in the book, and lost (01's term) when an event strikes it out. It is new until an answered
--- prepare comes, and old from then on. The book's places are those of the marks answered since the last answered prepare.
--- Words in quotes are 01's; from "what holds in each turn" on they are demand 3's own, which docs/DEMAND3.md has whole.
+-- First the book, by which 01 ("Runs and held cells") says what is held; then runs, with what holders write between calls; then
+-- the demand's premises, what a reader of two runs sees, and what holds in each. Words in quotes after "01:" are 01's; the others
+-- are the demand's own.
 use Prim.Native.Nat.{ℕ, _+_, _-_, _≤_, _<_}
 use mathlib.Core.Path.{_≡_}
 use mathlib.Core.Bool.{Bool, true, false, not, _&&_}
@@ -17,9 +17,10 @@ use Rattle.model.specs.Params.{Lent, heapEnd, blockAt}
 use Rattle.model.specs.SizeClasses.{alignAllocation}
 use Rattle.model.specs.Block.{keeps}
 use Rattle.model.specs.Events.{Event, initialised, swept, released, taken, sweeps, releases}
-use Rattle.model.specs.Calls.{Reply, answered, Call, bind, destroy, alloc, prepare, mark, release, sharedRelease, Step, step, Result, tablesIn, call, setUp, pages}
+use Rattle.model.specs.Calls.{Reply, answered, Call, bind, destroy, alloc, prepare, mark, release, sharedRelease, Step, step, Result, tablesIn, resultFrom, call, setUp, pages}
 
--- ---- the book: "It has cells (start, size, holder, old or new) and mark places, and is empty after set-up."
+-- ---- the book. 01: "The book says what is held. [..] It has cells (start, size, holder, old or new) and mark places, and is empty
+-- after set-up. [..] A cell is held by that holder while it stands there, lost when struck out"
 
 pub record Cell : Type 0 where
   pub start : ℕ
@@ -31,15 +32,15 @@ pub record Book : Type 0 where
   pub cells : List Cell
   pub places : List ℕ
 
--- "A sweep strikes out the cells it frees, in a refused alloc too; a block release strikes out every cell of that block."
+-- 01: "A sweep strikes out the cells it frees, in a refused alloc too; a block release strikes out every cell of that block."
 unfoldable pub frees : Params → Event → Cell → Bool
 frees p (initialised b chain) c = false
 frees p (swept b chain) c = member (c .start) chain
 frees p (released b) c = eqb (blockAt p (c .start)) b
 frees p (taken a s) c = false
 
--- "A served alloc enters the cell it took, as new; its start is the address before `align_allocation` shifts it." Only a served
--- alloc has the event `taken` (Calls `takeCell`)
+-- 01: "A served alloc enters the cell it took, as new; its start is the address before `align_allocation` shifts it." Only a
+-- served alloc has the event `taken` (Calls `takeCell`)
 unfoldable pub entered : ℕ → Event → List Cell → List Cell
 entered h (initialised b chain) cs = cs
 entered h (swept b chain) cs = cs
@@ -57,7 +58,7 @@ bookEvents p h es bk = foldl (λ book e. bookEvent p h e book) bk es
 abbrev pub aged : Cell → Cell
 aged c = record { start = c .start; size = c .size; holder = c .holder; old = true }
 
--- "An answered prepare makes all cells old and drops all places. An answered mark adds its place. [..] Nothing else changes
+-- 01: "An answered prepare makes all cells old and drops all places. An answered mark adds its place. [..] Nothing else changes
 -- the book."
 unfoldable pub bookAnswer : Call → Book → Book
 bookAnswer (bind h) bk = bk
@@ -72,17 +73,18 @@ bookAnswer sharedRelease bk = bk
 unfoldable pub takerOf : Call → ℕ
 takerOf = elim [ alloc h size align offset offer ↦ h | bind h ↦ 0 | destroy h ↦ 0 | prepare ↦ 0 | mark a b ↦ 0 | release h ↦ 0 | sharedRelease ↦ 0 ]
 
--- "It is fed each call and, in order, the sweeps, block releases, cell taken and answer of demand 2's machine in that call"
+-- 01: "It is fed each call and, in order, the sweeps, block releases, cell taken and answer of demand 2's machine in that call;
+-- nothing from the port."
 unfoldable pub bookAfter : Params → Call → Step → Book → Book
 bookAfter p c s bk =
     let book : Book = bookEvents p (takerOf c) (s .events) bk in
     if eqb (s .reply .number) 0 then bookAnswer c book else book
 
--- "unmarked if the sweep chosen would find none of the book's places for it"
+-- 01: "unmarked if the sweep chosen would find none of the book's places for it"
 unfoldable pub unmarked : Params → Book → Cell → Bool
 unmarked p bk c = not (keeps p (λ a. member a (bk .places)) (c .size) (c .start))
 
--- ---- runs
+-- ---- runs: "every call gets the tables that the one before left and the parameters, buffers and choices that set-up was given"
 
 -- a byte that a holder writes
 pub record Write : Type 0 where
@@ -93,7 +95,8 @@ pub record Write : Type 0 where
 unfoldable pub written : Params → List Write → List ℕ → List ℕ
 written p ws h = foldl (λ h′ w. set h′ (w .address - p .base) (w .byte)) h ws
 
--- holders write, and then a call is made
+-- holders write, and then a call is made. "never repeat it": a `Call` is never a set-up. Marks carry place and block, allocs
+-- their offer
 pub record Turn : Type 0 where
   pub writes : List Write
   pub call : Call
@@ -108,21 +111,27 @@ unfoldable pub foundBy : Params → Lent → Turn → Lent
 foundBy p l u =
     record { words = l .words; states = l .states; marks = l .marks; heap = written p (u .writes) (l .heap) }
 
--- the machine's step of a turn's call. `call` is this step wherever the lengths fit, and they do from set-up on
+-- the machine's step of a turn's call: its events. `TurnKeeps` says that the call's result is this step's
 unfoldable pub stepOf : Params → State → Turn → Step
 stepOf p s u = step p (tablesIn (s .lent)) (foundBy p (s .lent) u .heap) (u .call)
 
 unfoldable pub resultOf : Params → State → Turn → Result
 resultOf p s u = call p (foundBy p (s .lent) u) (u .call)
 
+unfoldable pub bookOf : Params → State → Turn → Book
+bookOf p s u = bookAfter p (u .call) (stepOf p s u) (s .book)
+
 unfoldable pub turned : Params → State → Turn → State
-turned p s u = record { lent = resultOf p s u .lent; book = bookAfter p (u .call) (stepOf p s u) (s .book) }
+turned p s u = record { lent = resultOf p s u .lent; book = bookOf p s u }
 
--- after set-up, on what was lent to it
+abbrev pub emptyBook : Book
+emptyBook = record { cells = []; places = [] }
+
+-- after set-up, on what was lent to it: "whatever bytes the heap starts with"
 unfoldable pub begun : Params → Lent → State
-begun p l = record { lent = setUp p l .lent; book = record { cells = []; places = [] } }
+begun p l = record { lent = setUp p l .lent; book = emptyBook }
 
--- ---- the premise: each byte is written into a cell that its writer holds then
+-- ---- the premise "between calls only holders write, and only in cells they hold then"
 
 unfoldable pub covers : Cell → ℕ → Type 0
 covers c a = ((c .start ≤ a) × (a < c .start + c .size))
@@ -135,7 +144,9 @@ HoldersWrite p s [] = Unit {0}
 HoldersWrite p s (u ∷ us) =
     (((w : Write) → In w (u .writes) → Holds (s .book) w) × HoldersWrite p (turned p s u) us)
 
--- ---- what a reader of two runs sees after each call: "Answers are compared with their counts"
+-- ---- what a reader of two runs sees: "answers, counts and tables at set-up and after each call". 01: "Answers are compared with
+-- their counts: swept is the number of block sweeps in the call, released the number of blocks it made Unallocated. Tables are all
+-- that calls keep outside the heap"
 
 pub record Seen : Type 0 where
   pub reply : Reply
@@ -155,12 +166,13 @@ unfoldable pub trace : Params → State → List Turn → List Seen
 trace p s [] = []
 trace p s (u ∷ us) = seen (resultOf p s u) (stepOf p s u .events) ∷ trace p (turned p s u) us
 
--- ---- what holds in each turn
+-- ---- what holds in each run, call by call. A call of a run is given by its events, its reply, and the heap and the book before
+-- and after it
 
 abbrev pub byteAt : Params → List ℕ → ℕ → ℕ
 byteAt p h a = getD h (a - p .base) 0
 
--- "every cell arrives zeroed": it lies in the heap, and each of its bytes is 0 when the call returns
+-- "every cell arrives all zero": it lies in the heap, and each of its bytes is 0 when the call returns
 unfoldable pub Zeroed : Params → List Event → List ℕ → Type 0
 Zeroed p es h =
     (a s : ℕ) → In (taken a s) es
@@ -168,17 +180,17 @@ Zeroed p es h =
 
 -- A served alloc takes a cell: the size answered is the cell's, and the address answered is its start, shifted, from which
 -- the size asked for lies within the cell. This ties what the book enters to what the caller is told
-unfoldable pub Served : Call → Step → Type 0
-Served c s =
-    (h size align offset : ℕ) (offer : Offer) → c ≡ alloc h size align offset offer → s .reply .number ≡ 0
-    → (a : ℕ) × (n : ℕ) × In (taken a n) (s .events) × (getD (s .reply .values) 0 0 ≡ alignAllocation a align offset)
-    × (getD (s .reply .values) 1 0 ≡ n) × (alignAllocation a align offset + size ≤ a + n)
+unfoldable pub Served : Call → Reply → List Event → Type 0
+Served c r es =
+    (h size align offset : ℕ) (offer : Offer) → c ≡ alloc h size align offset offer → r .number ≡ 0
+    → (a : ℕ) × (n : ℕ) × In (taken a n) es × (getD (r .values) 0 0 ≡ alignAllocation a align offset)
+    × (getD (r .values) 1 0 ≡ n) × (alignAllocation a align offset + size ≤ a + n)
 
 -- "no byte lies in two held cells"
 unfoldable pub Apart : Cell → Cell → Type 0
 Apart c d = (a : ℕ) → covers c a → covers d a → ⊥
 
--- "One held before a call stays held in it unless struck out"
+-- 01: "One held before a call stays held in it unless struck out"
 unfoldable pub staysHeld : Params → List Event → Cell → Bool
 staysHeld p es c = not (any (λ e. frees p e c) es)
 
@@ -204,13 +216,18 @@ LostExactly p h (e ∷ es) bk =
     → (frees p e c ≡ (hits p e c && unmarked p bk c)) × (frees p e c ≡ true → c .old ≡ true))
     × LostExactly p h es (bookEvent p h e bk))
 
+-- all of it, of the call c on the heap h and the book bk, with its events es, that gave r and left the book bk′
+pub record CallKeeps (p : Params) (c : Call) (es : List Event) (r : Result) (h : List ℕ) (bk bk′ : Book) : Type 0 where
+  pub served : Served c (r .reply) es
+  pub zeroed : Zeroed p es (r .lent .heap)
+  pub apart : Pairwise Apart (bk′ .cells)
+  pub unchanged : Unchanged p bk es h (r .lent .heap)
+  pub lost : LostExactly p (takerOf c) es bk
+
 pub record TurnKeeps (p : Params) (s : State) (u : Turn) : Type 0 where
-  pub served : Served (u .call) (stepOf p s u)
-  pub zeroed : Zeroed p (stepOf p s u .events) (resultOf p s u .lent .heap)
-  pub apart : Pairwise Apart (turned p s u .book .cells)
-  pub unchanged :
-      Unchanged p (s .book) (stepOf p s u .events) (foundBy p (s .lent) u .heap) (resultOf p s u .lent .heap)
-  pub lost : LostExactly p (takerOf (u .call)) (stepOf p s u .events) (s .book)
+  -- the events are of the very step that gave the result
+  pub result : resultOf p s u ≡ resultFrom (stepOf p s u)
+  pub keeps : CallKeeps p (u .call) (stepOf p s u .events) (resultOf p s u) (foundBy p (s .lent) u .heap) (s .book) (bookOf p s u)
 
 unfoldable pub RunKeeps : Params → State → List Turn → Type 0
 RunKeeps p s [] = Unit {0}
@@ -218,23 +235,25 @@ RunKeeps p s (u ∷ us) = (TurnKeeps p s u × RunKeeps p (turned p s u) us)
 
 -- ---- demand 3
 
--- "whatever the heap's bytes at the start and whatever holders write, two runs with the same calls agree in answers, counts
--- and tables": at set-up and after each call
+-- "give equal answers, counts and tables at set-up and after each call"
 pub record Alike (p : Params) (l l′ : Lent) (us us′ : List Turn) : Type 0 where
   pub setUps : seen (setUp p l) [] ≡ seen (setUp p l′) []
   pub calls : trace p (begun p l) us ≡ trace p (begun p l′) us′
-  -- "Pages used [..] asked at one point of both runs on the same records, it answers alike."
+  -- 01: "Pages used [..] asked at one point of both runs on the same records, it answers alike."
   pub pagesAtSetUp : (firsts : List ℕ) → pages p (setUp p l .lent .words) firsts ≡ pages p (setUp p l′ .lent .words) firsts
   pub pagesAfter : (firsts : List ℕ) → map (λ s. pages p (s .words) firsts) (trace p (begun p l) us) ≡ map (λ s. pages p (s .words) firsts) (trace p (begun p l′) us′)
 
--- For all parameters for which set-up isn't refused, all lent bytes, all lists of calls, refused ones included, and all that
--- holders write into cells that they hold then. `RunKeeps` is claimed of the first run; either run may be the first
+-- "What a holder writes shows in no answer and reaches no other holder. For every list of bind, destroy, alloc, prepare, mark,
+-- release and shared release calls, refused ones included, after a set-up that isn't refused: whatever bytes the heap starts with
+-- and whatever holders write, two runs of demand 2's machine [..] give equal answers, counts and tables at set-up and after each
+-- call; in each, [..]. Premises: both runs have the same set-up, never repeat it, and make the same calls, marks and offers"
 unfoldable pub Demand3 : Type 0
 Demand3 =
+    -- the set-up's parameters are both runs'; the buffers lent to it may differ in every byte
     (p : Params) (l l′ : Lent) (us us′ : List Turn)
     → setUp p l .reply ≡ answered []
     → setUp p l′ .reply ≡ answered []
     → HoldersWrite p (begun p l) us
     → HoldersWrite p (begun p l′) us′
     → map (λ u. u .call) us ≡ map (λ u. u .call) us′
-    → Alike p l l′ us us′ × RunKeeps p (begun p l) us
+    → Alike p l l′ us us′ × RunKeeps p (begun p l) us × RunKeeps p (begun p l′) us′

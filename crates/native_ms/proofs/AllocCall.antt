@@ -26,7 +26,7 @@ use Rattle.laws.specs.Classes.{chosen, request, fits-raised}
 use Rattle.native_ms.specs.declared.allocator.Raised.{Raised}
 use Rattle.native_ms.specs.declared.allocator.Raised.the-variants as Raise
 use Rattle.native_ms.specs.Raised.{raisedTo}
-use Rattle.native_ms.specs.Promise.{lend, Promised}
+use Rattle.model.specs.Promise.{lend, Promised}
 use Rattle.native_ms.specs.declared.free_list_allocator.Checked.{Checked}
 use Rattle.native_ms.specs.declared.free_list_allocator.Checked.the-variants.{Bin, Refused}
 use Rattle.native_ms.specs.Ending.{stepped, Stepped, servedBy, Ready}

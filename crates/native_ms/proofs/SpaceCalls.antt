@@ -26,7 +26,7 @@ use Rattle.laws.specs.Below.{and-left, and-right, or-left}
 use Rattle.laws.specs.Base.{if-true, if-false}
 use Rattle.laws.specs.Params.{good-bounds, start-in, block-small}
 use Rattle.laws.specs.Tables.{flat-view}
-use Rattle.native_ms.specs.Promise.{lend, Promised, SetUpPromised}
+use Rattle.model.specs.Promise.{lend, Promised, SetUpPromised}
 use Rattle.native_ms.specs.Released.{Out, out, total}
 use Rattle.native_ms.specs.Space.{lengthsFit, inBlock, collected}
 use Rattle.native_ms.specs.declared.global.Tested.the-variants.{Passed}

@@ -22,7 +22,7 @@ use Rattle.laws.specs.Base.{if-true, if-false}
 use Rattle.laws.specs.Tables.{words-flat, flat-view}
 use Rattle.native_ms.specs.declared.global.Tested.{Tested}
 use Rattle.native_ms.specs.declared.global.Tested.the-variants.{Passed, Refused}
-use Rattle.native_ms.specs.Promise.{lend, Promised}
+use Rattle.model.specs.Promise.{lend, Promised}
 use Rattle.native_ms.specs.Space.{lengthsFit}
 use Rattle.native_ms.specs.SoundLaws.{sound-walk}
 use Rattle.native_ms.specs.Checked.{refusedIf, andThen, lentTests, phaseTest}

@@ -5,7 +5,6 @@ pub mod Records
 pub mod SoundWalk
 pub mod SoundLaws
 pub mod SoundTests
-pub mod Promise
 pub mod Closing
 pub mod Ending
 pub mod Checked

@@ -30,7 +30,7 @@ ghost use Rattle.model.specs.FreeListAllocator.{findFreeBlockWith, recycleLocal
 ghost use Rattle.model.specs.Calls.{goodOffer, alloc};
 ghost use Rattle.model.specs.Answers.{allocReply};
 ghost use Rattle.native_ms.specs.Closing.{ListNumber, Filed, seen, closed, Searched};
-ghost use Rattle.native_ms.specs.Promise.{lend, Promised};
+ghost use Rattle.model.specs.Promise.{lend, Promised};
 ghost use Rattle.native_ms.specs.Abandoned.{nextOf, popAbandoned, TakenOver};
 ghost use Rattle.native_ms.specs.Ending.{ended, closedSearch, acquireGlobal, Freshened, stepped, servedBy, Ready};
 ghost use Rattle.native_ms.specs.Checked.{requestTests, allocTests};

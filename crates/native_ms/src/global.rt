@@ -34,7 +34,7 @@ ghost use Rattle.model.specs.Tables.{Words, view, tablesOf, withReleased};
 ghost use Rattle.model.specs.Global.{freed, abandonBin, abandonBlocks, unmarkedState, releaseFrom, releaseBin, releaseHolder, sweepLaterBin, sweepLater, isHolder, hasReleased, partReleased};
 ghost use Rattle.model.specs.Calls.{bind, destroy, prepare, mark, release, sharedRelease, goodObject, mayRelease};
 ghost use Rattle.model.specs.Answers.{replyOf, markReply, releaseReply};
-ghost use Rattle.native_ms.specs.Promise.{lend, Promised, SetUpPromised};
+ghost use Rattle.model.specs.Promise.{lend, Promised, SetUpPromised};
 ghost use Rattle.native_ms.specs.Space.{lengthsFit, inBlock, collected};
 ghost use Rattle.native_ms.specs.Checked.{andThen, lentTests, phaseTest, boundTests, bindTests, markTests, releaseTests, sharedTests};
 ghost use Rattle.native_ms.specs.Released.{out, total, attemptRelease, releasedBins};

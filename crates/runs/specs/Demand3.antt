@@ -16,7 +16,7 @@ use Rattle.model.specs.Tables.{blocksIn, Tables, view, flat}
 use Rattle.model.specs.Events.{sweeps, releases}
 use Rattle.model.specs.Global.{freshWords, freshTables}
 use Rattle.model.specs.Calls.{Call, Step, step, Result, lentOf, resultFrom, setUp, pages}
-use Rattle.model.specs.Runs.{Cell, Book, bookAfter, Write, written, Turn, State, foundBy, stepOf, resultOf, turned, begun, covers, Holds, HoldersWrite, Seen, seen, trace, TurnKeeps, RunKeeps, Demand3}
+use Rattle.model.specs.Runs.{Cell, Book, bookAfter, Write, written, Turn, State, foundBy, stepOf, resultOf, bookOf, turned, emptyBook, begun, covers, Holds, HoldersWrite, Seen, seen, trace, CallKeeps, TurnKeeps, RunKeeps, Demand3}
 use Rattle.laws.specs.Params.{Bounds}
 use Rattle.laws.specs.Tables.{part-zeros, Sized, sized-view}
 use Rattle.laws.specs.Memory as Mem
@@ -27,9 +27,6 @@ use Rattle.runs.specs.Inv.{Held, Core}
 use Rattle.runs.specs.Plans.{Inv}
 use Rattle.runs.specs.Finish.{ShadowStep, StepOk, held-apart}
 use Rattle.runs.specs.Calls.{B, shadowStep, step-ok}
-
-abbrev emptyBook : Book
-emptyBook = record { cells = []; places = [] }
 
 -- ---- what holders write
 
@@ -155,18 +152,21 @@ module _ (p : Params) (fine : goodParams p ≡ true) where
 
     turn-of : turned p (stateOf t h bk) u
         ≡ stateOf (step p t g (u .call) .tables) (step p t g (u .call) .heap) (bookAfter p (u .call) (step p t g (u .call)) bk)
-    unfolding turned
+    unfolding turned bookOf
     turn-of = λ i. record { lent = result-of i .lent; book = bookAfter p (u .call) (step-of i) bk }
 
     turn-keeps : TurnKeeps p (stateOf t h bk) u
-    unfolding foundBy
+    unfolding foundBy bookOf
     turn-keeps =
         record {
-          served = rw step-of (S .served);
-          zeroed = rw (step-of, result-of) (S .zeroed);
-          apart = rw turn-of (held-apart p bounds _ _ _ (S .inv .core .held) (S .inv .core .apart));
-          unchanged = rw (step-of, result-of) (S .unchanged);
-          lost = rw step-of (S .lost);
+          result = result-of ∙ sym (ap (λ (x : Step). resultFrom x) step-of);
+          keeps = rw (step-of, result-of) (record {
+            served = S .served;
+            zeroed = S .zeroed;
+            apart = held-apart p bounds _ _ _ (S .inv .core .held) (S .inv .core .apart);
+            unchanged = S .unchanged;
+            lost = S .lost;
+          });
         }
 
     turn-seen : seen (resultOf p (stateOf t h bk) u) (stepOf p (stateOf t h bk) u .events) ≡ shadowSeen (shadowStep p t sh (u .call))
@@ -264,7 +264,8 @@ demand3 p l l′ us us′ e e′ H H′ same = (
     pagesAtSetUp = λ firsts. ap (λ (x : Seen). pages p (x .words) firsts) seen-same;
     pagesAfter = λ firsts. ap (map (λ (x : Seen). pages p (x .words) firsts)) calls-same;
   },
-  subst (λ (x : State). RunKeeps p x us) (sym (start-is l fit)) (keeps p fine us (freshTables p) (l .heap) (replicate (p .blocks) []) emptyBook (inv l fit) (held l fit us H)),
+  run-keeps l fit us H,
+  run-keeps l′ fit′ us′ H′,
 )
   where
     fit : fits p l ≡ true
@@ -288,6 +289,11 @@ demand3 p l l′ us us′ e e′ H H′ same = (
     run-is : (l : Lent) (f : fits p l ≡ true) (us : List Turn) → HoldersWrite p (begun p l) us
         → trace p (begun p l) us ≡ shadowTrace p fine (freshTables p) (replicate (p .blocks) []) (map (λ (u : Turn). u .call) us)
     run-is l f us H = ap (λ (x : State). trace p x us) (start-is l f) ∙ follows p fine us (freshTables p) (l .heap) (replicate (p .blocks) []) emptyBook (inv l f) (held l f us H)
+
+    run-keeps : (l : Lent) → fits p l ≡ true → (us : List Turn) → HoldersWrite p (begun p l) us → RunKeeps p (begun p l) us
+    run-keeps l f us H =
+        subst (λ (x : State). RunKeeps p x us) (sym (start-is l f))
+        (keeps p fine us (freshTables p) (l .heap) (replicate (p .blocks) []) emptyBook (inv l f) (held l f us H))
 
     calls-same : trace p (begun p l) us ≡ trace p (begun p l′) us′
     calls-same = run-is l fit us H ∙ ap (shadowTrace p fine (freshTables p) (replicate (p .blocks) [])) same ∙ sym (run-is l′ fit′ us′ H′)

@@ -89,7 +89,7 @@ servedBy (mark place b) s = Unit {0}
 servedBy (release h) s = Unit {0}
 servedBy sharedRelease s = Unit {0}
 
-served-by : (c : Call) (s : Step) → servedBy c s → Served c s
+served-by : (c : Call) (s : Step) → servedBy c s → Served c (s .reply) (s .events)
 unfolding servedBy Served
 served-by c s v h size align offset offer e = subst (λ (x : Call). servedBy x s) e v
 
@@ -100,7 +100,7 @@ module _ (p : Params) (B : Bounds p) where
     pub tables : s .tables ≡ a .tables
     pub events : s .events ≡ a .events
     pub inv : Inv p B (s .tables) (s .heap) (a .shadow) (bookAfter p c s bk)
-    pub served : Served c s
+    pub served : Served c (s .reply) (s .events)
     pub zeroed : Zeroed p (s .events) (s .heap)
     pub unchanged : Unchanged p bk (s .events) h (s .heap)
     pub lost : LostExactly p (takerOf c) (s .events) bk

@@ -238,7 +238,7 @@ module _ (p : Params) (B : Bounds p) where
           (λ e. I .held c m .size ∙ ap (λ (z : ℕ). getD size z 0) e)
           (λ k. not-both _ (in-member (c .start) chain k) out)
 
-      -- a sweep free-length the held cells of its block that are unmarked, and no other
+      -- a sweep frees the held cells of its block that are unmarked, and no other
       pub sweep-frees : (c : Cell) → In c (bk .cells) → frees p (swept b chain) c ≡ (hits p (swept b chain) c && unmarked p bk c)
       unfolding frees hits unmarked sweepChain
       sweep-frees c m = go (ℕ-discrete (blockAt p (c .start)) b)

@@ -7,4 +7,5 @@ pub mod AllocPlan
 pub mod Finish
 pub mod Calls
 pub mod Demand3
+pub mod Port
 pub mod Example

@@ -14,7 +14,7 @@ use Rattle.listing.specs.Print.{refusedRows}
 use Rattle.laws.specs.Text.{placeAfter, Printed, printed-append, length-printed}
 use Rattle.model.specs.Memory.{overwrite}
 use Rattle.trace.specs.Room.{census-short}
-use Rattle.native_ms.specs.Promise.{lend, SetUpPromised}
+use Rattle.model.specs.Promise.{lend, SetUpPromised}
 use Rattle.trace.specs.Run.{TraceRan}
 use Rattle.trace.specs.Sections.{tablesRead, blocksText, freeText}
 

@@ -19,7 +19,7 @@ use Rattle.model.specs.Census.{lineOf, pieces, space, linesOf}
 use Rattle.model.specs.Census.{censusParams, lineResult, RefusedLine, Ran, runLines}
 use Rattle.laws.specs.Base.{if-cases}
 use Rattle.laws.specs.Text.{linesFrom}
-use Rattle.native_ms.specs.Promise.{Promised}
+use Rattle.model.specs.Promise.{Promised}
 use Rattle.listing.specs.Print.{refusedFrom}
 use Rattle.listing.specs.declared.Line.{Line as Kind}
 use Rattle.listing.specs.Line.{lineFor}

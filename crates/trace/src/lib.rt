@@ -4,7 +4,7 @@ use native_ms::global;
 ghost use Prim.Native.Nat.{_≤_};
 ghost use lib.ListN.{length};
 ghost use Rattle.model.specs.Census.{census};
-ghost use Rattle.native_ms.specs.Promise.{lend};
+ghost use Rattle.model.specs.Promise.{lend};
 ghost use Rattle.laws.specs.Text.{Printed};
 ghost use Rattle.trace.specs.Census.{listingText, listedFrom, Listed};
 

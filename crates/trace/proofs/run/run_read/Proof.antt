@@ -4,7 +4,7 @@ use mathlib.Core.Path.{_≡_, refl, sym, _∙_}
 use Prim.Native.Nat.{_-_}
 use native.Mathlib.Omega.{arith}
 use lib.ListN.{length}
-use Rattle.native_ms.specs.Promise.{lend}
+use Rattle.model.specs.Promise.{lend}
 use Rattle.listing.specs.Lines.{lineBytes, next-step}
 use Rattle.trace.specs.Run.{Running, running-start, running-round, running-over, running-end}
 use borrow.Author.Needs.{needs}
