@@ -12,12 +12,8 @@ use lib.ListN.{length, take, drop, getD, set, replicate, length-append, length-s
 use lib.Seq.{set-out, set-getD, getD-take, getD-drop, getD-set-same, take-set-le, take-set-lt, drop-set-lt, drop-set-add, drop-drop, drop-cons, take-at, drop-at, take-all}
 use borrow.Author.Tests.{lt-ltb, le-ltb, ltb-true, ltb-false}
 use Rattle.model.specs.Base.{if_then_else_}
-use Rattle.model.specs.Tables.{Words, part, blocksIn, blockTable, view, flat, setFirst, setLast, setBound, setReleased, setNext, setPrev, setFree, setSize, setList, setTls, setPhase}
+use Rattle.model.specs.Tables.{Words, part, blocksIn, blockTable, view, flat, putIn, putFirst, putLast, putBound, putReleased, putNext, putPrev, putFree, putSize, putList, putTls, putPhase, setFirst, setLast, setBound, setReleased, setNext, setPrev, setFree, setSize, setList, setTls, setPhase}
 use Rattle.laws.specs.Memory.{getD-zeros}
-
--- the words with v at i of the k words from o on, and as they are if there is no such i
-abbrev pub putIn : ℕ → ℕ → ℕ → ℕ → List ℕ → List ℕ
-putIn o k i v w = if ltb i k then set w (o + i) v else w
 
 -- the two cases of a test
 pub by-lt : {P : Type 0} (i k : ℕ) → (i < k → P) → (k ≤ i → P) → P
@@ -161,54 +157,56 @@ view-put j o m i v w eo em =
     ∙ ap (λ (x : List ℕ). assemble (cuts (spans (blocksIn w)) x)) at
     ∙ ap assemble (cuts-putIn (spans (blocksIn w)) j i v w)
 
-module _ (i v : ℕ) (w : List ℕ) where
-  pub view-first : view (putIn 0 1470 i v w) ≡ setFirst i v (view w)
-  unfolding assemble cuts cutStart spans setFirst
-  view-first = view-put 0 0 1470 i v w refl refl ∙ ap (setFirst i v) (sym (view-cuts w))
+-- from here on u is the words w after a store in one of their tables
 
-  pub view-last : view (putIn 1470 1470 i v w) ≡ setLast i v (view w)
-  unfolding assemble cuts cutStart spans setLast
-  view-last = view-put 1 1470 1470 i v w refl refl ∙ ap (setLast i v) (sym (view-cuts w))
+module _ (i v : ℕ) (w : List ℕ) {u : List ℕ} where
+  pub put-first : u ≡ putFirst i v w → view u ≡ setFirst i v (view w)
+  unfolding assemble cuts cutStart spans putFirst setFirst
+  put-first e = ap view e ∙ view-put 0 0 1470 i v w refl refl ∙ ap (setFirst i v) (sym (view-cuts w))
 
-  pub view-bound : view (putIn 2941 8 i v w) ≡ setBound i v (view w)
-  unfolding assemble cuts cutStart spans setBound
-  view-bound = view-put 3 2941 8 i v w refl refl ∙ ap (setBound i v) (sym (view-cuts w))
+  pub put-last : u ≡ putLast i v w → view u ≡ setLast i v (view w)
+  unfolding assemble cuts cutStart spans putLast setLast
+  put-last e = ap view e ∙ view-put 1 1470 1470 i v w refl refl ∙ ap (setLast i v) (sym (view-cuts w))
 
-  pub view-released : view (putIn 2949 9 i v w) ≡ setReleased i v (view w)
-  unfolding assemble cuts cutStart spans setReleased
-  view-released = view-put 4 2949 9 i v w refl refl ∙ ap (setReleased i v) (sym (view-cuts w))
+  pub put-bound : u ≡ putBound i v w → view u ≡ setBound i v (view w)
+  unfolding assemble cuts cutStart spans putBound setBound
+  put-bound e = ap view e ∙ view-put 3 2941 8 i v w refl refl ∙ ap (setBound i v) (sym (view-cuts w))
 
-  pub view-next : view (putIn (2958 + 0 * blocksIn w) (blocksIn w) i v w) ≡ setNext i v (view w)
-  unfolding assemble cuts cutStart spans setNext
-  view-next = view-put 5 (2958 + 0 * blocksIn w) (blocksIn w) i v w (omega arith) refl ∙ ap (setNext i v) (sym (view-cuts w))
+  pub put-released : u ≡ putReleased i v w → view u ≡ setReleased i v (view w)
+  unfolding assemble cuts cutStart spans putReleased setReleased
+  put-released e = ap view e ∙ view-put 4 2949 9 i v w refl refl ∙ ap (setReleased i v) (sym (view-cuts w))
 
-  pub view-prev : view (putIn (2958 + 1 * blocksIn w) (blocksIn w) i v w) ≡ setPrev i v (view w)
-  unfolding assemble cuts cutStart spans setPrev
-  view-prev = view-put 6 (2958 + 1 * blocksIn w) (blocksIn w) i v w (omega arith) refl ∙ ap (setPrev i v) (sym (view-cuts w))
+  pub put-next : u ≡ putNext i v w → view u ≡ setNext i v (view w)
+  unfolding assemble cuts cutStart spans putNext setNext
+  put-next e = ap view e ∙ view-put 5 (2958 + 0 * blocksIn w) (blocksIn w) i v w (omega arith) refl ∙ ap (setNext i v) (sym (view-cuts w))
 
-  pub view-free : view (putIn (2958 + 2 * blocksIn w) (blocksIn w) i v w) ≡ setFree i v (view w)
-  unfolding assemble cuts cutStart spans setFree
-  view-free = view-put 7 (2958 + 2 * blocksIn w) (blocksIn w) i v w (omega arith) refl ∙ ap (setFree i v) (sym (view-cuts w))
+  pub put-prev : u ≡ putPrev i v w → view u ≡ setPrev i v (view w)
+  unfolding assemble cuts cutStart spans putPrev setPrev
+  put-prev e = ap view e ∙ view-put 6 (2958 + 1 * blocksIn w) (blocksIn w) i v w (omega arith) refl ∙ ap (setPrev i v) (sym (view-cuts w))
 
-  pub view-size : view (putIn (2958 + 3 * blocksIn w) (blocksIn w) i v w) ≡ setSize i v (view w)
-  unfolding assemble cuts cutStart spans setSize
-  view-size = view-put 8 (2958 + 3 * blocksIn w) (blocksIn w) i v w (omega arith) refl ∙ ap (setSize i v) (sym (view-cuts w))
+  pub put-free : u ≡ putFree i v w → view u ≡ setFree i v (view w)
+  unfolding assemble cuts cutStart spans putFree setFree
+  put-free e = ap view e ∙ view-put 7 (2958 + 2 * blocksIn w) (blocksIn w) i v w (omega arith) refl ∙ ap (setFree i v) (sym (view-cuts w))
 
-  pub view-list : view (putIn (2958 + 4 * blocksIn w) (blocksIn w) i v w) ≡ setList i v (view w)
-  unfolding assemble cuts cutStart spans setList
-  view-list = view-put 9 (2958 + 4 * blocksIn w) (blocksIn w) i v w (omega arith) refl ∙ ap (setList i v) (sym (view-cuts w))
+  pub put-size : u ≡ putSize i v w → view u ≡ setSize i v (view w)
+  unfolding assemble cuts cutStart spans putSize setSize
+  put-size e = ap view e ∙ view-put 8 (2958 + 3 * blocksIn w) (blocksIn w) i v w (omega arith) refl ∙ ap (setSize i v) (sym (view-cuts w))
 
-  pub view-tls : view (putIn (2958 + 5 * blocksIn w) (blocksIn w) i v w) ≡ setTls i v (view w)
-  unfolding assemble cuts cutStart spans setTls
-  view-tls = view-put 10 (2958 + 5 * blocksIn w) (blocksIn w) i v w (omega arith) refl ∙ ap (setTls i v) (sym (view-cuts w))
+  pub put-list : u ≡ putList i v w → view u ≡ setList i v (view w)
+  unfolding assemble cuts cutStart spans putList setList
+  put-list e = ap view e ∙ view-put 9 (2958 + 4 * blocksIn w) (blocksIn w) i v w (omega arith) refl ∙ ap (setList i v) (sym (view-cuts w))
+
+  pub put-tls : u ≡ putTls i v w → view u ≡ setTls i v (view w)
+  unfolding assemble cuts cutStart spans putTls setTls
+  put-tls e = ap view e ∙ view-put 10 (2958 + 5 * blocksIn w) (blocksIn w) i v w (omega arith) refl ∙ ap (setTls i v) (sym (view-cuts w))
 
 -- the phase is one word, and no list: a store of it is seen only where the word is there
-pub view-phase : (v : ℕ) (w : List ℕ) → 2940 < length w → view (putIn 2940 1 0 v w) ≡ setPhase v (view w)
-unfolding assemble cuts cutStart spans setPhase
-view-phase v w h =
+pub put-phase : (v : ℕ) (w : List ℕ) {u : List ℕ} → 2940 < length w → u ≡ putPhase v w → view u ≡ setPhase v (view w)
+unfolding assemble cuts cutStart spans putPhase setPhase
+put-phase v w {u} h e =
     let third : List ℕ = take 1 (drop 1470 (drop 1470 w)) in
     let some : 0 < length third = simp (length-take, length-drop) (omega arith) in
-    view-put 2 2940 1 0 v w refl refl
+    ap view (e ∙ sym (putIn-in 2940 1 0 v w (omega arith))) ∙ view-put 2 2940 1 0 v w refl refl
     ∙ rw (getD-set-same third 0 v 0 some) (ap (setPhase v) (sym (view-cuts w)))
 
 -- ---- how long each table is

@@ -2,7 +2,9 @@
 -- The words are lent in one slice, one table after the other; `view` takes it apart and `flat` puts it together again.
 use Prim.Native.Nat.{ℕ, _+_, _-_, _*_, _/_}
 use mathlib.Core.List.{List, _∷_, _++_}
+use lib.Dec.{ltb}
 use lib.ListN.{length, take, drop, getD, set}
+use Rattle.model.specs.Base.{if_then_else_}
 
 pub record Words : Type 0 where
   -- of each list: its first and its last block, by start address
@@ -54,6 +56,50 @@ unfoldable pub flat : Words → List ℕ
 flat t =
     t .first ++ (t .last ++ (t .phase ∷ (t .bound ++ (t .released
     ++ (t .next ++ (t .prev ++ (t .free ++ (t .size ++ (t .list ++ t .tls)))))))))
+
+-- ---- one word put in place of the old in the lent words themselves: a store past the end of its table writes nothing, and one
+-- in it changes no other word, whatever the length of the words
+
+-- the words with v at i of the k words from o on, and as they are if there is no such i
+abbrev pub putIn : ℕ → ℕ → ℕ → ℕ → List ℕ → List ℕ
+putIn o k i v w = if ltb i k then set w (o + i) v else w
+
+-- for the block i, in the j-th block table
+abbrev pub putBlockWord : ℕ → ℕ → ℕ → List ℕ → List ℕ
+putBlockWord j i v w = putIn (2958 + j * blocksIn w) (blocksIn w) i v w
+
+unfoldable pub putFirst : ℕ → ℕ → List ℕ → List ℕ
+putFirst i v w = putIn 0 1470 i v w
+
+unfoldable pub putLast : ℕ → ℕ → List ℕ → List ℕ
+putLast i v w = putIn 1470 1470 i v w
+
+unfoldable pub putPhase : ℕ → List ℕ → List ℕ
+putPhase v w = set w 2940 v
+
+unfoldable pub putBound : ℕ → ℕ → List ℕ → List ℕ
+putBound i v w = putIn 2941 8 i v w
+
+unfoldable pub putReleased : ℕ → ℕ → List ℕ → List ℕ
+putReleased i v w = putIn 2949 9 i v w
+
+unfoldable pub putNext : ℕ → ℕ → List ℕ → List ℕ
+putNext i v w = putBlockWord 0 i v w
+
+unfoldable pub putPrev : ℕ → ℕ → List ℕ → List ℕ
+putPrev i v w = putBlockWord 1 i v w
+
+unfoldable pub putFree : ℕ → ℕ → List ℕ → List ℕ
+putFree i v w = putBlockWord 2 i v w
+
+unfoldable pub putSize : ℕ → ℕ → List ℕ → List ℕ
+putSize i v w = putBlockWord 3 i v w
+
+unfoldable pub putList : ℕ → ℕ → List ℕ → List ℕ
+putList i v w = putBlockWord 4 i v w
+
+unfoldable pub putTls : ℕ → ℕ → List ℕ → List ℕ
+putTls i v w = putBlockWord 5 i v w
 
 -- "Tables are all that calls keep outside the heap: state bytes, block and list words, mark bits, phase, bound holders,
 -- released marks."

@@ -2,9 +2,8 @@
 // there is a 0, and nothing is written.
 ghost use mathlib.Core.Path.{_≡_};
 ghost use Prim.Native.Nat.{_+_, _*_, _<_};
-ghost use lib.ListN.{length, getD};
-ghost use Rattle.model.specs.Tables.{view, part, blocksIn, blockTable, setFirst, setLast, setBound, setReleased, setNext, setPrev, setFree, setSize, setList, setTls, setPhase};
-ghost use Rattle.laws.specs.Tables.{putIn};
+ghost use lib.ListN.{getD};
+ghost use Rattle.model.specs.Tables.{view, part, blocksIn, blockTable, putIn, putBlockWord, putFirst, putLast, putPhase, putBound, putReleased, putNext, putPrev, putFree, putSize, putList, putTls};
 
 // How many blocks the words are for.
 pub fn blocks(w: &[usize]) -> usize
@@ -54,7 +53,7 @@ fn block_word(w: &[usize], j: usize, i: usize) -> usize
 
 fn put_block_word(w: &mut [usize], j: usize, i: usize, v: usize)
     requires { ⌜ j < 6 ⌝ }
-    ensures { λ _. ⌜ now (w .exit) ≡ putIn (2958 + j * blocksIn (now (w .entry))) (blocksIn (now (w .entry))) i v (now (w .entry)) ⌝ }
+    ensures { λ _. ⌜ now (w .exit) ≡ putBlockWord j i v (now (w .entry)) ⌝ }
 {
     let n = blocks(w);
     put(w, 2958 + j * n, n, i, v);
@@ -67,9 +66,8 @@ pub fn phase(w: &[usize]) -> usize
     word(w, 2940, 1, 0)
 }
 
-// The phase is one word and no list, so the store is promised only where the word is there.
 pub fn set_phase(w: &mut [usize], v: usize)
-    ensures { λ _. ⌜ (2940 < length (now (w .entry)) → view (now (w .exit)) ≡ setPhase v (view (now (w .entry)))) ⌝ }
+    ensures { λ _. ⌜ now (w .exit) ≡ putPhase v (now (w .entry)) ⌝ }
 {
     put(w, 2940, 1, 0, v);
 }
@@ -82,7 +80,7 @@ pub fn first(w: &[usize], i: usize) -> usize
 }
 
 pub fn set_first(w: &mut [usize], i: usize, v: usize)
-    ensures { λ _. ⌜ view (now (w .exit)) ≡ setFirst i v (view (now (w .entry))) ⌝ }
+    ensures { λ _. ⌜ now (w .exit) ≡ putFirst i v (now (w .entry)) ⌝ }
 {
     put(w, 0, 1470, i, v);
 }
@@ -95,7 +93,7 @@ pub fn last(w: &[usize], i: usize) -> usize
 }
 
 pub fn set_last(w: &mut [usize], i: usize, v: usize)
-    ensures { λ _. ⌜ view (now (w .exit)) ≡ setLast i v (view (now (w .entry))) ⌝ }
+    ensures { λ _. ⌜ now (w .exit) ≡ putLast i v (now (w .entry)) ⌝ }
 {
     put(w, 1470, 1470, i, v);
 }
@@ -108,7 +106,7 @@ pub fn bound(w: &[usize], i: usize) -> usize
 }
 
 pub fn set_bound(w: &mut [usize], i: usize, v: usize)
-    ensures { λ _. ⌜ view (now (w .exit)) ≡ setBound i v (view (now (w .entry))) ⌝ }
+    ensures { λ _. ⌜ now (w .exit) ≡ putBound i v (now (w .entry)) ⌝ }
 {
     put(w, 2941, 8, i, v);
 }
@@ -121,7 +119,7 @@ pub fn released(w: &[usize], i: usize) -> usize
 }
 
 pub fn set_released(w: &mut [usize], i: usize, v: usize)
-    ensures { λ _. ⌜ view (now (w .exit)) ≡ setReleased i v (view (now (w .entry))) ⌝ }
+    ensures { λ _. ⌜ now (w .exit) ≡ putReleased i v (now (w .entry)) ⌝ }
 {
     put(w, 2949, 9, i, v);
 }
@@ -134,7 +132,7 @@ pub fn next(w: &[usize], i: usize) -> usize
 }
 
 pub fn set_next(w: &mut [usize], i: usize, v: usize)
-    ensures { λ _. ⌜ view (now (w .exit)) ≡ setNext i v (view (now (w .entry))) ⌝ }
+    ensures { λ _. ⌜ now (w .exit) ≡ putNext i v (now (w .entry)) ⌝ }
 {
     put_block_word(w, 0, i, v);
 }
@@ -147,7 +145,7 @@ pub fn prev(w: &[usize], i: usize) -> usize
 }
 
 pub fn set_prev(w: &mut [usize], i: usize, v: usize)
-    ensures { λ _. ⌜ view (now (w .exit)) ≡ setPrev i v (view (now (w .entry))) ⌝ }
+    ensures { λ _. ⌜ now (w .exit) ≡ putPrev i v (now (w .entry)) ⌝ }
 {
     put_block_word(w, 1, i, v);
 }
@@ -160,7 +158,7 @@ pub fn free(w: &[usize], i: usize) -> usize
 }
 
 pub fn set_free(w: &mut [usize], i: usize, v: usize)
-    ensures { λ _. ⌜ view (now (w .exit)) ≡ setFree i v (view (now (w .entry))) ⌝ }
+    ensures { λ _. ⌜ now (w .exit) ≡ putFree i v (now (w .entry)) ⌝ }
 {
     put_block_word(w, 2, i, v);
 }
@@ -173,7 +171,7 @@ pub fn size(w: &[usize], i: usize) -> usize
 }
 
 pub fn set_size(w: &mut [usize], i: usize, v: usize)
-    ensures { λ _. ⌜ view (now (w .exit)) ≡ setSize i v (view (now (w .entry))) ⌝ }
+    ensures { λ _. ⌜ now (w .exit) ≡ putSize i v (now (w .entry)) ⌝ }
 {
     put_block_word(w, 3, i, v);
 }
@@ -186,7 +184,7 @@ pub fn list(w: &[usize], i: usize) -> usize
 }
 
 pub fn set_list(w: &mut [usize], i: usize, v: usize)
-    ensures { λ _. ⌜ view (now (w .exit)) ≡ setList i v (view (now (w .entry))) ⌝ }
+    ensures { λ _. ⌜ now (w .exit) ≡ putList i v (now (w .entry)) ⌝ }
 {
     put_block_word(w, 4, i, v);
 }
@@ -199,7 +197,7 @@ pub fn tls(w: &[usize], i: usize) -> usize
 }
 
 pub fn set_tls(w: &mut [usize], i: usize, v: usize)
-    ensures { λ _. ⌜ view (now (w .exit)) ≡ setTls i v (view (now (w .entry))) ⌝ }
+    ensures { λ _. ⌜ now (w .exit) ≡ putTls i v (now (w .entry)) ⌝ }
 {
     put_block_word(w, 5, i, v);
 }

@@ -1,4 +1,5 @@
 -- `block::clear_block` meets its contract: six words and the state, in the order of `clearBlock`. Assumes nothing.
+use Rattle.laws.specs.Tables.{put-next, put-prev, put-free, put-size, put-list, put-tls}
 use Rattle.native_ms.proofs.Chains.{cleared}
 use borrow.Author.Needs.{needs}
 use Rattle.native_ms.proofs.block.clear_block.Statement.{statement}
@@ -31,9 +32,9 @@ same-length c = search needs
 same-length-2 : tie.Need-same-length-2
 same-length-2 c = search needs
 
---@ returns c = cleared _ _ _ (@set-next .ensures) (@set-prev .ensures) (@set-free .ensures) (@set-size .ensures) (@set-list .ensures) (@set-tls .ensures) (@set-state .ensures)
+--@ returns c = cleared _ _ _ (put-next _ _ _ (@set-next .ensures)) (put-prev _ _ _ (@set-prev .ensures)) (put-free _ _ _ (@set-free .ensures)) (put-size _ _ _ (@set-size .ensures)) (put-list _ _ _ (@set-list .ensures)) (put-tls _ _ _ (@set-tls .ensures)) (@set-state .ensures)
 returns : tie.Need-returns
-returns c = cleared _ _ _ (c .before .before .before .before .before .before .before .before .before .before .before .before .before .before .before .before .before .before .before .before .before .before .before .before .before .before .set-next .ensures) (c .before .before .before .before .before .before .before .before .before .before .before .before .before .before .before .before .before .before .before .before .before .before .set-prev .ensures) (c .before .before .before .before .before .before .before .before .before .before .before .before .before .before .before .before .before .before .set-free .ensures) (c .before .before .before .before .before .before .before .before .before .before .before .before .before .before .set-size .ensures) (c .before .before .before .before .before .before .before .before .before .before .set-list .ensures) (c .before .before .before .before .before .before .set-tls .ensures) (c .before .before .set-state .ensures)
+returns c = cleared _ _ _ (put-next _ _ _ (c .before .before .before .before .before .before .before .before .before .before .before .before .before .before .before .before .before .before .before .before .before .before .before .before .before .before .set-next .ensures)) (put-prev _ _ _ (c .before .before .before .before .before .before .before .before .before .before .before .before .before .before .before .before .before .before .before .before .before .before .set-prev .ensures)) (put-free _ _ _ (c .before .before .before .before .before .before .before .before .before .before .before .before .before .before .before .before .before .before .set-free .ensures)) (put-size _ _ _ (c .before .before .before .before .before .before .before .before .before .before .before .before .before .before .set-size .ensures)) (put-list _ _ _ (c .before .before .before .before .before .before .before .before .before .before .set-list .ensures)) (put-tls _ _ _ (c .before .before .before .before .before .before .set-tls .ensures)) (c .before .before .set-state .ensures)
 
 pub clear-block-spec : {M : Type 1} → statement M
 clear-block-spec =

@@ -1,4 +1,5 @@
 -- `block::init_block` meets its contract: all whole cells are linked, then head, size and holder set. Assumes nothing.
+use Rattle.laws.specs.Tables.{put-free, put-size, put-tls}
 use Rattle.native_ms.proofs.Chains.{block-room, initialised}
 use borrow.Author.Needs.{needs}
 use Rattle.native_ms.proofs.block.init_block.Statement.{statement}
@@ -29,9 +30,9 @@ same-length c = search needs
 same-length-2 : tie.Need-same-length-2
 same-length-2 c = search needs
 
---@ returns c = initialised _ _ _ _ _ _ (@cell-count .ensures) (@start .ensures) (@link-cells .ensures) (@set-free .ensures) (@set-size .ensures) (@set-tls .ensures)
+--@ returns c = initialised _ _ _ _ _ _ (@cell-count .ensures) (@start .ensures) (@link-cells .ensures) (put-free _ _ _ (@set-free .ensures)) (put-size _ _ _ (@set-size .ensures)) (put-tls _ _ _ (@set-tls .ensures))
 returns : tie.Need-returns
-returns c = initialised _ _ _ _ _ _ (c .before .before .before .before .before .before .before .before .before .before .before .before .before .before .before .before .before .cell-count .ensures) (c .before .before .before .before .before .before .before .before .before .before .before .before .before .before .before .before .start .ensures) (c .before .before .before .before .before .before .before .before .before .before .before .before .before .before .link-cells .ensures) (c .before .before .before .before .before .before .before .before .before .before .set-free .ensures) (c .before .before .before .before .before .before .set-size .ensures) (c .before .before .set-tls .ensures)
+returns c = initialised _ _ _ _ _ _ (c .before .before .before .before .before .before .before .before .before .before .before .before .before .before .before .before .before .cell-count .ensures) (c .before .before .before .before .before .before .before .before .before .before .before .before .before .before .before .before .start .ensures) (c .before .before .before .before .before .before .before .before .before .before .before .before .before .before .link-cells .ensures) (put-free _ _ _ (c .before .before .before .before .before .before .before .before .before .before .set-free .ensures)) (put-size _ _ _ (c .before .before .before .before .before .before .set-size .ensures)) (put-tls _ _ _ (c .before .before .set-tls .ensures))
 
 pub init-block-spec : {M : Type 1} → statement M
 init-block-spec =

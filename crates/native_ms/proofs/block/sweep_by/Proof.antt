@@ -1,4 +1,5 @@
 -- `block::sweep_by` meets its contract: the free cells are linked and the free head is set. Assumes nothing.
+use Rattle.laws.specs.Tables.{put-free}
 use Rattle.native_ms.specs.Block.{keptBy}
 use Rattle.native_ms.proofs.Chains.{block-room, swept-by}
 use borrow.Author.Needs.{needs}
@@ -27,9 +28,9 @@ same-length c = search needs
 same-length-2 : tie.Need-same-length-2
 same-length-2 c = search needs
 
---@ returns c = swept-by _ (keptBy (@args .simple) (@args .p) (@args .m .now)) _ _ _ (@size .ensures) (@cell-count .ensures) (@start .ensures) (@link-unmarked .ensures) (@set-free .ensures)
+--@ returns c = swept-by _ (keptBy (@args .simple) (@args .p) (@args .m .now)) _ _ _ (@size .ensures) (@cell-count .ensures) (@start .ensures) (@link-unmarked .ensures) (put-free _ _ _ (@set-free .ensures))
 returns : tie.Need-returns
-returns c = swept-by _ (keptBy (c .before .before .before .before .before .before .before .before .before .before .before .before .before .before .before .args .simple) (c .before .before .before .before .before .before .before .before .before .before .before .before .before .before .before .args .p) (c .before .before .before .before .before .before .before .before .before .before .before .before .before .before .before .args .m .now)) _ _ _ (c .before .before .before .before .before .before .before .before .before .before .size .ensures) (c .before .before .before .before .before .before .before .before .before .cell-count .ensures) (c .before .before .before .before .before .before .before .before .start .ensures) (c .before .before .before .before .before .before .link-unmarked .ensures) (c .before .before .set-free .ensures)
+returns c = swept-by _ (keptBy (c .before .before .before .before .before .before .before .before .before .before .before .before .before .before .before .args .simple) (c .before .before .before .before .before .before .before .before .before .before .before .before .before .before .before .args .p) (c .before .before .before .before .before .before .before .before .before .before .before .before .before .before .before .args .m .now)) _ _ _ (c .before .before .before .before .before .before .before .before .before .before .size .ensures) (c .before .before .before .before .before .before .before .before .before .cell-count .ensures) (c .before .before .before .before .before .before .before .before .start .ensures) (c .before .before .before .before .before .before .link-unmarked .ensures) (put-free _ _ _ (c .before .before .set-free .ensures))
 
 pub sweep-by-spec : {M : Type 1} → statement M
 sweep-by-spec =

@@ -1,6 +1,7 @@
 -- `block_list::append` links, relabels and empties the other list. Leans on one law for each way out.
 use mathlib.Core.Path.{_∙_}
 use Rattle.laws.specs.BlockList.{append-none, append-some}
+use Rattle.laws.specs.Tables.{put-first, put-last}
 use borrow.Author.Needs.{needs}
 use Rattle.native_ms.proofs.block_list.append.Statement.{statement}
 use Rattle.native_ms.proofs.block_list.append.Tie as tie
@@ -33,9 +34,9 @@ set-last-requires c κs = tt
 same-length-2 : tie.Need-same-length-2
 same-length-2 c = c .before .before .set-last .kept .0 ∙ c .before .before .before .before .before .before .set-first .kept .0 ∙ c .before .before .before .before .before .before .before .before .before .before .relabel .kept .1 .0 ∙ c .before .before .before .before .before .before .before .before .before .before .before .before .before .before .link .kept .1 .0
 
---@ returns-2 c = append-some _ _ _ _ (@first .ensures) (@if1 .left) (@link .ensures) (@relabel .ensures) (@set-first .ensures) (@set-last .ensures)
+--@ returns-2 c = append-some _ _ _ _ (@first .ensures) (@if1 .left) (@link .ensures) (@relabel .ensures) (put-first _ _ _ (@set-first .ensures)) (put-last _ _ _ (@set-last .ensures))
 returns-2 : tie.Need-returns-2
-returns-2 c = append-some _ _ _ _ (c .before .before .before .before .before .before .before .before .before .before .before .before .before .before .before .before .before .first .ensures) (c .before .before .before .before .before .before .before .before .before .before .before .before .before .before .before .before .if1 .left) (c .before .before .before .before .before .before .before .before .before .before .before .before .before .before .link .ensures) (c .before .before .before .before .before .before .before .before .before .before .relabel .ensures) (c .before .before .before .before .before .before .set-first .ensures) (c .before .before .set-last .ensures)
+returns-2 c = append-some _ _ _ _ (c .before .before .before .before .before .before .before .before .before .before .before .before .before .before .before .before .before .first .ensures) (c .before .before .before .before .before .before .before .before .before .before .before .before .before .before .before .before .if1 .left) (c .before .before .before .before .before .before .before .before .before .before .before .before .before .before .link .ensures) (c .before .before .before .before .before .before .before .before .before .before .relabel .ensures) (put-first _ _ _ (c .before .before .before .before .before .before .set-first .ensures)) (put-last _ _ _ (c .before .before .set-last .ensures))
 
 pub append-spec : {M : Type 1} → statement M
 append-spec =

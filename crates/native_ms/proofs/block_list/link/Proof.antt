@@ -1,6 +1,7 @@
 -- `block_list::link` makes the stores of `link`, in order. Leans on one law for each arm.
 use mathlib.Core.Path.{_∙_}
 use Rattle.laws.specs.BlockList.{link-empty, link-behind}
+use Rattle.laws.specs.Tables.{put-first, put-last, put-next, put-prev}
 use Rattle.native_ms.proofs.block_list.link.Statement.{statement}
 use Rattle.native_ms.proofs.block_list.link.Tie as tie
 
@@ -43,17 +44,17 @@ set-last-requires-2 c κs = tt
 same-length : tie.Need-same-length
 same-length c = c .before .before .set-last .kept .0 ∙ c .before .before .before .before .before .before .set-first .kept .0
 
---@ returns c = link-empty _ _ _ _ (@first .ensures) (@last .ensures) (@last2 .ensures) (@first2 .ensures) (@if1 .taken) (@set-first .ensures) (@set-last .ensures)
+--@ returns c = link-empty _ _ _ _ (@first .ensures) (@last .ensures) (@last2 .ensures) (@first2 .ensures) (@if1 .taken) (put-first _ _ _ (@set-first .ensures)) (put-last _ _ _ (@set-last .ensures))
 returns : tie.Need-returns
-returns c = link-empty _ _ _ _ (c .before .before .before .before .before .before .before .before .before .before .before .before .before .before .before .first .ensures) (c .before .before .before .before .before .before .before .before .before .before .before .before .before .last .ensures) (c .before .before .before .before .before .before .before .before .before .before .before .last2 .ensures) (c .before .before .before .before .before .before .before .before .before .first2 .ensures) (c .before .before .before .before .before .before .before .before .if1 .taken) (c .before .before .before .before .before .before .set-first .ensures) (c .before .before .set-last .ensures)
+returns c = link-empty _ _ _ _ (c .before .before .before .before .before .before .before .before .before .before .before .before .before .before .before .first .ensures) (c .before .before .before .before .before .before .before .before .before .before .before .before .before .last .ensures) (c .before .before .before .before .before .before .before .before .before .before .before .last2 .ensures) (c .before .before .before .before .before .before .before .before .before .first2 .ensures) (c .before .before .before .before .before .before .before .before .if1 .taken) (put-first _ _ _ (c .before .before .before .before .before .before .set-first .ensures)) (put-last _ _ _ (c .before .before .set-last .ensures))
 
 --@ same-length-2 c = @set-last2 .kept .0 ∙ @set-prev .kept .0 ∙ @set-next .kept .0
 same-length-2 : tie.Need-same-length-2
 same-length-2 c = c .before .before .set-last2 .kept .0 ∙ c .before .before .before .before .before .before .set-prev .kept .0 ∙ c .before .before .before .before .before .before .before .before .before .before .set-next .kept .0
 
---@ returns-2 c = link-behind _ _ _ _ (@first .ensures) (@last .ensures) (@last2 .ensures) (@first2 .ensures) (@if1 .left) (@block-at .ensures) (@block-at2 .ensures) (@set-next .ensures) (@set-prev .ensures) (@set-last2 .ensures)
+--@ returns-2 c = link-behind _ _ _ _ (@first .ensures) (@last .ensures) (@last2 .ensures) (@first2 .ensures) (@if1 .left) (@block-at .ensures) (@block-at2 .ensures) (put-next _ _ _ (@set-next .ensures)) (put-prev _ _ _ (@set-prev .ensures)) (put-last _ _ _ (@set-last2 .ensures))
 returns-2 : tie.Need-returns-2
-returns-2 c = link-behind _ _ _ _ (c .before .before .before .before .before .before .before .before .before .before .before .before .before .before .before .before .before .before .before .before .before .first .ensures) (c .before .before .before .before .before .before .before .before .before .before .before .before .before .before .before .before .before .before .before .last .ensures) (c .before .before .before .before .before .before .before .before .before .before .before .before .before .before .before .before .before .last2 .ensures) (c .before .before .before .before .before .before .before .before .before .before .before .before .before .before .before .first2 .ensures) (c .before .before .before .before .before .before .before .before .before .before .before .before .before .before .if1 .left) (c .before .before .before .before .before .before .before .before .before .before .before .before .before .block-at .ensures) (c .before .before .before .before .before .before .before .before .before .before .before .before .block-at2 .ensures) (c .before .before .before .before .before .before .before .before .before .before .set-next .ensures) (c .before .before .before .before .before .before .set-prev .ensures) (c .before .before .set-last2 .ensures)
+returns-2 c = link-behind _ _ _ _ (c .before .before .before .before .before .before .before .before .before .before .before .before .before .before .before .before .before .before .before .before .before .first .ensures) (c .before .before .before .before .before .before .before .before .before .before .before .before .before .before .before .before .before .before .before .last .ensures) (c .before .before .before .before .before .before .before .before .before .before .before .before .before .before .before .before .before .last2 .ensures) (c .before .before .before .before .before .before .before .before .before .before .before .before .before .before .before .first2 .ensures) (c .before .before .before .before .before .before .before .before .before .before .before .before .before .before .if1 .left) (c .before .before .before .before .before .before .before .before .before .before .before .before .before .block-at .ensures) (c .before .before .before .before .before .before .before .before .before .before .before .before .block-at2 .ensures) (put-next _ _ _ (c .before .before .before .before .before .before .before .before .before .before .set-next .ensures)) (put-prev _ _ _ (c .before .before .before .before .before .before .set-prev .ensures)) (put-last _ _ _ (c .before .before .set-last2 .ensures))
 
 pub link-spec : {M : Type 1} → statement M
 link-spec =

@@ -1,6 +1,7 @@
 -- `block_list::pop` makes the stores of `pop`, in order. Leans on one law for each way out.
 use mathlib.Core.Path.{_∙_}
 use Rattle.laws.specs.BlockList.{pop-none, pop-only, pop-ahead}
+use Rattle.laws.specs.Tables.{put-first, put-last, put-next, put-prev, put-list}
 use borrow.Author.Needs.{needs}
 use Rattle.native_ms.proofs.block_list.pop.Statement.{statement}
 use Rattle.native_ms.proofs.block_list.pop.Tie as tie
@@ -61,17 +62,17 @@ set-prev-requires-3 c κs = tt
 same-length-2 : tie.Need-same-length-2
 same-length-2 c = c .before .before .set-prev .kept .0 ∙ c .before .before .before .before .before .before .set-next .kept .0 ∙ c .before .before .before .before .before .before .before .before .before .before .set-last .kept .0 ∙ c .before .before .before .before .before .before .before .before .before .before .before .before .before .before .set-first .kept .0
 
---@ returns-2 c = pop-only _ _ _ (@first .ensures) (@if1 .left) (@block-at .ensures) (@next .ensures) (@if2 .taken) (@set-first .ensures) (@set-last .ensures) (@set-next .ensures) (@set-prev .ensures)
+--@ returns-2 c = pop-only _ _ _ (@first .ensures) (@if1 .left) (@block-at .ensures) (@next .ensures) (@if2 .taken) (put-first _ _ _ (@set-first .ensures)) (put-last _ _ _ (@set-last .ensures)) (put-next _ _ _ (@set-next .ensures)) (put-prev _ _ _ (@set-prev .ensures))
 returns-2 : tie.Need-returns-2
-returns-2 c = pop-only _ _ _ (c .before .before .before .before .before .before .before .before .before .before .before .before .before .before .before .before .before .before .before .before .before .first .ensures) (c .before .before .before .before .before .before .before .before .before .before .before .before .before .before .before .before .before .before .before .before .if1 .left) (c .before .before .before .before .before .before .before .before .before .before .before .before .before .before .before .before .before .before .before .block-at .ensures) (c .before .before .before .before .before .before .before .before .before .before .before .before .before .before .before .before .before .next .ensures) (c .before .before .before .before .before .before .before .before .before .before .before .before .before .before .before .before .if2 .taken) (c .before .before .before .before .before .before .before .before .before .before .before .before .before .before .set-first .ensures) (c .before .before .before .before .before .before .before .before .before .before .set-last .ensures) (c .before .before .before .before .before .before .set-next .ensures) (c .before .before .set-prev .ensures)
+returns-2 c = pop-only _ _ _ (c .before .before .before .before .before .before .before .before .before .before .before .before .before .before .before .before .before .before .before .before .before .first .ensures) (c .before .before .before .before .before .before .before .before .before .before .before .before .before .before .before .before .before .before .before .before .if1 .left) (c .before .before .before .before .before .before .before .before .before .before .before .before .before .before .before .before .before .before .before .block-at .ensures) (c .before .before .before .before .before .before .before .before .before .before .before .before .before .before .before .before .before .next .ensures) (c .before .before .before .before .before .before .before .before .before .before .before .before .before .before .before .before .if2 .taken) (put-first _ _ _ (c .before .before .before .before .before .before .before .before .before .before .before .before .before .before .set-first .ensures)) (put-last _ _ _ (c .before .before .before .before .before .before .before .before .before .before .set-last .ensures)) (put-next _ _ _ (c .before .before .before .before .before .before .set-next .ensures)) (put-prev _ _ _ (c .before .before .set-prev .ensures))
 
 --@ same-length-3 c = @set-prev3 .kept .0 ∙ @set-next2 .kept .0 ∙ @set-list .kept .0 ∙ @set-prev2 .kept .0 ∙ @set-first2 .kept .0
 same-length-3 : tie.Need-same-length-3
 same-length-3 c = c .before .before .set-prev3 .kept .0 ∙ c .before .before .before .before .before .before .set-next2 .kept .0 ∙ c .before .before .before .before .before .before .before .before .before .before .set-list .kept .0 ∙ c .before .before .before .before .before .before .before .before .before .before .before .before .before .before .set-prev2 .kept .0 ∙ c .before .before .before .before .before .before .before .before .before .before .before .before .before .before .before .before .before .before .set-first2 .kept .0
 
---@ returns-3 c = pop-ahead _ _ _ (@first .ensures) (@if1 .left) (@block-at .ensures) (@next .ensures) (@if2 .left) (@block-at2 .ensures) (@list-word .ensures) (@set-first2 .ensures) (@set-prev2 .ensures) (@set-list .ensures) (@set-next2 .ensures) (@set-prev3 .ensures)
+--@ returns-3 c = pop-ahead _ _ _ (@first .ensures) (@if1 .left) (@block-at .ensures) (@next .ensures) (@if2 .left) (@block-at2 .ensures) (@list-word .ensures) (put-first _ _ _ (@set-first2 .ensures)) (put-prev _ _ _ (@set-prev2 .ensures)) (put-list _ _ _ (@set-list .ensures)) (put-next _ _ _ (@set-next2 .ensures)) (put-prev _ _ _ (@set-prev3 .ensures))
 returns-3 : tie.Need-returns-3
-returns-3 c = pop-ahead _ _ _ (c .before .before .before .before .before .before .before .before .before .before .before .before .before .before .before .before .before .before .before .before .before .before .before .before .before .before .before .first .ensures) (c .before .before .before .before .before .before .before .before .before .before .before .before .before .before .before .before .before .before .before .before .before .before .before .before .before .before .if1 .left) (c .before .before .before .before .before .before .before .before .before .before .before .before .before .before .before .before .before .before .before .before .before .before .before .before .before .block-at .ensures) (c .before .before .before .before .before .before .before .before .before .before .before .before .before .before .before .before .before .before .before .before .before .before .before .next .ensures) (c .before .before .before .before .before .before .before .before .before .before .before .before .before .before .before .before .before .before .before .before .before .before .if2 .left) (c .before .before .before .before .before .before .before .before .before .before .before .before .before .before .before .before .before .before .before .before .before .block-at2 .ensures) (c .before .before .before .before .before .before .before .before .before .before .before .before .before .before .before .before .before .before .before .before .list-word .ensures) (c .before .before .before .before .before .before .before .before .before .before .before .before .before .before .before .before .before .before .set-first2 .ensures) (c .before .before .before .before .before .before .before .before .before .before .before .before .before .before .set-prev2 .ensures) (c .before .before .before .before .before .before .before .before .before .before .set-list .ensures) (c .before .before .before .before .before .before .set-next2 .ensures) (c .before .before .set-prev3 .ensures)
+returns-3 c = pop-ahead _ _ _ (c .before .before .before .before .before .before .before .before .before .before .before .before .before .before .before .before .before .before .before .before .before .before .before .before .before .before .before .first .ensures) (c .before .before .before .before .before .before .before .before .before .before .before .before .before .before .before .before .before .before .before .before .before .before .before .before .before .before .if1 .left) (c .before .before .before .before .before .before .before .before .before .before .before .before .before .before .before .before .before .before .before .before .before .before .before .before .before .block-at .ensures) (c .before .before .before .before .before .before .before .before .before .before .before .before .before .before .before .before .before .before .before .before .before .before .before .next .ensures) (c .before .before .before .before .before .before .before .before .before .before .before .before .before .before .before .before .before .before .before .before .before .before .if2 .left) (c .before .before .before .before .before .before .before .before .before .before .before .before .before .before .before .before .before .before .before .before .before .block-at2 .ensures) (c .before .before .before .before .before .before .before .before .before .before .before .before .before .before .before .before .before .before .before .before .list-word .ensures) (put-first _ _ _ (c .before .before .before .before .before .before .before .before .before .before .before .before .before .before .before .before .before .before .set-first2 .ensures)) (put-prev _ _ _ (c .before .before .before .before .before .before .before .before .before .before .before .before .before .before .set-prev2 .ensures)) (put-list _ _ _ (c .before .before .before .before .before .before .before .before .before .before .set-list .ensures)) (put-next _ _ _ (c .before .before .before .before .before .before .set-next2 .ensures)) (put-prev _ _ _ (c .before .before .set-prev3 .ensures))
 
 pub pop-spec : {M : Type 1} → statement M
 pop-spec =

@@ -1,6 +1,7 @@
 -- `block_list::push` makes the stores of `push`, in order. Leans on one law for each arm.
 use mathlib.Core.Path.{_∙_}
 use Rattle.laws.specs.BlockList.{push-only, push-ahead}
+use Rattle.laws.specs.Tables.{put-first, put-last, put-next, put-prev, put-list}
 use Rattle.native_ms.proofs.block_list.push.Statement.{statement}
 use Rattle.native_ms.proofs.block_list.push.Tie as tie
 
@@ -53,17 +54,17 @@ set-list-requires-2 c κs = tt
 same-length : tie.Need-same-length
 same-length c = c .before .before .set-list .kept .0 ∙ c .before .before .before .before .before .before .set-last .kept .0 ∙ c .before .before .before .before .before .before .before .before .before .before .set-first .kept .0 ∙ c .before .before .before .before .before .before .before .before .before .before .before .before .before .before .set-prev .kept .0 ∙ c .before .before .before .before .before .before .before .before .before .before .before .before .before .before .before .before .before .before .set-next .kept .0
 
---@ returns c = push-only _ _ _ _ (@start .ensures) (@list-word .ensures) (@first .ensures) (@if1 .taken) (@set-next .ensures) (@set-prev .ensures) (@set-first .ensures) (@set-last .ensures) (@set-list .ensures)
+--@ returns c = push-only _ _ _ _ (@start .ensures) (@list-word .ensures) (@first .ensures) (@if1 .taken) (put-next _ _ _ (@set-next .ensures)) (put-prev _ _ _ (@set-prev .ensures)) (put-first _ _ _ (@set-first .ensures)) (put-last _ _ _ (@set-last .ensures)) (put-list _ _ _ (@set-list .ensures))
 returns : tie.Need-returns
-returns c = push-only _ _ _ _ (c .before .before .before .before .before .before .before .before .before .before .before .before .before .before .before .before .before .before .before .before .before .before .before .before .start .ensures) (c .before .before .before .before .before .before .before .before .before .before .before .before .before .before .before .before .before .before .before .before .before .before .before .list-word .ensures) (c .before .before .before .before .before .before .before .before .before .before .before .before .before .before .before .before .before .before .before .before .before .first .ensures) (c .before .before .before .before .before .before .before .before .before .before .before .before .before .before .before .before .before .before .before .before .if1 .taken) (c .before .before .before .before .before .before .before .before .before .before .before .before .before .before .before .before .before .before .set-next .ensures) (c .before .before .before .before .before .before .before .before .before .before .before .before .before .before .set-prev .ensures) (c .before .before .before .before .before .before .before .before .before .before .set-first .ensures) (c .before .before .before .before .before .before .set-last .ensures) (c .before .before .set-list .ensures)
+returns c = push-only _ _ _ _ (c .before .before .before .before .before .before .before .before .before .before .before .before .before .before .before .before .before .before .before .before .before .before .before .before .start .ensures) (c .before .before .before .before .before .before .before .before .before .before .before .before .before .before .before .before .before .before .before .before .before .before .before .list-word .ensures) (c .before .before .before .before .before .before .before .before .before .before .before .before .before .before .before .before .before .before .before .before .before .first .ensures) (c .before .before .before .before .before .before .before .before .before .before .before .before .before .before .before .before .before .before .before .before .if1 .taken) (put-next _ _ _ (c .before .before .before .before .before .before .before .before .before .before .before .before .before .before .before .before .before .before .set-next .ensures)) (put-prev _ _ _ (c .before .before .before .before .before .before .before .before .before .before .before .before .before .before .set-prev .ensures)) (put-first _ _ _ (c .before .before .before .before .before .before .before .before .before .before .set-first .ensures)) (put-last _ _ _ (c .before .before .before .before .before .before .set-last .ensures)) (put-list _ _ _ (c .before .before .set-list .ensures))
 
 --@ same-length-2 c = @set-list2 .kept .0 ∙ @set-first2 .kept .0 ∙ @set-prev3 .kept .0 ∙ @set-prev2 .kept .0 ∙ @set-next2 .kept .0
 same-length-2 : tie.Need-same-length-2
 same-length-2 c = c .before .before .set-list2 .kept .0 ∙ c .before .before .before .before .before .before .set-first2 .kept .0 ∙ c .before .before .before .before .before .before .before .before .before .before .set-prev3 .kept .0 ∙ c .before .before .before .before .before .before .before .before .before .before .before .before .before .before .set-prev2 .kept .0 ∙ c .before .before .before .before .before .before .before .before .before .before .before .before .before .before .before .before .before .before .set-next2 .kept .0
 
---@ returns-2 c = push-ahead _ _ _ _ (@start .ensures) (@list-word .ensures) (@first .ensures) (@if1 .left) (@block-at .ensures) (@set-next2 .ensures) (@set-prev2 .ensures) (@set-prev3 .ensures) (@set-first2 .ensures) (@set-list2 .ensures)
+--@ returns-2 c = push-ahead _ _ _ _ (@start .ensures) (@list-word .ensures) (@first .ensures) (@if1 .left) (@block-at .ensures) (put-next _ _ _ (@set-next2 .ensures)) (put-prev _ _ _ (@set-prev2 .ensures)) (put-prev _ _ _ (@set-prev3 .ensures)) (put-first _ _ _ (@set-first2 .ensures)) (put-list _ _ _ (@set-list2 .ensures))
 returns-2 : tie.Need-returns-2
-returns-2 c = push-ahead _ _ _ _ (c .before .before .before .before .before .before .before .before .before .before .before .before .before .before .before .before .before .before .before .before .before .before .before .before .before .start .ensures) (c .before .before .before .before .before .before .before .before .before .before .before .before .before .before .before .before .before .before .before .before .before .before .before .before .list-word .ensures) (c .before .before .before .before .before .before .before .before .before .before .before .before .before .before .before .before .before .before .before .before .before .before .first .ensures) (c .before .before .before .before .before .before .before .before .before .before .before .before .before .before .before .before .before .before .before .before .before .if1 .left) (c .before .before .before .before .before .before .before .before .before .before .before .before .before .before .before .before .before .before .before .before .block-at .ensures) (c .before .before .before .before .before .before .before .before .before .before .before .before .before .before .before .before .before .before .set-next2 .ensures) (c .before .before .before .before .before .before .before .before .before .before .before .before .before .before .set-prev2 .ensures) (c .before .before .before .before .before .before .before .before .before .before .set-prev3 .ensures) (c .before .before .before .before .before .before .set-first2 .ensures) (c .before .before .set-list2 .ensures)
+returns-2 c = push-ahead _ _ _ _ (c .before .before .before .before .before .before .before .before .before .before .before .before .before .before .before .before .before .before .before .before .before .before .before .before .before .start .ensures) (c .before .before .before .before .before .before .before .before .before .before .before .before .before .before .before .before .before .before .before .before .before .before .before .before .list-word .ensures) (c .before .before .before .before .before .before .before .before .before .before .before .before .before .before .before .before .before .before .before .before .before .before .first .ensures) (c .before .before .before .before .before .before .before .before .before .before .before .before .before .before .before .before .before .before .before .before .before .if1 .left) (c .before .before .before .before .before .before .before .before .before .before .before .before .before .before .before .before .before .before .before .before .block-at .ensures) (put-next _ _ _ (c .before .before .before .before .before .before .before .before .before .before .before .before .before .before .before .before .before .before .set-next2 .ensures)) (put-prev _ _ _ (c .before .before .before .before .before .before .before .before .before .before .before .before .before .before .set-prev2 .ensures)) (put-prev _ _ _ (c .before .before .before .before .before .before .before .before .before .before .set-prev3 .ensures)) (put-first _ _ _ (c .before .before .before .before .before .before .set-first2 .ensures)) (put-list _ _ _ (c .before .before .set-list2 .ensures))
 
 pub push-spec : {M : Type 1} → statement M
 push-spec =

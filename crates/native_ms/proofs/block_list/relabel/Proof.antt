@@ -5,6 +5,7 @@ use lib.ListN.{length}
 use Rattle.model.specs.Tables.{view}
 use Rattle.model.specs.BlockList.{relabel}
 use Rattle.laws.specs.BlockList.{relabel-end, relabel-stop, relabel-step}
+use Rattle.laws.specs.Tables.{put-list}
 use borrow.Author.Count.{falls-down}
 use borrow.Author.Needs.{needs}
 use Rattle.native_ms.proofs.block_list.relabel.Statement.{statement}
@@ -48,9 +49,9 @@ sub-k c = search needs
 loop-less : tie.Need-loop-less Inv-loop μ-loop
 loop-less c = falls-down _ (c .before .before .before .before .before .before .before .before .loop-test .taken)
 
---@ loop-again c = (@set-list .kept .0 ∙ @loop .inv .0, relabel-step _ _ _ _ _ (@loop-test .taken) (@if1 .left) (@block-at .ensures) (@list-word .ensures) (@next .ensures) (@set-list .ensures) ∙ @loop .inv .1)
+--@ loop-again c = (@set-list .kept .0 ∙ @loop .inv .0, relabel-step _ _ _ _ _ (@loop-test .taken) (@if1 .left) (@block-at .ensures) (@list-word .ensures) (@next .ensures) (put-list _ _ _ (@set-list .ensures)) ∙ @loop .inv .1)
 loop-again : tie.Need-loop-again Inv-loop μ-loop
-loop-again c = (c .before .before .set-list .kept .0 ∙ c .before .before .before .before .before .before .before .before .before .loop .inv .0, relabel-step _ _ _ _ _ (c .before .before .before .before .before .before .before .before .loop-test .taken) (c .before .before .before .before .before .before .before .if1 .left) (c .before .before .before .before .before .before .block-at .ensures) (c .before .before .before .before .before .before .before .before .before .before .list-word .ensures) (c .before .before .before .before .next .ensures) (c .before .before .set-list .ensures) ∙ c .before .before .before .before .before .before .before .before .before .loop .inv .1)
+loop-again c = (c .before .before .set-list .kept .0 ∙ c .before .before .before .before .before .before .before .before .before .loop .inv .0, relabel-step _ _ _ _ _ (c .before .before .before .before .before .before .before .before .loop-test .taken) (c .before .before .before .before .before .before .before .if1 .left) (c .before .before .before .before .before .before .block-at .ensures) (c .before .before .before .before .before .before .before .before .before .before .list-word .ensures) (c .before .before .before .before .next .ensures) (put-list _ _ _ (c .before .before .set-list .ensures)) ∙ c .before .before .before .before .before .before .before .before .before .loop .inv .1)
 
 --@ same-length-2 c = @loop .inv .0
 same-length-2 : tie.Need-same-length-2 Inv-loop μ-loop

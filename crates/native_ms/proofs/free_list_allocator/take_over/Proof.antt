@@ -1,4 +1,5 @@
 -- `free_list_allocator::take_over` gives the block its holder, sweeps it if it was unswept, and files it. One law for each arm.
+use Rattle.laws.specs.Tables.{put-tls}
 use Rattle.native_ms.proofs.Search.{sets-low}
 use Rattle.native_ms.proofs.Abandoned.{over-available, over-unswept}
 use borrow.Author.Needs.{needs}
@@ -34,9 +35,9 @@ same-length c = search needs
 same-length-2 : tie.Need-same-length-2
 same-length-2 c = search needs
 
---@ returns c = over-unswept _ _ _ _ _ _ _ (@local-sets .ensures) (@available .ensures .same) (@consumed .ensures .same) (@set-tls .ensures) (@if1 .taken) (@sweep .ensures) (@file-block .ensures)
+--@ returns c = over-unswept _ _ _ _ _ _ _ (@local-sets .ensures) (@available .ensures .same) (@consumed .ensures .same) (put-tls _ _ _ (@set-tls .ensures)) (@if1 .taken) (@sweep .ensures) (@file-block .ensures)
 returns : tie.Need-returns
-returns c = over-unswept _ _ _ _ _ _ _ (c .before .before .before .before .before .before .before .before .before .before .before .before .before .before .before .before .before .before .local-sets .ensures) (c .before .before .before .before .before .before .before .before .before .before .before .before .before .before .before .before .before .available .ensures .same) (c .before .before .before .before .before .before .before .before .before .before .before .before .before .before .before .before .consumed .ensures .same) (c .before .before .before .before .before .before .before .before .before .before .before .before .before .before .set-tls .ensures) (c .before .before .before .before .before .before .before .before .before .before .before .if1 .taken) (c .before .before .before .before .before .before .before .before .sweep .ensures) (c .before .before .file-block .ensures)
+returns c = over-unswept _ _ _ _ _ _ _ (c .before .before .before .before .before .before .before .before .before .before .before .before .before .before .before .before .before .before .local-sets .ensures) (c .before .before .before .before .before .before .before .before .before .before .before .before .before .before .before .before .before .available .ensures .same) (c .before .before .before .before .before .before .before .before .before .before .before .before .before .before .before .before .consumed .ensures .same) (put-tls _ _ _ (c .before .before .before .before .before .before .before .before .before .before .before .before .before .before .set-tls .ensures)) (c .before .before .before .before .before .before .before .before .before .before .before .if1 .taken) (c .before .before .before .before .before .before .before .before .sweep .ensures) (c .before .before .file-block .ensures)
 
 --@ file-block-requires-2 c κs = (@pre .0, @available .ensures .low, @consumed .ensures .low)
 file-block-requires-2 : tie.Need-file-block-requires-2
@@ -45,9 +46,9 @@ file-block-requires-2 c κs = (c .before .before .before .before .before .before
 same-length-3 : tie.Need-same-length-3
 same-length-3 c = search needs
 
---@ returns-2 c = over-available _ _ _ _ _ _ _ (@local-sets .ensures) (@available .ensures .same) (@consumed .ensures .same) (@set-tls .ensures) (@if1 .left) (@file-block2 .ensures)
+--@ returns-2 c = over-available _ _ _ _ _ _ _ (@local-sets .ensures) (@available .ensures .same) (@consumed .ensures .same) (put-tls _ _ _ (@set-tls .ensures)) (@if1 .left) (@file-block2 .ensures)
 returns-2 : tie.Need-returns-2
-returns-2 c = over-available _ _ _ _ _ _ _ (c .before .before .before .before .before .before .before .before .before .before .before .local-sets .ensures) (c .before .before .before .before .before .before .before .before .before .before .available .ensures .same) (c .before .before .before .before .before .before .before .before .before .consumed .ensures .same) (c .before .before .before .before .before .before .before .set-tls .ensures) (c .before .before .before .before .if1 .left) (c .before .before .file-block2 .ensures)
+returns-2 c = over-available _ _ _ _ _ _ _ (c .before .before .before .before .before .before .before .before .before .before .before .local-sets .ensures) (c .before .before .before .before .before .before .before .before .before .before .available .ensures .same) (c .before .before .before .before .before .before .before .before .before .consumed .ensures .same) (put-tls _ _ _ (c .before .before .before .before .before .before .before .set-tls .ensures)) (c .before .before .before .before .if1 .left) (c .before .before .file-block2 .ensures)
 
 pub take-over-spec : {M : Type 1} → statement M
 take-over-spec =

@@ -1,5 +1,6 @@
 -- `global::bind` promises `call`, refused or not. Assumes nothing.
 use Rattle.model.specs.Answers.{replyOf}
+use Rattle.laws.specs.Tables.{put-bound}
 use Rattle.native_ms.proofs.Tests.{through, passed-by, refused-by}
 use Rattle.native_ms.proofs.SpaceCalls.{bind-plan, bind-low, bind-done}
 use borrow.Author.Needs.{needs}
@@ -33,10 +34,10 @@ returns c = refused-by (c .before .before .before .before .before .before .befor
 same-length-2 : tie.Need-same-length-2
 same-length-2 c = search needs
 
---@ returns-2 c = bind-done _ (passed-by (@args .p) _ _ _ _ _ _ _ (bind-plan (@args .p) _ _) (@check-bind .ensures) (@enum-told .given .1)) (@set-bound .kept .0) (@set-bound .ensures)
+--@ returns-2 c = bind-done _ (passed-by (@args .p) _ _ _ _ _ _ _ (bind-plan (@args .p) _ _) (@check-bind .ensures) (@enum-told .given .1)) (@set-bound .kept .0) (put-bound _ _ _ (@set-bound .ensures))
 returns-2 : tie.Need-returns-2
 unfolding replyOf
-returns-2 c = bind-done _ (passed-by (c .before .before .before .before .before .before .before .before .before .before .before .before .args .p) _ _ _ _ _ _ _ (bind-plan (c .before .before .before .before .before .before .before .before .before .before .before .before .args .p) _ _) (c .before .before .before .before .before .before .check-bind .ensures) (c .before .before .before .before .enum-told .given .1)) (c .before .before .set-bound .kept .0) (c .before .before .set-bound .ensures)
+returns-2 c = bind-done _ (passed-by (c .before .before .before .before .before .before .before .before .before .before .before .before .args .p) _ _ _ _ _ _ _ (bind-plan (c .before .before .before .before .before .before .before .before .before .before .before .before .args .p) _ _) (c .before .before .before .before .before .before .check-bind .ensures) (c .before .before .before .before .enum-told .given .1)) (c .before .before .set-bound .kept .0) (put-bound _ _ _ (c .before .before .set-bound .ensures))
 
 pub bind-spec : {M : Type 1} → statement M
 bind-spec =

@@ -4,6 +4,7 @@ use mathlib.Core.Path.{_≡_, refl, _∙_}
 use native.Mathlib.Omega.{arith}
 use lib.ListN.{length}
 use Rattle.model.specs.Tables.{view}
+use Rattle.laws.specs.Tables.{put-released}
 use Rattle.native_ms.proofs.SpaceCalls.{unreleased, unreleased-none, unreleased-more, unreleased-end}
 use Rattle.native_ms.proofs.global.clear_released.Statement.{statement}
 use Rattle.native_ms.proofs.global.clear_released.Tie as tie
@@ -28,9 +29,9 @@ add-i c = omega (arith, c .before .before .before .before .loop-test .taken)
 loop-less : tie.Need-loop-less Inv-loop μ-loop
 loop-less c = omega (arith, c .before .before .before .before .loop-test .taken)
 
---@ loop-again c = (@set-released .kept .0 ∙ @loop .inv .0, omega (arith, @loop-test .taken), unreleased-more _ _ (@loop .inv .2) (@set-released .ensures))
+--@ loop-again c = (@set-released .kept .0 ∙ @loop .inv .0, omega (arith, @loop-test .taken), unreleased-more _ _ (@loop .inv .2) (put-released _ _ _ (@set-released .ensures)))
 loop-again : tie.Need-loop-again Inv-loop μ-loop
-loop-again c = (c .before .before .set-released .kept .0 ∙ c .before .before .before .before .before .loop .inv .0, omega (arith, c .before .before .before .before .loop-test .taken), unreleased-more _ _ (c .before .before .before .before .before .loop .inv .2) (c .before .before .set-released .ensures))
+loop-again c = (c .before .before .set-released .kept .0 ∙ c .before .before .before .before .before .loop .inv .0, omega (arith, c .before .before .before .before .loop-test .taken), unreleased-more _ _ (c .before .before .before .before .before .loop .inv .2) (put-released _ _ _ (c .before .before .set-released .ensures)))
 
 --@ same-length c = @loop .inv .0
 same-length : tie.Need-same-length Inv-loop μ-loop

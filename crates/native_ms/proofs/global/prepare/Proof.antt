@@ -1,5 +1,6 @@
 -- `global::prepare` promises `call`, refused or not. Assumes nothing.
 use Rattle.model.specs.Answers.{replyOf}
+use Rattle.laws.specs.Tables.{put-phase}
 use Rattle.native_ms.proofs.Tests.{passed-by, refused-by}
 use Rattle.native_ms.proofs.SpaceCalls.{prepare-plan, prepare-done}
 use borrow.Author.Needs.{needs}
@@ -44,10 +45,10 @@ same-length-4 c = search needs
 same-length-5 : tie.Need-same-length-5
 same-length-5 c = search needs
 
---@ returns-2 c = prepare-done (passed-by (@args .p) _ _ _ _ _ _ _ (prepare-plan (@args .p) _) (@check-phase .ensures) (@enum-told .given .1)) (@set-phase .kept .0) (@set-phase .ensures) (@unmark-blocks .ensures) (@clear-all .ensures)
+--@ returns-2 c = prepare-done (passed-by (@args .p) _ _ _ _ _ _ _ (prepare-plan (@args .p) _) (@check-phase .ensures) (@enum-told .given .1)) (@set-phase .kept .0) (λ h. put-phase _ _ h (@set-phase .ensures)) (@unmark-blocks .ensures) (@clear-all .ensures)
 returns-2 : tie.Need-returns-2
 unfolding replyOf
-returns-2 c = prepare-done (passed-by (c .before .before .before .before .before .before .before .before .before .before .before .before .before .before .before .before .before .before .before .before .before .args .p) _ _ _ _ _ _ _ (prepare-plan (c .before .before .before .before .before .before .before .before .before .before .before .before .before .before .before .before .before .before .before .before .before .args .p) _) (c .before .before .before .before .before .before .before .before .before .before .before .before .before .before .check-phase .ensures) (c .before .before .before .before .before .before .before .before .before .before .before .before .enum-told .given .1)) (c .before .before .before .before .before .before .before .before .before .before .set-phase .kept .0) (c .before .before .before .before .before .before .before .before .before .before .set-phase .ensures) (c .before .before .before .before .before .before .unmark-blocks .ensures) (c .before .before .clear-all .ensures)
+returns-2 c = prepare-done (passed-by (c .before .before .before .before .before .before .before .before .before .before .before .before .before .before .before .before .before .before .before .before .before .args .p) _ _ _ _ _ _ _ (prepare-plan (c .before .before .before .before .before .before .before .before .before .before .before .before .before .before .before .before .before .before .before .before .before .args .p) _) (c .before .before .before .before .before .before .before .before .before .before .before .before .before .before .check-phase .ensures) (c .before .before .before .before .before .before .before .before .before .before .before .before .enum-told .given .1)) (c .before .before .before .before .before .before .before .before .before .before .set-phase .kept .0) (λ h. put-phase _ _ h (c .before .before .before .before .before .before .before .before .before .before .set-phase .ensures)) (c .before .before .before .before .before .before .unmark-blocks .ensures) (c .before .before .clear-all .ensures)
 
 pub prepare-spec : {M : Type 1} → statement M
 prepare-spec =

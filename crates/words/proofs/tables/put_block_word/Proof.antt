@@ -3,7 +3,7 @@ use mathlib.Core.Path.{_∙_, ap}
 use Prim.Native.Nat.{ℕ, _+_, _*_, _≤_}
 use native.Mathlib.Nat.{mul-le-mul-right}
 use native.Mathlib.Omega.{arith}
-use Rattle.laws.specs.Tables.{putIn}
+use Rattle.model.specs.Tables.{putIn}
 use borrow.Author.Needs.{needs}
 use Rattle.words.proofs.tables.put_block_word.Statement.{statement}
 use Rattle.words.proofs.tables.put_block_word.Tie as tie

@@ -1,7 +1,5 @@
--- `tables::set_first` writes its part of the words. Leans on `view-first`.
-use mathlib.Core.Path.{_∙_, ap}
-use Rattle.model.specs.Tables.{view}
-use Rattle.laws.specs.Tables.{view-first}
+-- `tables::set_first` writes its part of the words.
+use Rattle.model.specs.Tables.{putFirst}
 use borrow.Author.Needs.{needs}
 use Rattle.words.proofs.tables.set_first.Statement.{statement}
 use Rattle.words.proofs.tables.set_first.Tie as tie
@@ -13,7 +11,8 @@ same-length : tie.Need-same-length
 same-length c = search needs
 
 returns : tie.Need-returns
-returns c = ap view (c .before .before .put .ensures) ∙ view-first _ _ _
+unfolding putFirst
+returns c = c .before .before .put .ensures
 
 pub set-first-spec : {M : Type 1} → statement M
 set-first-spec = tie.close (tie.spec put-requires same-length returns)

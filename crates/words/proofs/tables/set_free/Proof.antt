@@ -1,7 +1,5 @@
--- `tables::set_free` writes its block table. Leans on `view-free`.
-use mathlib.Core.Path.{_∙_, ap}
-use Rattle.model.specs.Tables.{view}
-use Rattle.laws.specs.Tables.{view-free}
+-- `tables::set_free` writes its block table.
+use Rattle.model.specs.Tables.{putFree}
 use borrow.Author.Needs.{needs}
 use Rattle.words.proofs.tables.set_free.Statement.{statement}
 use Rattle.words.proofs.tables.set_free.Tie as tie
@@ -13,7 +11,8 @@ same-length : tie.Need-same-length
 same-length c = search needs
 
 returns : tie.Need-returns
-returns c = ap view (c .before .before .put-block-word .ensures) ∙ view-free _ _ _
+unfolding putFree
+returns c = c .before .before .put-block-word .ensures
 
 pub set-free-spec : {M : Type 1} → statement M
 set-free-spec = tie.close (tie.spec put-block-word-requires same-length returns)

@@ -1,7 +1,5 @@
--- `tables::set_last` writes its part of the words. Leans on `view-last`.
-use mathlib.Core.Path.{_∙_, ap}
-use Rattle.model.specs.Tables.{view}
-use Rattle.laws.specs.Tables.{view-last}
+-- `tables::set_last` writes its part of the words.
+use Rattle.model.specs.Tables.{putLast}
 use borrow.Author.Needs.{needs}
 use Rattle.words.proofs.tables.set_last.Statement.{statement}
 use Rattle.words.proofs.tables.set_last.Tie as tie
@@ -13,7 +11,8 @@ same-length : tie.Need-same-length
 same-length c = search needs
 
 returns : tie.Need-returns
-returns c = ap view (c .before .before .put .ensures) ∙ view-last _ _ _
+unfolding putLast
+returns c = c .before .before .put .ensures
 
 pub set-last-spec : {M : Type 1} → statement M
 set-last-spec = tie.close (tie.spec put-requires same-length returns)

@@ -1,7 +1,5 @@
--- `tables::set_list` writes its block table. Leans on `view-list`.
-use mathlib.Core.Path.{_∙_, ap}
-use Rattle.model.specs.Tables.{view}
-use Rattle.laws.specs.Tables.{view-list}
+-- `tables::set_list` writes its block table.
+use Rattle.model.specs.Tables.{putList}
 use borrow.Author.Needs.{needs}
 use Rattle.words.proofs.tables.set_list.Statement.{statement}
 use Rattle.words.proofs.tables.set_list.Tie as tie
@@ -13,7 +11,8 @@ same-length : tie.Need-same-length
 same-length c = search needs
 
 returns : tie.Need-returns
-returns c = ap view (c .before .before .put-block-word .ensures) ∙ view-list _ _ _
+unfolding putList
+returns c = c .before .before .put-block-word .ensures
 
 pub set-list-spec : {M : Type 1} → statement M
 set-list-spec = tie.close (tie.spec put-block-word-requires same-length returns)

@@ -1,7 +1,5 @@
--- `tables::set_next` writes its block table. Leans on `view-next`.
-use mathlib.Core.Path.{_∙_, ap}
-use Rattle.model.specs.Tables.{view}
-use Rattle.laws.specs.Tables.{view-next}
+-- `tables::set_next` writes its block table.
+use Rattle.model.specs.Tables.{putNext}
 use borrow.Author.Needs.{needs}
 use Rattle.words.proofs.tables.set_next.Statement.{statement}
 use Rattle.words.proofs.tables.set_next.Tie as tie
@@ -13,7 +11,8 @@ same-length : tie.Need-same-length
 same-length c = search needs
 
 returns : tie.Need-returns
-returns c = ap view (c .before .before .put-block-word .ensures) ∙ view-next _ _ _
+unfolding putNext
+returns c = c .before .before .put-block-word .ensures
 
 pub set-next-spec : {M : Type 1} → statement M
 set-next-spec = tie.close (tie.spec put-block-word-requires same-length returns)

@@ -1,7 +1,8 @@
--- `tables::set_phase` writes the word behind the lists. Leans on `view-phase`.
-use mathlib.Core.Path.{_∙_, ap}
-use Rattle.model.specs.Tables.{view}
-use Rattle.laws.specs.Tables.{view-phase}
+-- `tables::set_phase` writes the word behind the lists, a part of one word.
+use mathlib.Core.Path.{_∙_}
+use native.Mathlib.Omega.{arith}
+use Rattle.model.specs.Tables.{putPhase}
+use Rattle.laws.specs.Tables.{putIn-in}
 use borrow.Author.Needs.{needs}
 use Rattle.words.proofs.tables.set_phase.Statement.{statement}
 use Rattle.words.proofs.tables.set_phase.Tie as tie
@@ -13,7 +14,10 @@ same-length : tie.Need-same-length
 same-length c = search needs
 
 returns : tie.Need-returns
-returns c = λ h. ap view (c .before .before .put .ensures) ∙ view-phase _ _ h
+unfolding putPhase
+returns c =
+    let a = c .before .before .before .before .before .args in
+    c .before .before .put .ensures ∙ putIn-in 2940 1 0 (a .v) (a .w .now) (omega arith)
 
 pub set-phase-spec : {M : Type 1} → statement M
 set-phase-spec = tie.close (tie.spec put-requires same-length returns)

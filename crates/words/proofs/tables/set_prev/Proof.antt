@@ -1,7 +1,5 @@
--- `tables::set_prev` writes its block table. Leans on `view-prev`.
-use mathlib.Core.Path.{_∙_, ap}
-use Rattle.model.specs.Tables.{view}
-use Rattle.laws.specs.Tables.{view-prev}
+-- `tables::set_prev` writes its block table.
+use Rattle.model.specs.Tables.{putPrev}
 use borrow.Author.Needs.{needs}
 use Rattle.words.proofs.tables.set_prev.Statement.{statement}
 use Rattle.words.proofs.tables.set_prev.Tie as tie
@@ -13,7 +11,8 @@ same-length : tie.Need-same-length
 same-length c = search needs
 
 returns : tie.Need-returns
-returns c = ap view (c .before .before .put-block-word .ensures) ∙ view-prev _ _ _
+unfolding putPrev
+returns c = c .before .before .put-block-word .ensures
 
 pub set-prev-spec : {M : Type 1} → statement M
 set-prev-spec = tie.close (tie.spec put-block-word-requires same-length returns)

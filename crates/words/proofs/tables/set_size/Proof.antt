@@ -1,7 +1,5 @@
--- `tables::set_size` writes its block table. Leans on `view-size`.
-use mathlib.Core.Path.{_∙_, ap}
-use Rattle.model.specs.Tables.{view}
-use Rattle.laws.specs.Tables.{view-size}
+-- `tables::set_size` writes its block table.
+use Rattle.model.specs.Tables.{putSize}
 use borrow.Author.Needs.{needs}
 use Rattle.words.proofs.tables.set_size.Statement.{statement}
 use Rattle.words.proofs.tables.set_size.Tie as tie
@@ -13,7 +11,8 @@ same-length : tie.Need-same-length
 same-length c = search needs
 
 returns : tie.Need-returns
-returns c = ap view (c .before .before .put-block-word .ensures) ∙ view-size _ _ _
+unfolding putSize
+returns c = c .before .before .put-block-word .ensures
 
 pub set-size-spec : {M : Type 1} → statement M
 set-size-spec = tie.close (tie.spec put-block-word-requires same-length returns)

@@ -1,7 +1,5 @@
--- `tables::set_tls` writes its block table. Leans on `view-tls`.
-use mathlib.Core.Path.{_∙_, ap}
-use Rattle.model.specs.Tables.{view}
-use Rattle.laws.specs.Tables.{view-tls}
+-- `tables::set_tls` writes its block table.
+use Rattle.model.specs.Tables.{putTls}
 use borrow.Author.Needs.{needs}
 use Rattle.words.proofs.tables.set_tls.Statement.{statement}
 use Rattle.words.proofs.tables.set_tls.Tie as tie
@@ -13,7 +11,8 @@ same-length : tie.Need-same-length
 same-length c = search needs
 
 returns : tie.Need-returns
-returns c = ap view (c .before .before .put-block-word .ensures) ∙ view-tls _ _ _
+unfolding putTls
+returns c = c .before .before .put-block-word .ensures
 
 pub set-tls-spec : {M : Type 1} → statement M
 set-tls-spec = tie.close (tie.spec put-block-word-requires same-length returns)
