@@ -12,6 +12,7 @@ pub mod Sound
 pub mod Calls
 pub mod Promise
 pub mod Answers
+pub mod Refusals
 pub mod Runs
 pub mod Port
 pub mod Census

@@ -11,3 +11,4 @@ pub mod Alloc
 pub mod Kept
 pub mod Replies
 pub mod Never
+pub mod Released
