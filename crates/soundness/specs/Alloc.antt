@@ -53,16 +53,16 @@ record Out (p : Params) (t : Tables) (L : ℕ → List ℕ) (x : ℕ) : Type 0 w
   clear : (b : ℕ) → b < p .blocks → stateOf t b ≡ 0 → blockClear (t .words) b ≡ true
 
 -- u differs from w in the free, size and tls words of x alone
-record Tweaked (x : ℕ) (w u : Words) : Type 0 where
-  links : linksOf u ≡ linksOf w
-  words : (b : ℕ) → b ≢ x → SameWords w u b
+pub record Tweaked (x : ℕ) (w u : Words) : Type 0 where
+  pub links : linksOf u ≡ linksOf w
+  pub words : (b : ℕ) → b ≢ x → SameWords w u b
 
 -- a free head, a cell size, a holder stored into x
-tweak-free : (x v : ℕ) (w : Words) → Tweaked x w (setFree x v w)
+pub tweak-free : (x v : ℕ) (w : Words) → Tweaked x w (setFree x v w)
 unfolding setFree
 tweak-free x v w = record { links = refl; words = λ b f. record { free = set-off (w .free) x v b f; size = refl; tls = refl } }
 
-tweak-tls : (x v : ℕ) (w : Words) → Tweaked x w (setTls x v w)
+pub tweak-tls : (x v : ℕ) (w : Words) → Tweaked x w (setTls x v w)
 unfolding setTls
 tweak-tls x v w = record { links = refl; words = λ b f. record { free = refl; size = refl; tls = set-off (w .tls) x v b f } }
 
@@ -165,9 +165,9 @@ chain-link p w x s a kept word e q =
 
 module _ (p : Params) (B : Bounds p) (st ms : List ℕ) (h bin : ℕ) (lo : 1 ≤ h) (hi : h ≤ 8) (low : bin < 49) (w₀ : Words) where
   -- its words are good, and differ from w₀ in lists of the holder and abandoned ones alone
-  record Searched (w : Words) : Type 0 where
-    held : Held p ms w st
-    frame : Framed (h - 1) 8 w₀ w
+  pub record Searched (w : Words) : Type 0 where
+    pub held : Held p ms w st
+    pub frame : Framed (h - 1) 8 w₀ w
 
   -- x is out of all lists, and fits the list l
   record Taken (l x : ℕ) (w : Words) : Type 0 where
@@ -183,15 +183,15 @@ module _ (p : Params) (B : Bounds p) (st ms : List ℕ) (h bin : ℕ) (lo : 1 �
   is-holder = rw (le-leb 1 h lo, le-leb h 8 hi)
 
   -- the holder's lists
-  my-available : Numbered (available (localSets h) bin) (h - 1) bin
+  pub my-available : Numbered (available (localSets h) bin) (h - 1) bin
   unfolding localSets
   my-available = available-numbered (h - 1) bin (omega arith) low
 
-  my-unswept : Numbered (unswept (localSets h) bin) (h - 1) bin
+  pub my-unswept : Numbered (unswept (localSets h) bin) (h - 1) bin
   unfolding localSets
   my-unswept = unswept-numbered (h - 1) bin (omega arith) low
 
-  my-consumed : Numbered (consumed (localSets h) bin) (h - 1) bin
+  pub my-consumed : Numbered (consumed (localSets h) bin) (h - 1) bin
   unfolding localSets
   my-consumed = consumed-numbered (h - 1) bin (omega arith) low
 
@@ -291,7 +291,7 @@ module _ (p : Params) (B : Bounds p) (st ms : List ℕ) (h bin : ℕ) (lo : 1 �
       }
 
   -- every step of the search keeps the words so
-  steps : Steps p ms h bin (λ es w. Searched w) (λ es a w. Searched w)
+  pub steps : Steps p ms h bin (λ es w. Searched w) (λ es a w. Searched w)
   steps =
       record {
         moved = λ es w S some q.

@@ -12,3 +12,5 @@ pub mod Kept
 pub mod Replies
 pub mod Never
 pub mod Released
+pub mod Searches
+pub mod Refused

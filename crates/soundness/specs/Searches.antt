@@ -1,0 +1,531 @@
+-- What the search of an alloc moves, block by block, while it finds nothing: a block stays, or had no cell to give and is on the
+-- holder's consumed list. It sweeps no cell free, so the heap stays; the first sweep that frees one ends the search, and the link
+-- of the cell found there is good. Rides on what Alloc.antt shows of each step. Assumes nothing.
+use mathlib.Core.Path.{_≡_, refl, sym, ap, _∙_, subst}
+use mathlib.Core.Logic.{_≢_, _⊎_, inl, inr, ⊎-elim}
+use mathlib.Core.Bool.{Bool, true, false, _||_}
+use mathlib.Core.List.{List, [], _∷_, _++_, headD}
+use Prim.Native.Nat.{ℕ, _-_, _%_, _<_, _≤_}
+use native.Mathlib.Omega.{arith}
+use native.Mathlib.Decide.{ℕ-discrete}
+use lib.Dec.{eqb}
+use lib.ListN.{getD, length}
+use borrow.Author.Tests.{eq-eqb}
+use Rattle.model.specs.declared.Params.{Params}
+use Rattle.model.specs.Base.{if_then_else_, In}
+use Rattle.model.specs.Memory.{load, marked}
+use Rattle.model.specs.Params.{start, blockAt, heapBytes, listOf, listWord, localSets, abandoned, available, unswept, consumed}
+use Rattle.model.specs.Tables.{Words, tablesOf, setFirst, setLast, setNext, setPrev, setFree, setList, setTls}
+use Rattle.model.specs.BlockList.{push, pop, popHead, Popped, popped}
+use Rattle.model.specs.Block.{isCell, cellCount, cellsDown, linkAll, keeps, sweepChain, sweptWords}
+use Rattle.model.specs.Events.{Event, eventHeap, eventsHeap}
+use Rattle.model.specs.FreeListAllocator.{sweepOf}
+use Rattle.model.specs.Sound.{linkOk}
+use Rattle.model.specs.Refusals.{OnList, searches, HadNone, Unmoved, MovedFull, TakenOver, Passed}
+use Rattle.laws.specs.Base.{if-cases, not-both, or-left, or-right}
+use Rattle.laws.specs.Params.{Bounds, blockAt-start, word-same}
+use Rattle.laws.specs.Stores.{set-at, set-off}
+use Rattle.laws.specs.Classes.{cellBytes-least}
+use Rattle.laws.specs.Cells.{Whole, whole-isCell, whole-nonzero, in-chain, desc-less, desc-cellsDown, chainStands, stands-linkAll, whole-placed}
+use Rattle.laws.specs.Walks.{Numbered, available-numbered, unswept-numbered, Files, Steps}
+use Rattle.laws.specs.Tables.{Sized, lengths, sized-same, lengths-setFree, lengths-setTls}
+use Rattle.laws.specs.Frame.{LinksOnly, links-refl, push-links, pop-links, push-list, push-first, FirstsBut, pop-firsts}
+use Rattle.soundness.specs.Lists.{Lists, On, Same, put, Links, linksOf, on-list, lists-same, first-none, first-some}
+use Rattle.soundness.specs.Moves.{push-stays, pop-words, pop-stays, pop-lists}
+use Rattle.soundness.specs.Held.{Held, SameWords}
+use Rattle.soundness.specs.SoundLists.{Fit}
+use Rattle.soundness.specs.Alloc.{Tweaked, tweak-free, tweak-tls, my-available, my-unswept, my-consumed, Searched, steps}
+
+-- ---- one block moved
+
+-- the lasts of other lists stay
+push-last : (p : Params) (l b : ℕ) (w : Words) (n : ℕ) → n ≢ l → getD (push p l b w .last) n 0 ≡ getD (w .last) n 0
+unfolding push setFirst setLast setNext setPrev setList
+push-last p l b w n f =
+    if-cases (λ (x : Words). getD (x .last) n 0 ≡ getD (w .last) n 0) (eqb (getD (w .first) l 0) 0) (λ e. set-off (w .last) l (start p b) n f) (λ e. refl)
+
+pop-last : (p : Params) (l : ℕ) (w : Words) (n : ℕ) → n ≢ l → getD (pop p l w .words .last) n 0 ≡ getD (w .last) n 0
+unfolding pop popHead setFirst setLast setNext setPrev setList
+pop-last p l w n f =
+    if-cases (λ (x : Popped). getD (x .words .last) n 0 ≡ getD (w .last) n 0) (eqb (getD (w .first) l 0) 0) (λ e. refl)
+    (λ e. if-cases (λ (x : Words). getD (x .last) n 0 ≡ getD (w .last) n 0) (eqb (getD (w .next) (blockAt p (getD (w .first) l 0)) 0) 0) (λ g. set-off (w .last) l 0 n f) (λ g. refl))
+
+-- the block x goes from the list l to the list c; u are the words after
+pub record Move (l c x : ℕ) (w u : Words) : Type 0 where
+  pub from : OnList w l x
+  pub to : OnList u c x
+  pub others : (b : ℕ) → b ≢ x → Unmoved w u b
+  pub first : (n : ℕ) → n ≢ l → n ≢ c → getD (u .first) n 0 ≡ getD (w .first) n 0
+  pub last : (n : ℕ) → n ≢ l → n ≢ c → getD (u .last) n 0 ≡ getD (w .last) n 0
+  pub next : (b : ℕ) → (OnList w l b → ⊥) → (OnList w c b → ⊥) → getD (u .next) b 0 ≡ getD (w .next) b 0
+  pub prev : (b : ℕ) → (OnList w l b → ⊥) → (OnList w c b → ⊥) → getD (u .prev) b 0 ≡ getD (w .prev) b 0
+
+-- the head of a list
+pub record Head (p : Params) (st : List ℕ) (w : Words) (L : ℕ → List ℕ) (l : ℕ) : Type 0 where
+  pub rest : List ℕ
+  pub is : L l ≡ blockAt p (getD (w .first) l 0) ∷ rest
+  pub on : On p st w (listWord l) (blockAt p (getD (w .first) l 0))
+
+pub head-of : (p : Params) (B : Bounds p) (st : List ℕ) (w : Words) (L : ℕ → List ℕ) → Lists p st w L → (l : ℕ) → l < 1470
+    → getD (w .first) l 0 ≢ 0 → Head p st w L l
+unfolding In
+head-of p B st w L K l low some = go (L l) refl
+  where
+    go : (xs : List ℕ) → L l ≡ xs → Head p st w L l
+    go [] e = absurd (some (first-none p B K l low e))
+    go (x ∷ xs) e =
+        let i = first-some p B K l low x xs e in
+        let q : blockAt p (getD (w .first) l 0) ≡ x = ap (blockAt p) (i .at) ∙ blockAt-start p B x (i .low) in
+        record { rest = xs; is = e ∙ ap (λ (y : ℕ). y ∷ xs) (sym q); on = rw q (on-list p K l x low (rw e (inl refl))) }
+
+-- the head of the list l is popped, gets other words v of its own, and is pushed on the list c
+module _ (p : Params) (B : Bounds p) (st : List ℕ) (w : Words) (Z : Sized (p .blocks) w) (L : ℕ → List ℕ) (K : Lists p st w L)
+    (l c : ℕ) (ll : l < 1470) (lc : c < 1470) (H : Head p st w L l) where
+  abbrev x : ℕ
+  x = blockAt p (getD (w .first) l 0)
+
+  abbrev w₁ : Words
+  w₁ = pop p l w .words
+
+  pub move : (v : Words) → Tweaked x w₁ v → lengths v ≡ lengths w₁ → Move l c x w (push p c x v)
+  unfolding In FirstsBut
+  move v T len =
+      record {
+        from = H .on .names;
+        to = ap (λ (y : List ℕ). getD y x 0) (push-list p c x v) ∙ set-at (v .list) x (listWord c) (omega (arith, Z₂ .list, H .on .low));
+        others = λ b f. record { list = list b f; free = ap (λ (y : List ℕ). getD y b 0) (P .free) ∙ T .words b f .free ∙ ap (λ (y : List ℕ). getD y b 0) (Q .free); tls = ap (λ (y : List ℕ). getD y b 0) (P .tls) ∙ T .words b f .tls ∙ ap (λ (y : List ℕ). getD y b 0) (Q .tls) };
+        first = λ n f g. ap (λ (y : List ℕ). getD y n 0) (push-first p c x v) ∙ set-off (v .first) c (start p x) n g ∙ ap (λ (y : Links). getD (y .first) n 0) (T .links) ∙ pop-firsts p l w n f f;
+        last = λ n f g. push-last p c x v n g ∙ ap (λ (y : Links). getD (y .last) n 0) (T .links) ∙ pop-last p l w n f;
+        next = λ b f g. onto b f g .next ∙ ap (λ (y : Links). getD (y .next) b 0) (T .links) ∙ out b f .next;
+        prev = λ b f g. onto b f g .prev ∙ ap (λ (y : Links). getD (y .prev) b 0) (T .links) ∙ out b f .prev;
+      }
+    where
+      Q : LinksOnly w w₁
+      Q = pop-links p l w (links-refl w)
+
+      P : LinksOnly v (push p c x v)
+      P = push-links p c x v (links-refl v)
+
+      Z₂ : Sized (p .blocks) v
+      Z₂ = sized-same (len ∙ Q .lengths) Z
+
+      K₁ : Lists p st w₁ (put l (H .rest) L)
+      K₁ = pop-lists p B st w Z L K l x (H .rest) ll (H .is)
+
+      K₂ : Lists p st v (put l (H .rest) L)
+      K₂ = lists-same p K₁ (T .links) (λ n b ln i. on-list p K₁ n b ln i .occupied)
+
+      was : (b : ℕ) → getD (v .list) b 0 ≡ getD (w .list) b 0
+      was b = ap (λ (y : Links). getD (y .list) b 0) (T .links) ∙ pop-words p B st w Z L K l x (H .rest) ll (H .is) b
+
+      list : (b : ℕ) → b ≢ x → getD (push p c x v .list) b 0 ≡ getD (w .list) b 0
+      list b f = ap (λ (y : List ℕ). getD y b 0) (push-list p c x v) ∙ set-off (v .list) x (listWord c) b f ∙ was b
+
+      -- off the list l
+      out : (b : ℕ) → (OnList w l b → ⊥) → Same st st w w₁ b
+      out b f = pop-stays p B st w Z L K l x (H .rest) ll (H .is) b (λ i. f (on-list p K l b ll i .names))
+
+      -- and off the list c
+      onto : (b : ℕ) → (OnList w l b → ⊥) → (OnList w c b → ⊥) → Same st st v (push p c x v) b
+      onto b f g =
+          push-stays p B st v Z₂ (put l (H .rest) L) K₂ c x lc b (λ q. f (ap (λ (y : ℕ). getD (w .list) y 0) q ∙ H .on .names))
+          (λ i. g (sym (was b) ∙ on-list p K₂ c b lc i .names))
+
+-- ---- chains that init and sweeps build
+
+headed : (l : List ℕ) → ((a : ℕ) → In a l → 0 < a) → headD l 0 ≡ 0 → l ≡ []
+unfolding In headD
+headed [] f e = refl
+headed (a ∷ l) f e = absurd (omega (arith, f a (inl refl), e))
+
+pub some-head : (a : ℕ) (l : List ℕ) → ((a : ℕ) → In a l → 0 < a) → In a l → headD l 0 ≢ 0
+unfolding In headD
+some-head a [] f i e = absurd i
+some-head a (b ∷ l) f i e = omega (arith, f b (inl refl), e)
+
+module _ (p : Params) (B : Bounds p) (kept : ℕ → Bool) (x s : ℕ) (low : x < p .blocks) (word : 8 ≤ s) where
+  abbrev chain : List ℕ
+  chain = cellsDown kept (start p x) s (cellCount p s)
+
+  whole : (a : ℕ) → In a chain → Whole p x s a
+  whole a i = in-chain p kept x s a word i .0
+
+  pub chain-above : (a : ℕ) → In a chain → 0 < a
+  chain-above a i = whole-nonzero p B x s a low (whole a i)
+
+  pub chain-none : headD chain 0 ≡ 0 → chain ≡ []
+  chain-none = headed chain chain-above
+
+  -- the link of a chain's first cell is good where the chain was written
+  pub chain-link : (w : Words) (h : List ℕ) → length h ≡ heapBytes p → getD (w .size) x 0 ≡ s → getD (w .free) x 0 ≡ headD chain 0
+      → headD chain 0 ≢ 0 → linkOk p w x (load p (linkAll p chain h) (getD (w .free) x 0)) ≡ true
+  unfolding linkOk In headD chainStands
+  chain-link w h len es ef some =
+      rw (es, ef) (go chain some (λ a i. whole-isCell p x s a (whole a i))
+      (stands-linkAll p chain h (whole-placed p h x s chain B len low whole) (desc-less s 8 chain word (desc-cellsDown kept (start p x) s (cellCount p s)))))
+    where
+      go : (l : List ℕ) → headD l 0 ≢ 0 → ((a : ℕ) → In a l → isCell p x s a ≡ true) → chainStands p (linkAll p chain h) (headD l 0) l
+          → (eqb (load p (linkAll p chain h) (headD l 0)) 0 || isCell p x s (load p (linkAll p chain h) (headD l 0))) ≡ true
+      go [] f c d = absurd (f refl)
+      go (a ∷ []) f c d = or-left _ (eq-eqb _ _ (d .1))
+      go (a ∷ b ∷ l) f c d = or-right (eqb (load p (linkAll p chain h) a) 0) (rw (d .1 .0) (c b (inr (inl refl))))
+
+-- one event more
+pub events-behind : (p : Params) (es : List Event) (e : Event) (h : List ℕ) → eventsHeap p (es ++ (e ∷ [])) h ≡ eventHeap p e (eventsHeap p es h)
+unfolding eventsHeap
+events-behind p [] e h = refl
+events-behind p (x ∷ es) e h = events-behind p es e (eventHeap p x h)
+
+-- ---- what the search leaves
+
+-- each of the five
+module _ (h bin : ℕ) where
+  abbrev A : ℕ
+  A = available (localSets h) bin
+
+  abbrev U : ℕ
+  U = unswept (localSets h) bin
+
+  abbrev C : ℕ
+  C = consumed (localSets h) bin
+
+  abbrev A′ : ℕ
+  A′ = available abandoned bin
+
+  abbrev U′ : ℕ
+  U′ = unswept abandoned bin
+
+  pub searches-available : searches h bin A ≡ true
+  unfolding searches
+  searches-available = or-left (eqb A U′) (or-left (eqb A A′) (or-left (eqb A C) (or-left (eqb A U) (eq-eqb A A refl))))
+
+  pub searches-unswept : searches h bin U ≡ true
+  unfolding searches
+  searches-unswept = or-left (eqb U U′) (or-left (eqb U A′) (or-left (eqb U C) (or-right (eqb U A) (eq-eqb U U refl))))
+
+  pub searches-consumed : searches h bin C ≡ true
+  unfolding searches
+  searches-consumed = or-left (eqb C U′) (or-left (eqb C A′) (or-right (eqb C A || eqb C U) (eq-eqb C C refl)))
+
+  pub searches-abandoned : searches h bin A′ ≡ true
+  unfolding searches
+  searches-abandoned = or-left (eqb A′ U′) (or-right (eqb A′ A || eqb A′ U || eqb A′ C) (eq-eqb A′ A′ refl))
+
+  pub searches-last : searches h bin U′ ≡ true
+  unfolding searches
+  searches-last = or-right (eqb U′ A || eqb U′ U || eqb U′ C || eqb U′ A′) (eq-eqb U′ U′ refl)
+
+module _ (h bin : ℕ) (w₀ : Words) where
+  -- a block on none of the lists
+  abbrev pub Aside : ℕ → Type 0
+  Aside b = (n : ℕ) → searches h bin n ≡ true → OnList w₀ n b → ⊥
+
+  pub record Quiet (w : Words) : Type 0 where
+    pub size : w .size ≡ w₀ .size
+    pub first : (n : ℕ) → searches h bin n ≡ false → getD (w .first) n 0 ≡ getD (w₀ .first) n 0
+    pub last : (n : ℕ) → searches h bin n ≡ false → getD (w .last) n 0 ≡ getD (w₀ .last) n 0
+    pub list : (b : ℕ) → Aside b → getD (w .list) b 0 ≡ getD (w₀ .list) b 0
+    pub next : (b : ℕ) → Aside b → getD (w .next) b 0 ≡ getD (w₀ .next) b 0
+    pub prev : (b : ℕ) → Aside b → getD (w .prev) b 0 ≡ getD (w₀ .prev) b 0
+
+  pub quiet-start : Quiet w₀
+  quiet-start =
+      record { size = refl; first = λ n e. refl; last = λ n e. refl; list = λ b f. refl; next = λ b f. refl; prev = λ b f. refl }
+
+  -- a block moves from one of the lists to another
+  quiet-moved : (l c x : ℕ) (w u : Words) → Quiet w → searches h bin l ≡ true → searches h bin c ≡ true → u .size ≡ w .size → Move l c x w u → Quiet u
+  quiet-moved l c x w u Q sl sc z M =
+      record {
+        size = z ∙ Q .size;
+        first = λ n e. M .first n (ne l n sl e) (ne c n sc e) ∙ Q .first n e;
+        last = λ n e. M .last n (ne l n sl e) (ne c n sc e) ∙ Q .last n e;
+        list = λ b f. M .others b (other b f) .list ∙ Q .list b f;
+        next = λ b f. M .next b (off l b sl f) (off c b sc f) ∙ Q .next b f;
+        prev = λ b f. M .prev b (off l b sl f) (off c b sc f) ∙ Q .prev b f;
+      }
+    where
+      ne : (m n : ℕ) → searches h bin m ≡ true → searches h bin n ≡ false → n ≢ m
+      ne m n a e q = not-both (searches h bin m) a (ap (searches h bin) (sym q) ∙ e)
+
+      off : (m b : ℕ) → searches h bin m ≡ true → Aside b → OnList w m b → ⊥
+      off m b a f o = f m a (sym (Q .list b f) ∙ o)
+
+      other : (b : ℕ) → Aside b → b ≢ x
+      other b f q = off l b sl f (ap (λ (y : ℕ). getD (w .list) y 0) q ∙ M .from)
+
+tweak-refl : (x : ℕ) (w : Words) → Tweaked x w w
+tweak-refl x w = record { links = refl; words = λ b f. record { free = refl; size = refl; tls = refl } }
+
+tweak-trans : (x : ℕ) (w u v : Words) → Tweaked x w u → Tweaked x u v → Tweaked x w v
+tweak-trans x w u v T U =
+    record {
+      links = U .links ∙ T .links;
+      words = λ b f. record { free = U .words b f .free ∙ T .words b f .free; size = U .words b f .size ∙ T .words b f .size; tls = U .words b f .tls ∙ T .words b f .tls };
+    }
+
+-- the search of the holder h for the bin, from the words w₀ and the heap on
+module _ (p : Params) (B : Bounds p) (st ms : List ℕ) (h bin : ℕ) (lo : 1 ≤ h) (hi : h ≤ 8) (low : bin < 49) (w₀ : Words)
+    (heap : List ℕ) (len : length heap ≡ heapBytes p) where
+  -- nothing is found yet
+  pub record Going (es : List Event) (w : Words) : Type 0 where
+    pub good : Searched p B st ms h bin lo hi low w₀ w
+    pub quiet : Quiet h bin w₀ w
+    pub idle : eventsHeap p es heap ≡ heap
+    pub blocks : (b : ℕ) → Passed p ms h bin w₀ w b
+
+  -- the block x is found, by no sweep
+  pub record Stood (es : List Event) (x : ℕ) (w : Words) : Type 0 where
+    pub quiet : Quiet h bin w₀ w
+    pub idle : eventsHeap p es heap ≡ heap
+    pub here : Unmoved w₀ w x ⊎ TakenOver h bin w₀ w x
+    pub others : (b : ℕ) → b ≢ x → Passed p ms h bin w₀ w b
+
+  -- or by one, and then the link of its first cell is good
+  pub record Stopped (es : List Event) (a : ℕ) (w : Words) : Type 0 where
+    pub good : Searched p B st ms h bin lo hi low w₀ w
+    pub end : Stood es (blockAt p a) w ⊎ (linkOk p w (blockAt p a) (load p (eventsHeap p es heap) (getD (w .free) (blockAt p a) 0)) ≡ true)
+
+  pass-on : (b : ℕ) (w u : Words) → Passed p ms h bin w₀ w b → Unmoved w u b → Passed p ms h bin w₀ u b
+  pass-on b w u (inl U) K = inl (record { list = K .list ∙ U .list; free = K .free ∙ U .free; tls = K .tls ∙ U .tls })
+  pass-on b w u (inr M) K = inr (record { was = M .was; list = K .list ∙ M .list; free = K .free ∙ M .free; tls = K .tls ∙ M .tls })
+
+  -- the head of one of the lists that blocks are taken from
+  module _ (es : List Event) (w : Words) (G : Going es w) (l : ℕ) (ll : l < 1470) (eb : l % 49 ≡ bin) (sl : searches h bin l ≡ true)
+      (nl : l ≢ consumed (localSets h) bin) (some : getD (w .first) l 0 ≢ 0) where
+    abbrev Hw : Held p ms w st
+    Hw = G .good .held
+
+    abbrev y : ℕ
+    y = blockAt p (getD (w .first) l 0)
+
+    abbrev u₁ : Words
+    u₁ = pop p l w .words
+
+    head : Head p st w (Hw .lists) l
+    head = head-of p B st w (Hw .lists) (Hw .good .lists) l ll some
+
+    fit : Fit p (tablesOf w st ms) l y
+    unfolding In
+    fit = Hw .good .fit l y ll (rw (head .is) (inl refl))
+
+    -- it has not been moved before
+    still : Unmoved w₀ w y
+    still = ⊎-elim (λ U. U) (λ M. absurd (nl (word-same l (consumed (localSets h) bin) (sym (head .on .names) ∙ M .list)))) (G .blocks y)
+
+    was : OnList w₀ l y
+    was = sym (still .list) ∙ head .on .names
+
+    popped-size : u₁ .size ≡ w .size
+    popped-size = pop-links p l w (links-refl w) .size
+
+    moves : (c : ℕ) → c < 1470 → (v : Words) → Tweaked y u₁ v → lengths v ≡ lengths u₁ → Move l c y w (push p c y v)
+    moves c lc v T e = move p B st w (Hw .sized) (Hw .lists) (Hw .good .lists) l c ll lc head v T e
+
+    -- where its words are v, it has no cell, and it goes to consumed
+    goes-full : (v : Words) → Tweaked y u₁ v → lengths v ≡ lengths u₁ → v .size ≡ w .size → (es′ : List Event)
+        → Searched p B st ms h bin lo hi low w₀ (push p (consumed (localSets h) bin) y v) → eventsHeap p es′ heap ≡ heap → HadNone p ms h bin w₀ y
+        → getD (v .free) y 0 ≡ 0 → getD (v .tls) y 0 ≡ h → Going es′ (push p (consumed (localSets h) bin) y v)
+    goes-full v T e z es′ S i n ef et =
+        record {
+          good = S;
+          quiet = quiet-moved h bin w₀ l c y w (push p c y v) (G .quiet) sl (searches-consumed h bin) (P .size ∙ z) M;
+          idle = i;
+          blocks = λ b. at b (ℕ-discrete b y);
+        }
+      where
+        c : ℕ
+        c = consumed (localSets h) bin
+
+        P : LinksOnly v (push p c y v)
+        P = push-links p c y v (links-refl v)
+
+        M : Move l c y w (push p c y v)
+        M = moves c (my-consumed p B st ms h bin lo hi low w₀ .low) v T e
+
+        at : (b : ℕ) → Dec (b ≡ y) → Passed p ms h bin w₀ (push p c y v) b
+        at b (yes q) = rw q (inr (record { was = n; list = M .to; free = ap (λ (x : List ℕ). getD x y 0) (P .free) ∙ ef; tls = ap (λ (x : List ℕ). getD x y 0) (P .tls) ∙ et }))
+        at b (no f) = pass-on b w (push p c y v) (G .blocks b) (M .others b f)
+
+    -- it is swept, with these words, and filed
+    module _ (u : Words) (T : Tweaked y u₁ u) (e : lengths u ≡ lengths u₁) (z : u .size ≡ w .size) (et : getD (u .tls) y 0 ≡ h)
+        (from : OnList w₀ (unswept (localSets h) bin) y ⊎ OnList w₀ (unswept abandoned bin) y)
+        (F : Files p ms h bin (λ es w. Searched p B st ms h bin lo hi low w₀ w) (λ es a w. Searched p B st ms h bin lo hi low w₀ w)
+        (es ++ (sweepOf p ms y u ∷ [])) (getD (w .first) l 0) (sweptWords p ms y u)) where
+      abbrev s : ℕ
+      s = getD (u .size) y 0
+
+      abbrev v : Words
+      v = sweptWords p ms y u
+
+      word : 8 ≤ s
+      word = rw (ap (λ (x : List ℕ). getD x y 0) z, fit .size) (cellBytes-least p {bin = l % 49} (omega arith))
+
+      T′ : Tweaked y u₁ v
+      unfolding sweptWords
+      T′ = tweak-trans y u₁ u v T (tweak-free y _ u)
+
+      now : getD (v .free) y 0 ≡ headD (sweepChain p ms y s) 0
+      unfolding sweptWords setFree
+      now = set-at (u .free) y _ (omega (arith, sized-same (e ∙ pop-links p l w (links-refl w) .lengths) (Hw .sized) .free, head .on .low))
+
+      written : eventsHeap p (es ++ (sweepOf p ms y u ∷ [])) heap ≡ linkAll p (sweepChain p ms y s) heap
+      unfolding eventHeap
+      written = events-behind p es (sweepOf p ms y u) heap ∙ ap (linkAll p (sweepChain p ms y s)) (G .idle)
+
+      none : headD (sweepChain p ms y s) 0 ≡ 0 → sweepChain p ms y s ≡ []
+      unfolding sweepChain
+      none = chain-none p B (keeps p (marked p ms) s) y s (head .on .low) word
+
+      unswept-none : getD (v .free) y 0 ≡ 0 → HadNone p ms h bin w₀ y
+      unfolding HadNone
+      unswept-none q = inr (from, sym (ap (λ (x : List ℕ). sweepChain p ms y (getD x y 0)) (z ∙ G .quiet .size)) ∙ none (sym now ∙ q))
+
+      files-swept : Files p ms h bin Going Stopped (es ++ (sweepOf p ms y u ∷ [])) (getD (w .first) l 0) v
+      unfolding sweptWords setFree linkAll sweepChain
+      files-swept =
+          record {
+            full = λ q. goes-full v T′ (lengths-setFree y _ u ∙ e) z _ (F .full q) (written ∙ ap (λ (x : List ℕ). linkAll p x heap) (none (sym now ∙ q))) (unswept-none q) q et;
+            has = λ q.
+                let c = available (localSets h) bin in
+                let P = push-links p c y v (links-refl v) in
+                record {
+                  good = F .has q;
+                  end = inr (rw written (chain-link p B (keeps p (marked p ms) s) y s (head .on .low) word (push p c y v) heap len
+                      (ap (λ (x : List ℕ). getD x y 0) (P .size)) (ap (λ (x : List ℕ). getD x y 0) (P .free) ∙ now) (λ r. q (now ∙ r))));
+                };
+          }
+
+  abbrev S : Steps p ms h bin (λ es w. Searched p B st ms h bin lo hi low w₀ w) (λ es a w. Searched p B st ms h bin lo hi low w₀ w)
+  S = steps p B st ms h bin lo hi low w₀
+
+  abbrev av : ℕ
+  av = available (localSets h) bin
+
+  abbrev un : ℕ
+  un = unswept (localSets h) bin
+
+  my-av : Numbered av (h - 1) bin
+  my-av = my-available p B st ms h bin lo hi low w₀
+
+  my-un : Numbered un (h - 1) bin
+  my-un = my-unswept p B st ms h bin lo hi low w₀
+
+  av-differs : av ≢ consumed (localSets h) bin
+  unfolding available consumed listOf
+  av-differs q = omega (arith, q)
+
+  un-differs : un ≢ consumed (localSets h) bin
+  unfolding unswept consumed listOf
+  un-differs q = omega (arith, q)
+
+  far-av : available abandoned bin ≢ consumed (localSets h) bin
+  unfolding available consumed localSets listOf
+  far-av q = omega (arith, q)
+
+  far-un : unswept abandoned bin ≢ consumed (localSets h) bin
+  unfolding unswept consumed localSets listOf
+  far-un q = omega (arith, q)
+
+  -- a block on a local list is the holder's
+  local-h : (l x : ℕ) (w : Words) → Numbered l (h - 1) bin → Fit p (tablesOf w st ms) l x → getD (w .tls) x 0 ≡ h
+  local-h l x w N F = F .local (omega (arith, N .owner)) ∙ omega (arith, N .owner)
+
+  pub search-steps : Steps p ms h bin Going Stopped
+  unfolding HadNone setTls
+  search-steps =
+      record {
+        moved = λ es w G some q.
+            let m = my-av in
+            let u = pop p av w .words in
+            let P = pop-links p av w (links-refl w) in
+            let x = blockAt p (getD (w .first) av 0) in
+            goes-full es w G av (m .low) (m .bin) (searches-available h bin) av-differs some u (tweak-refl x u) refl (P .size) es (S .moved es w (G .good) some q) (G .idle)
+            (inl (inl (was es w G av (m .low) (m .bin) (searches-available h bin) av-differs some), sym (still es w G av (m .low) (m .bin) (searches-available h bin) av-differs some .free) ∙ q))
+            (ap (λ (y : List ℕ). getD y x 0) (P .free) ∙ q)
+            (ap (λ (y : List ℕ). getD y x 0) (P .tls) ∙ local-h av x w m (fit es w G av (m .low) (m .bin) (searches-available h bin) av-differs some));
+        seen = λ es w G some q.
+            record {
+              good = G .good;
+              end = inl (record {
+                quiet = G .quiet;
+                idle = G .idle;
+                here = inl (still es w G av (my-av .low) (my-av .bin) (searches-available h bin) av-differs some);
+                others = λ b f. G .blocks b;
+              });
+            };
+        recycled = λ es w G some.
+            let m = my-un in
+            let u = pop p un w .words in
+            let P = pop-links p un w (links-refl w) in
+            let x = blockAt p (getD (w .first) un 0) in
+            files-swept es w G un (m .low) (m .bin) (searches-unswept h bin) un-differs some u (tweak-refl x u) refl (P .size)
+            (ap (λ (y : List ℕ). getD y x 0) (P .tls) ∙ local-h un x w m (fit es w G un (m .low) (m .bin) (searches-unswept h bin) un-differs some))
+            (inl (was es w G un (m .low) (m .bin) (searches-unswept h bin) un-differs some)) (S .recycled es w (G .good) some);
+        over = λ es w G some. over-files es w G some;
+        swept = λ es w G none some.
+            let m = unswept-numbered 8 bin (omega arith) low in
+            let l = unswept abandoned bin in
+            let u = pop p l w .words in
+            let P = pop-links p l w (links-refl w) in
+            let x = blockAt p (getD (w .first) l 0) in
+            let H = head es w G l (m .low) (m .bin) (searches-last h bin) far-un some in
+            files-swept es w G l (m .low) (m .bin) (searches-last h bin) far-un some (setTls x h u) (tweak-tls x h u) (lengths-setTls x h u) (P .size)
+            (set-at (u .tls) x h (omega (arith, sized-same (P .lengths) (G .good .held .sized) .tls, H .on .low)))
+            (inr (was es w G l (m .low) (m .bin) (searches-last h bin) far-un some)) (S .swept es w (G .good) none some);
+      }
+    where
+      over-files : (es : List Event) (w : Words) (G : Going es w) → getD (w .first) (available abandoned bin) 0 ≢ 0
+          → let a : ℕ = getD (w .first) (available abandoned bin) 0 in
+          Files p ms h bin Going Stopped es a (setTls (blockAt p a) h (pop p (available abandoned bin) w .words))
+      over-files es w G some =
+          record {
+            full = λ q. goes-full es w G l (N .low) (N .bin) (searches-abandoned h bin) far-av some v (tweak-tls x h u) (lengths-setTls x h u) (P .size) es (F .full q) (G .idle)
+                (inl (inr from, sym (U .free) ∙ sym (ap (λ (y : List ℕ). getD y x 0) (P .free)) ∙ q)) q mine;
+            has = λ q.
+                let M = moves es w G l (N .low) (N .bin) (searches-abandoned h bin) far-av some av (my-av .low) v (tweak-tls x h u) (lengths-setTls x h u) in
+                let O = push-links p av x v (links-refl v) in
+                record {
+                  good = F .has q;
+                  end = inl (record {
+                    quiet = quiet-moved h bin w₀ l av x w (push p av x v) (G .quiet) (searches-abandoned h bin) (searches-available h bin) (O .size ∙ P .size) M;
+                    idle = G .idle;
+                    here = inr (record {
+                      was = from;
+                      list = M .to;
+                      free = ap (λ (y : List ℕ). getD y x 0) (O .free) ∙ ap (λ (y : List ℕ). getD y x 0) (P .free) ∙ U .free;
+                      tls = ap (λ (y : List ℕ). getD y x 0) (O .tls) ∙ mine;
+                    });
+                    others = λ b f. pass-on b w (push p av x v) (G .blocks b) (M .others b f);
+                  });
+                };
+          }
+        where
+          l : ℕ
+          l = available abandoned bin
+
+          N : Numbered l 8 bin
+          N = available-numbered 8 bin (omega arith) low
+
+          x : ℕ
+          x = blockAt p (getD (w .first) l 0)
+
+          u : Words
+          u = pop p l w .words
+
+          v : Words
+          v = setTls x h u
+
+          P : LinksOnly w u
+          P = pop-links p l w (links-refl w)
+
+          F : Files p ms h bin (λ es w. Searched p B st ms h bin lo hi low w₀ w) (λ es a w. Searched p B st ms h bin lo hi low w₀ w) es (getD (w .first) l 0) v
+          F = S .over es w (G .good) some
+
+          U : Unmoved w₀ w x
+          U = still es w G l (N .low) (N .bin) (searches-abandoned h bin) far-av some
+
+          from : OnList w₀ l x
+          from = was es w G l (N .low) (N .bin) (searches-abandoned h bin) far-av some
+
+          mine : getD (v .tls) x 0 ≡ h
+          mine = set-at (u .tls) x h (omega (arith, sized-same (P .lengths) (G .good .held .sized) .tls, head es w G l (N .low) (N .bin) (searches-abandoned h bin) far-av some .on .low))
