@@ -14,3 +14,4 @@ pub mod Never
 pub mod Released
 pub mod Searches
 pub mod Refused
+pub mod Example

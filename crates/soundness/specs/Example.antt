@@ -1,0 +1,134 @@
+-- Refused calls, computed on the machine, of which the theorems of Refused.antt and Released.antt speak: a mark out of its
+-- phase, an alloc that is Exhausted after it has swept and moved a block, one that meets a bad link in a block that it took over;
+-- and a release that makes one block Unallocated.
+use Prim.Native.Nat.{ℕ}
+use native.Mathlib.Omega.{arith}
+use mathlib.Core.Path.{_≡_, refl, sym, ap, _∙_}
+use mathlib.Core.List.{List, [], _∷_, headD}
+use lib.Count.{leadingZeros}
+use lib.ListN.{set, replicate}
+use Rattle.model.specs.declared.Params.{Params}
+use Rattle.model.specs.declared.Refusal.the-variants.{WrongPhase, BadLink, Exhausted}
+use Rattle.model.specs.declared.Offer.the-variants.{Nothing}
+use Rattle.model.specs.Base.{allBelow, anyBelow, member, filter, eachBelow, flag}
+use Rattle.model.specs.Params.{Lent, powerOfTwo, lowerOk, biased, plusLower, minusLower, heapBytes, heapEnd, goodParams, wordCount, fits, start, blockAt, inHeap, isStart, listOf, listWord, localSets, available, unswept, consumed}
+use Rattle.model.specs.Memory.{loadBytes, bytesOf, overwrite, load, store, zeroed, bitOf, setBit, markIndex, marked, setMark, cleared}
+use Rattle.model.specs.Tables.{Words, view, flat, setFirst, setLast, setBound, setReleased, setNext, setPrev, setFree, setSize, setList, setTls, setPhase, withReleased}
+use Rattle.model.specs.SizeClasses.{fours, classWords, cellBytes, wordsIn, highestBit, binInOctave, binOf, raised, shift, alignAllocation}
+use Rattle.model.specs.BlockList.{push, popHead, pop, removeBetween, remove, relabel, link, append, walk, blocksOn}
+use Rattle.model.specs.Block.{cellCount, isCell, cellsDown, linkAll, initChain, initBlock, simple, keeps, sweepChain, sweptWords, clearBlock}
+use Rattle.model.specs.Events.{eventHeap, eventsHeap, isSweep, isRelease, sweeps, releases}
+use Rattle.model.specs.FreeListAllocator.{findFreeBlockWith, recycleLocalBlocks, acquireAbandoned, acquireFresh, findBlock}
+use Rattle.model.specs.Global.{freshWords, freshTables, isHolder, isBound, bindHolder, abandonBin, abandonBlocks, destroyHolder, unmarkedState, prepared, markPlace, releaseFrom, releaseBlocks, appendTo, releaseBin, releaseHolder, sweepLaterBin, sweepLater, hasReleased, allReleased, partReleased}
+use Rattle.model.specs.Sound.{stateOf, stateKnown, blockClear, listNamed, binNamed, setNamed, onListNamed, sizeOk, linkOk, tlsOk, blockSound, linkedFrom, linked, ownerEmpty, unboundEmpty, inGcEmpty, phaseKnown, flagsKnown, releasedFew, releasedSome, releasedEmpty, sound}
+use Rattle.model.specs.Calls.{Reply, Call, alloc, mark, release, Result, refusalNumber, goodRequest, tooBig, goodOffer, goodObject, takePlan, planAlloc, mayRelease, releasePlan, planSound, plan, takeCell, finish, step, refused, answered, call, setUp}
+use Rattle.model.specs.Census.{censusParams}
+use Rattle.model.specs.Refusals.{OfAlloc, KeptExhausted, KeptBadLink, RefusalKeeps, madeUnallocated, CountsReleased, ReleasedCounts}
+use Rattle.soundness.specs.Refused.{refusal-keeps}
+use Rattle.soundness.specs.Released.{released-counted}
+
+abbrev p : Params
+p = censusParams
+
+-- no byte of it is 0, so any link in it is bad
+pub heap₀ : List ℕ
+heap₀ = replicate 16384 255
+
+-- no marks, and one at each of the four cells of 1,024 bytes of block 2
+pub noMarks : List ℕ
+noMarks = replicate 256 0
+
+pub allMarked : List ℕ
+unfolding noMarks
+allMarked = set (set (set (set noMarks 128 1) 144 1) 160 1) 176 1
+
+-- holders 1 and 2 are bound, and block 2, the only one in use, is on the list l with this free head and holder
+pub standing : ℕ → ℕ → ℕ → ℕ → Words
+standing l phase free tls =
+    record {
+      first = set (replicate 1470 0) l 24576;
+      last = set (replicate 1470 0) l 24576;
+      phase = phase;
+      bound = 1 ∷ 1 ∷ 0 ∷ 0 ∷ 0 ∷ 0 ∷ 0 ∷ 0 ∷ [];
+      released = replicate 9 0;
+      next = 0 ∷ 0 ∷ 0 ∷ 0 ∷ [];
+      prev = 0 ∷ 0 ∷ 0 ∷ 0 ∷ [];
+      free = 0 ∷ 0 ∷ free ∷ 0 ∷ [];
+      size = 0 ∷ 0 ∷ 1024 ∷ 0 ∷ [];
+      list = 0 ∷ 0 ∷ listWord l ∷ 0 ∷ [];
+      tls = 0 ∷ 0 ∷ tls ∷ 0 ∷ [];
+    }
+
+-- all that is lent, with this state byte of block 2
+pub lent : Words → ℕ → List ℕ → Lent
+lent w s m = record { words = flat w; states = 0 ∷ 0 ∷ s ∷ 0 ∷ []; marks = m; heap = heap₀ }
+
+-- holder 2 asks for a cell of block 2's class, and nothing is offered
+abbrev ask : Call
+ask = alloc 2 1024 8 0 Nothing
+
+-- who opens `machine` opens all that its line names
+machine : Params
+unfolding leadingZeros allBelow anyBelow member filter eachBelow flag powerOfTwo lowerOk biased plusLower minusLower heapBytes heapEnd goodParams wordCount fits start blockAt inHeap isStart listOf listWord localSets available unswept consumed loadBytes bytesOf overwrite load store zeroed bitOf setBit markIndex marked setMark cleared view flat setFirst setLast setBound setReleased setNext setPrev setFree setSize setList setTls setPhase withReleased fours classWords cellBytes wordsIn highestBit binInOctave binOf raised shift alignAllocation push pop popHead removeBetween remove relabel link append walk blocksOn cellCount isCell cellsDown headD linkAll initChain initBlock simple keeps sweepChain sweptWords clearBlock eventHeap eventsHeap isSweep isRelease sweeps releases findFreeBlockWith recycleLocalBlocks acquireAbandoned acquireFresh findBlock freshWords freshTables isHolder isBound bindHolder abandonBin abandonBlocks destroyHolder unmarkedState prepared markPlace releaseFrom releaseBlocks appendTo releaseBin releaseHolder sweepLaterBin sweepLater hasReleased allReleased partReleased stateOf stateKnown blockClear listNamed binNamed setNamed onListNamed sizeOk linkOk tlsOk blockSound linkedFrom linked ownerEmpty unboundEmpty inGcEmpty phaseKnown flagsKnown releasedFew releasedSome releasedEmpty sound refusalNumber goodRequest tooBig goodOffer goodObject takePlan planAlloc mayRelease releasePlan planSound plan takeCell finish step call setUp censusParams heap₀ noMarks allMarked standing lent
+machine = censusParams
+
+-- ---- a mark in Running, of a block on the available list (24) of holder 1: nothing changes
+
+abbrev idle : Lent
+idle = lent (standing 24 0 27648 1) 255 noMarks
+
+pub mark-refused : call p idle (mark 27648 2) .reply ≡ refused WrongPhase
+unfolding machine
+mark-refused = refl
+
+pub mark-changes-nothing : call p idle (mark 27648 2) .lent ≡ idle
+unfolding RefusalKeeps refusalNumber
+mark-changes-nothing =
+    let n : call p idle (mark 27648 2) .reply .number ≡ 3 = ap (λ (r : Reply). r .number) mark-refused in
+    refusal-keeps p idle (mark 27648 2) (λ z. omega (arith, sym n ∙ z)) .nothing (λ z. omega (arith, sym n ∙ z)) (λ z. omega (arith, sym n ∙ z))
+
+-- ---- Exhausted: block 2 is abandoned and unswept (1249), all its cells are marked. It is swept, and moved to the consumed list
+-- (269) of holder 2
+
+abbrev full : Lent
+full = lent (standing 1249 0 27648 1) 254 allMarked
+
+pub exhausted : call p full ask ≡ record { reply = refused Exhausted; lent = lent (standing 269 0 0 2) 254 allMarked }
+unfolding machine
+exhausted = refl
+
+pub exhausted-keeps : KeptExhausted p 2 (binOf p (raised p 1024 8)) full (call p full ask .lent)
+unfolding RefusalKeeps OfAlloc refusalNumber
+exhausted-keeps =
+    let n : call p full ask .reply .number ≡ 9 = ap (λ (r : Result). r .reply .number) exhausted in
+    refusal-keeps p full ask (λ z. omega (arith, sym n ∙ z)) .exhausted n
+
+-- ---- BadLink: block 2 is abandoned and available (1200), and what stands at its free head is no link. It is moved to the
+-- available list (171) of holder 2, with that head
+
+abbrev spoilt : Lent
+spoilt = lent (standing 1200 0 27648 1) 255 noMarks
+
+pub bad-link : call p spoilt ask ≡ record { reply = refused BadLink; lent = lent (standing 171 0 27648 2) 255 noMarks }
+unfolding machine
+bad-link = refl
+
+pub bad-link-keeps : KeptBadLink p 2 (binOf p (raised p 1024 8)) spoilt (call p spoilt ask .lent)
+unfolding RefusalKeeps OfAlloc refusalNumber
+bad-link-keeps =
+    let n : call p spoilt ask .reply .number ≡ 8 = ap (λ (r : Result). r .reply .number) bad-link in
+    refusal-keeps p spoilt ask (λ z. omega (arith, sym n ∙ z)) .badLink n
+
+-- ---- a release in Marking of holder 1, whose block 2 is Unmarked: one block, by the answer and by the state bytes
+
+abbrev unmarked : Lent
+unmarked = lent (standing 24 1 27648 1) 255 noMarks
+
+pub one-released : call p unmarked (release 1) .reply ≡ answered (1 ∷ [])
+unfolding machine
+one-released = refl
+
+pub one-counted : (1 ∷ []) ≡ madeUnallocated p unmarked (call p unmarked (release 1) .lent) ∷ []
+unfolding ReleasedCounts CountsReleased
+one-counted =
+    sym (ap (λ (r : Reply). r .values) one-released) ∙ released-counted p unmarked .0 1 (ap (λ (r : Reply). r .number) one-released)
