@@ -31,8 +31,8 @@ pub record PortRun (p : Params) : Type 0 where
   pub setUpKept : SetUpPromised p given (first .reply) (first .lent)
   pub callsKept : Chain p (first .lent) made
 
-abbrev pub turns : List Made → List Turn
-turns ms = map (λ m. m .turn) ms
+abbrev pub turnsOf : List Made → List Turn
+turnsOf ms = map (λ m. m .turn) ms
 
 -- ---- what stands between its calls: its own buffers, and the book. 01: the book is fed by "demand 2's machine in that call;
 -- nothing from the port", so by the machine's step on the buffers that the port's call found
@@ -66,7 +66,7 @@ ran p s (u ∷ us) = record { turn = u; gave = resultOf p s u } ∷ ran p (turne
 -- about this run
 pub record IsRun (p : Params) (a : PortRun p) : Type 0 where
   pub setUps : a .first ≡ setUp p (a .given)
-  pub calls : a .made ≡ ran p (begun p (a .given)) (turns (a .made))
+  pub calls : a .made ≡ ran p (begun p (a .given)) (turnsOf (a .made))
 
 -- "give equal answers, counts and tables at set-up and after each call"
 pub record PortAlike (p : Params) (a b : PortRun p) : Type 0 where
@@ -81,7 +81,7 @@ Demand3OfThePort =
     (p : Params) (a b : PortRun p)
     → a .first .reply ≡ answered []
     → b .first .reply ≡ answered []
-    → HoldersWrite p (begun p (a .given)) (turns (a .made))
-    → HoldersWrite p (begun p (b .given)) (turns (b .made))
-    → map (λ u. u .call) (turns (a .made)) ≡ map (λ u. u .call) (turns (b .made))
+    → HoldersWrite p (begun p (a .given)) (turnsOf (a .made))
+    → HoldersWrite p (begun p (b .given)) (turnsOf (b .made))
+    → map (λ u. u .call) (turnsOf (a .made)) ≡ map (λ u. u .call) (turnsOf (b .made))
     → (IsRun p a × IsRun p b) × PortAlike p a b × PortKeeps p (portBegun a) (a .made) × PortKeeps p (portBegun b) (b .made)

@@ -186,6 +186,17 @@ Served c r es =
     → (a : ℕ) × (n : ℕ) × In (taken a n) es × (getD (r .values) 0 0 ≡ alignAllocation a align offset)
     × (getD (r .values) 1 0 ≡ n) × (alignAllocation a align offset + size ≤ a + n)
 
+-- The counts answered are those of the call's events, which `Seen` has. 01: "The answer: address, cell size, whether the offer was
+-- used, blocks swept (added)." "Each answers how many blocks it released (added)."
+unfoldable pub Counted : Call → Reply → List Event → Type 0
+Counted (bind h) r es = Unit {0}
+Counted (destroy h) r es = Unit {0}
+Counted (alloc h size align offset offer) r es = (r .number ≡ 0 → getD (r .values) 3 0 ≡ sweeps es)
+Counted prepare r es = Unit {0}
+Counted (mark place b) r es = Unit {0}
+Counted (release h) r es = (r .number ≡ 0 → getD (r .values) 0 0 ≡ releases es)
+Counted sharedRelease r es = (r .number ≡ 0 → getD (r .values) 0 0 ≡ releases es)
+
 -- "no byte lies in two held cells"
 unfoldable pub Apart : Cell → Cell → Type 0
 Apart c d = (a : ℕ) → covers c a → covers d a → ⊥
@@ -219,6 +230,7 @@ LostExactly p h (e ∷ es) bk =
 -- all of it, of the call c on the heap h and the book bk, with its events es, that gave r and left the book bk′
 pub record CallKeeps (p : Params) (c : Call) (es : List Event) (r : Result) (h : List ℕ) (bk bk′ : Book) : Type 0 where
   pub served : Served c (r .reply) es
+  pub counted : Counted c (r .reply) es
   pub zeroed : Zeroed p es (r .lent .heap)
   pub apart : Pairwise Apart (bk′ .cells)
   pub unchanged : Unchanged p bk es h (r .lent .heap)

@@ -27,6 +27,7 @@ use Rattle.runs.specs.Inv.{Held, Core}
 use Rattle.runs.specs.Plans.{Inv}
 use Rattle.runs.specs.Finish.{ShadowStep, StepOk, held-apart}
 use Rattle.runs.specs.Calls.{B, shadowStep, step-ok}
+use Rattle.runs.specs.Counts.{counts}
 
 -- ---- what holders write
 
@@ -162,6 +163,7 @@ module _ (p : Params) (fine : goodParams p ≡ true) where
           result = result-of ∙ sym (ap (λ (x : Step). resultFrom x) step-of);
           keeps = rw (step-of, result-of) (record {
             served = S .served;
+            counted = counts p t g (u .call);
             zeroed = S .zeroed;
             apart = held-apart p bounds _ _ _ (S .inv .core .held) (S .inv .core .apart);
             unchanged = S .unchanged;

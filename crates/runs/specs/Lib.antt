@@ -6,6 +6,7 @@ pub mod Plans
 pub mod AllocPlan
 pub mod Finish
 pub mod Calls
+pub mod Counts
 pub mod Demand3
 pub mod Port
 pub mod Example

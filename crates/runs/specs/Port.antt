@@ -8,7 +8,7 @@ use Rattle.model.specs.Params.{Lent}
 use Rattle.model.specs.Calls.{Reply, answered, Result, setUp, pages}
 use Rattle.model.specs.Promise.{Promised, SetUpPromised}
 use Rattle.model.specs.Runs.{Turn, State, foundBy, stepOf, resultOf, bookOf, turned, emptyBook, begun, HoldersWrite, Seen, seen, trace, RunKeeps, Alike, Demand3}
-use Rattle.model.specs.Port.{Made, Chain, PortRun, turns, portBegun, portTurned, portTrace, PortKeeps, ran, IsRun, PortAlike, Demand3OfThePort}
+use Rattle.model.specs.Port.{Made, Chain, PortRun, turnsOf, portBegun, portTurned, portTrace, PortKeeps, ran, IsRun, PortAlike, Demand3OfThePort}
 use Rattle.runs.specs.Demand3.{demand3}
 
 module _ (p : Params) where
@@ -20,7 +20,7 @@ module _ (p : Params) where
   ran-chain [] s = tt
   ran-chain (u ∷ us) s = (record { reply = refl; lent = refl }, ran-chain us (turned p s u))
 
-  pub ran-turns : (us : List Turn) (s : State) → turns (ran p s us) ≡ us
+  pub ran-turns : (us : List Turn) (s : State) → turnsOf (ran p s us) ≡ us
   unfolding ran
   ran-turns [] s = refl
   ran-turns (u ∷ us) s = ap (λ (x : List Turn). u ∷ x) (ran-turns us (turned p s u))
@@ -37,12 +37,12 @@ module _ (p : Params) where
 
   -- ---- a chain of promises has no other calls
 
-  chain-ran : (ms : List Made) (s : State) → Chain p (s .lent) ms → ms ≡ ran p s (turns ms)
+  chain-ran : (ms : List Made) (s : State) → Chain p (s .lent) ms → ms ≡ ran p s (turnsOf ms)
   unfolding Chain ran turned resultOf
   chain-ran [] s c = refl
   chain-ran (m ∷ ms) s c =
       let q : m .gave ≡ resultOf p s (m .turn) = λ i. record { reply = c .0 .reply i; lent = c .0 .lent i } in
-      let rest : ms ≡ ran p (turned p s (m .turn)) (turns ms) =
+      let rest : ms ≡ ran p (turned p s (m .turn)) (turnsOf ms) =
       chain-ran ms (turned p s (m .turn)) (subst (λ (x : Result). Chain p (x .lent) ms) q (c .1)) in
       λ i. record { turn = m .turn; gave = q i } ∷ rest i
 
@@ -65,19 +65,19 @@ module _ (p : Params) where
         }
 
     -- what is shown of the machine's calls from where it begins holds of the port's
-    as-run : (P : State → List Made → Type 0) → P (begun p (a .given)) (ran p (begun p (a .given)) (turns (a .made))) → P (portBegun a) (a .made)
+    as-run : (P : State → List Made → Type 0) → P (begun p (a .given)) (ran p (begun p (a .given)) (turnsOf (a .made))) → P (portBegun a) (a .made)
     as-run P k = subst (λ (x : State). P x (a .made)) (sym begun-is) (subst (P (begun p (a .given))) (sym (is-run .calls)) k)
 
-    trace-is : portTrace p (portBegun a) (a .made) ≡ trace p (begun p (a .given)) (turns (a .made))
+    trace-is : portTrace p (portBegun a) (a .made) ≡ trace p (begun p (a .given)) (turnsOf (a .made))
     trace-is =
-        as-run (λ (s : State) (ms : List Made). portTrace p s ms ≡ trace p (begun p (a .given)) (turns (a .made)))
-        (ran-trace (turns (a .made)) (begun p (a .given)))
+        as-run (λ (s : State) (ms : List Made). portTrace p s ms ≡ trace p (begun p (a .given)) (turnsOf (a .made)))
+        (ran-trace (turnsOf (a .made)) (begun p (a .given)))
 
     answers : a .first .reply ≡ answered [] → setUp p (a .given) .reply ≡ answered []
     answers e = sym (ap (λ (x : Result). x .reply) first-is) ∙ e
 
-    run-keeps : RunKeeps p (begun p (a .given)) (turns (a .made)) → PortKeeps p (portBegun a) (a .made)
-    run-keeps k = as-run (PortKeeps p) (ran-keeps (turns (a .made)) (begun p (a .given)) k)
+    run-keeps : RunKeeps p (begun p (a .given)) (turnsOf (a .made)) → PortKeeps p (portBegun a) (a .made)
+    run-keeps k = as-run (PortKeeps p) (ran-keeps (turnsOf (a .made)) (begun p (a .given)) k)
 
   -- the words that a reader sees
   words-seen : (ms : List Made) (s : State) (f : List ℕ → Reply) → map (λ (x : Seen). f (x .words)) (portTrace p s ms) ≡ map (λ (m : Made). f (m .gave .lent .words)) ms
@@ -90,7 +90,7 @@ module _ (p : Params) where
 pub demand3-of-the-port : Demand3OfThePort
 unfolding Demand3OfThePort Demand3
 demand3-of-the-port p a b e e′ H H′ same =
-    let d = demand3 p (a .given) (b .given) (turns (a .made)) (turns (b .made)) (answers p a e) (answers p b e′) H H′ same in
+    let d = demand3 p (a .given) (b .given) (turnsOf (a .made)) (turnsOf (b .made)) (answers p a e) (answers p b e′) H H′ same in
     let setUps : seen (a .first) [] ≡ seen (b .first) [] =
     ap (λ (x : Result). seen x []) (first-is p a) ∙ d .0 .setUps ∙ sym (ap (λ (x : Result). seen x []) (first-is p b)) in
     let calls : portTrace p (portBegun a) (a .made) ≡ portTrace p (portBegun b) (b .made) =
