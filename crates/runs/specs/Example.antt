@@ -26,7 +26,9 @@ use Rattle.model.specs.Sound.{stateOf, stateKnown, blockClear, listNamed, binNa
 use Rattle.model.specs.Calls.{answered, Call, bind, alloc, prepare, mark, release, sharedRelease, refusalNumber, goodRequest, tooBig, goodOffer, goodObject, takePlan, planAlloc, mayRelease, releasePlan, planSound, plan, takeCell, finish, step, lentOf, call, setUp}
 use Rattle.model.specs.Census.{censusParams}
 use Rattle.model.specs.Runs.{Cell, frees, entered, bookEvent, bookEvents, bookAnswer, takerOf, bookAfter, Write, written, Turn, State, foundBy, stepOf, resultOf, bookOf, turned, begun, covers, Holds, HoldersWrite, staysHeld, byteAt, RunKeeps, Demand3}
+use Rattle.model.specs.Port.{PortRun, turnsOf, portBegun, PortKeeps, ran, Demand3OfThePort}
 use Rattle.runs.specs.Demand3.{demand3}
+use Rattle.runs.specs.Port.{ran-chain, ran-turns, demand3-of-the-port}
 
 -- ---- the run
 
@@ -227,6 +229,26 @@ set-up-answers = refl
 pub run-keeps : RunKeeps p (begun p lent) turns
 unfolding Demand3
 run-keeps = demand3 p lent lent turns turns set-up-answers set-up-answers holders-write holders-write refl .1
+
+-- ---- the same run as one of the port: the machine's own results keep the promises, by `refl` at each call
+pub port : PortRun p
+unfolding begun
+port =
+    record {
+      given = lent;
+      first = setUp p lent;
+      made = ran p (begun p lent) turns;
+      setUpKept = record { reply = refl; lent = refl };
+      callsKept = ran-chain p turns (begun p lent);
+    }
+
+port-writes : HoldersWrite p (begun p lent) (turnsOf (ran p (begun p lent) turns))
+port-writes = subst (HoldersWrite p (begun p lent)) (sym (ran-turns p turns (begun p lent))) holders-write
+
+-- so the theorem speaks of it
+pub port-keeps : PortKeeps p (portBegun port) (port .made)
+unfolding Demand3OfThePort port
+port-keeps = demand3-of-the-port p port port set-up-answers set-up-answers port-writes port-writes refl .2
 
 -- what stands after a row of turns
 unfoldable pub ended : Params → State → List Turn → State
