@@ -55,8 +55,11 @@ pub record Lent : Type 0 where
   pub heap : List ℕ
 
 -- "First and last of all 1,470 lists are lent words", then phase, 8 bound holders and 9 released marks; then six words a block
+abbrev pub headWords : ℕ
+headWords = 2958
+
 unfoldable pub wordCount : Params → ℕ
-wordCount p = 2958 + 6 * p .blocks
+wordCount p = headWords + 6 * p .blocks
 
 -- "Buffers have the exact lengths these give": BadSetup is the opposite of this in every call; pages used has its own test
 unfoldable pub fits : Params → Lent → Bool
@@ -108,6 +111,9 @@ unswept owner bin = listOf (owner + 1) bin
 
 unfoldable pub consumed : ℕ → ℕ → ℕ
 consumed owner bin = listOf (owner + 2) bin
+
+abbrev pub sets : ℕ
+sets = 30
 
 abbrev pub lists : ℕ
 lists = 1470

@@ -5,6 +5,7 @@ use mathlib.Core.List.{List, _∷_, _++_}
 use lib.Dec.{ltb}
 use lib.ListN.{length, take, drop, getD, set}
 use Rattle.model.specs.Base.{if_then_else_}
+use Rattle.model.specs.Params.{headWords, lists}
 
 pub record Words : Type 0 where
   -- of each list: its first and its last block, by start address
@@ -30,17 +31,17 @@ part o k w = take k (drop o w)
 
 -- the number of blocks, from the count of words
 abbrev pub blocksIn : List ℕ → ℕ
-blocksIn w = (length w - 2958) / 6
+blocksIn w = (length w - headWords) / 6
 
 -- the j-th block table, of n blocks
 abbrev pub blockTable : ℕ → ℕ → List ℕ → List ℕ
-blockTable n j w = part (2958 + j * n) n w
+blockTable n j w = part (headWords + j * n) n w
 
 unfoldable pub view : List ℕ → Words
 view w =
     record {
-      first = part 0 1470 w;
-      last = part 1470 1470 w;
+      first = part 0 lists w;
+      last = part lists lists w;
       phase = getD w 2940 0;
       bound = part 2941 8 w;
       released = part 2949 9 w;

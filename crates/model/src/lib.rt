@@ -25,8 +25,27 @@ pub struct Params {
     pub lower: i64,
 }
 
+// How lists are numbered: 30 sets of 49 bins. An owner has three sets, and is named by its first.
+pub const BINS: usize = 49;
+
+pub const SETS: usize = 30;
+
+pub const LISTS: usize = 1470;
+
+pub const ABANDONED: usize = 24;
+
+pub const IN_GC: usize = 27;
+
+// Holders are counted from 1. The parts that release are these and the shared one.
+pub const HOLDERS: usize = 8;
+
+pub const PARTS: usize = 9;
+
+// How many of the lent words stand before those of the blocks.
+pub const HEAD_WORDS: usize = 2958;
+
 // The cell sizes of bins 0 to 48, in words: each next four twice the four before.
-pub const CLASS_WORDS: [usize; 49] = [
+pub const CLASS_WORDS: [usize; BINS] = [
     1,
     1,
     2,

@@ -10,3 +10,4 @@ pub mod Abandoned
 pub mod Releases
 pub mod SpaceCalls
 pub mod AllocCall
+pub mod SoundLent

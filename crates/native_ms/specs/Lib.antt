@@ -11,5 +11,4 @@ pub mod Checked
 pub mod Abandoned
 pub mod Released
 pub mod Space
-pub mod Fast
-pub mod FastLaws
+pub mod SoundLent

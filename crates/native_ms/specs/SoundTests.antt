@@ -10,7 +10,7 @@ use lib.Dec.{eqb, leb}
 use lib.ListN.{getD}
 use borrow.Author.Tests.{leb-true, eq-eqb, ne-eqb, lt-ltb, le-ltb, le-leb, lt-leb}
 use Rattle.model.specs.declared.Params.{Params}
-use Rattle.model.specs.Base.{allBelow, anyBelow, sumBelow, flag}
+use Rattle.model.specs.Base.{if_then_else_, allBelow, anyBelow, sumBelow, flag}
 use Rattle.model.specs.Params.{start, blockAt, isStart, listOf, listWord, localSets}
 use Rattle.model.specs.Tables.{Words}
 use Rattle.model.specs.SizeClasses.{cellBytes}
@@ -21,7 +21,7 @@ use Rattle.laws.specs.Below.{and-second, same-test}
 use Rattle.laws.specs.Pigeon.{sum-end, sum-step, flag-one, flag-none}
 use Rattle.native_ms.specs.declared.sound.Walked.{Walked}
 use Rattle.native_ms.specs.declared.sound.Walked.the-variants.{Bad, Left}
-use Rattle.native_ms.specs.SoundWalk.{inUse, namesList, blockFits, unused, standsOn, closed, passFrom, passes, listsFull, holderFits, partFits, soundWalk}
+use Rattle.native_ms.specs.SoundWalk.{inUse, namesList, blockFits, unused, unusedIfFit, standsOn, closed, passFrom, passes, listsFull, holderFits, partFits, soundWalk}
 
 -- ---- small ones
 
@@ -40,39 +40,6 @@ both-ways false b = refl
 and-yes : (a : Bool) {b : Bool} → b ≡ true → (a && b) ≡ a
 and-yes true e = e
 and-yes false e = refl
-
--- ---- blockClear
-
-module _ (w : Words) (b : ℕ) {n : ℕ} (en : n ≡ getD (w .next) b 0) where
-  pub clear-next : (n ≡ 0 → ⊥) → false ≡ blockClear w b
-  unfolding blockClear
-  clear-next q = rw (← en, ne-eqb n 0 q)
-
-  module _ {v : ℕ} (zn : n ≡ 0) (ev : v ≡ getD (w .prev) b 0) where
-    pub clear-prev : (v ≡ 0 → ⊥) → false ≡ blockClear w b
-    unfolding blockClear
-    clear-prev q = rw (← en, eq-eqb n 0 zn, ← ev, ne-eqb v 0 q)
-
-    module _ {f : ℕ} (zv : v ≡ 0) (ef : f ≡ getD (w .free) b 0) where
-      pub clear-free : (f ≡ 0 → ⊥) → false ≡ blockClear w b
-      unfolding blockClear
-      clear-free q = rw (← en, eq-eqb n 0 zn, ← ev, eq-eqb v 0 zv, ← ef, ne-eqb f 0 q)
-
-      module _ {s : ℕ} (zf : f ≡ 0) (es : s ≡ getD (w .size) b 0) where
-        pub clear-size : (s ≡ 0 → ⊥) → false ≡ blockClear w b
-        unfolding blockClear
-        clear-size q = rw (← en, eq-eqb n 0 zn, ← ev, eq-eqb v 0 zv, ← ef, eq-eqb f 0 zf, ← es, ne-eqb s 0 q)
-
-        module _ {l : ℕ} (zs : s ≡ 0) (el : l ≡ getD (w .list) b 0) where
-          pub clear-list : (l ≡ 0 → ⊥) → false ≡ blockClear w b
-          unfolding blockClear
-          clear-list q =
-              rw (← en, eq-eqb n 0 zn, ← ev, eq-eqb v 0 zv, ← ef, eq-eqb f 0 zf, ← es, eq-eqb s 0 zs, ← el, ne-eqb l 0 q)
-
-          pub clear-tls : {h : ℕ} → l ≡ 0 → h ≡ getD (w .tls) b 0 → eqb h 0 ≡ blockClear w b
-          unfolding blockClear
-          clear-tls zl eh =
-              rw (← en, eq-eqb n 0 zn, ← ev, eq-eqb v 0 zv, ← ef, eq-eqb f 0 zf, ← es, eq-eqb s 0 zs, ← el, eq-eqb l 0 zl, eh)
 
 -- ---- isCell and linkOk
 
@@ -108,14 +75,17 @@ module _ (p : Params) (b s a : ℕ) {v : ℕ} (ev : v ≡ start p b) where
             (λ t. le-leb ((a - v) + s) (p .bytes) (omega (arith, leb-true (a - v) (p .bytes - s) t)))
             (λ t. le-leb (a - v) (p .bytes - s) (omega (arith, leb-true ((a - v) + s) (p .bytes) t))))
 
-module _ (p : Params) (w : Words) (b a : ℕ) where
-  pub link-none : a ≡ 0 → true ≡ linkOk p w b a
-  unfolding linkOk
+module _ (p : Params) (b s a : ℕ) where
+  pub link-none : a ≡ 0 → true ≡ (eqb a 0 || isCell p b s a)
   link-none e = rw (eq-eqb a 0 e)
 
-  pub link-some : {s : ℕ} {r : Bool} → (a ≡ 0 → ⊥) → s ≡ getD (w .size) b 0 → r ≡ isCell p b s a → r ≡ linkOk p w b a
-  unfolding linkOk
-  link-some n es e = e ∙ rw (ne-eqb a 0 n, es)
+  pub link-some : {r : Bool} → (a ≡ 0 → ⊥) → r ≡ isCell p b s a → r ≡ (eqb a 0 || isCell p b s a)
+  link-some n e = e ∙ rw (ne-eqb a 0 n)
+
+pub link-sized : (p : Params) (w : Words) (b a : ℕ) {s : ℕ} {r : Bool} → s ≡ getD (w .size) b 0 → r ≡ (eqb a 0 || isCell p b s a)
+    → r ≡ linkOk p w b a
+unfolding linkOk
+link-sized p w b a es e = e ∙ rw es
 
 -- ---- the list named, its size and its holder
 
@@ -311,6 +281,32 @@ module _ (s : List ℕ) where
   pub unused-all : (p : Params) (n k : ℕ) → k ≤ 0 → n + sumBelow k freeAt ≡ sumBelow (p .blocks) freeAt → n ≡ unused p s
   unfolding unused
   unused-all p n k h inv = omega (arith, sum-end freeAt k h)
+
+module _ (p : Params) (w : Words) (s : List ℕ) where
+  pub fit-bad : allBelow (p .blocks) (blockFits p w s) ≡ false → Bad ≡ unusedIfFit p w s
+  unfolding unusedIfFit
+  fit-bad e = rw e
+
+  pub fit-left : {n : ℕ} → allBelow (p .blocks) (blockFits p w s) ≡ true → n ≡ unused p s → Left n ≡ unusedIfFit p w s
+  unfolding unusedIfFit
+  fit-left e q = rw (e, q)
+
+  bad-if : (b : Bool) (u : ℕ) {r : Walked} → r ≡ (if b then Left u else Bad) → r ≡ Bad → b ≡ false
+  bad-if true u {r} e z = let x : _≡_ {A = ℕ} 0 1 = cc in absurd (omega arith)
+  bad-if false u e z = refl
+
+  left-if : (b : Bool) (u : ℕ) {r : Walked} {n : ℕ} → r ≡ (if b then Left u else Bad) → r ≡ Left n → (b ≡ true) × (n ≡ u)
+  left-if true u e z = (refl, cc)
+  left-if false u e z = let x : _≡_ {A = ℕ} 0 1 = cc in absurd (omega arith)
+
+  module _ {r : Walked} (er : r ≡ unusedIfFit p w s) where
+    pub bad-fit : r ≡ Bad → allBelow (p .blocks) (blockFits p w s) ≡ false
+    unfolding unusedIfFit
+    bad-fit z = bad-if (allBelow (p .blocks) (blockFits p w s)) (unused p s) er z
+
+    pub left-fit : {n : ℕ} → r ≡ Left n → (allBelow (p .blocks) (blockFits p w s) ≡ true) × (n ≡ unused p s)
+    unfolding unusedIfFit
+    left-fit z = left-if (allBelow (p .blocks) (blockFits p w s)) (unused p s) er z
 
 -- ---- holders, parts and phases
 

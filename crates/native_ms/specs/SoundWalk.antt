@@ -7,7 +7,7 @@ use lib.Dec.{eqb, leb}
 use lib.ListN.{getD}
 use Rattle.model.specs.declared.Params.{Params}
 use Rattle.model.specs.Base.{if_then_else_, allBelow, sumBelow, flag}
-use Rattle.model.specs.Params.{blockAt, isStart, listWord, localSets}
+use Rattle.model.specs.Params.{blockAt, isStart, listWord, localSets, lists}
 use Rattle.model.specs.Tables.{Words}
 use Rattle.model.specs.Global.{isBound, hasReleased}
 use Rattle.model.specs.Sound.{blockClear, sizeOk, linkOk, tlsOk, ownerEmpty, inGcEmpty, phaseKnown, releasedSome}
@@ -21,7 +21,7 @@ inUse s = eqb s 255 || eqb s 254
 
 -- the list it names is one
 abbrev pub namesList : Words → ℕ → Bool
-namesList w b = leb 1 (getD (w .list) b 0) && leb (getD (w .list) b 0) 1470
+namesList w b = leb 1 (getD (w .list) b 0) && leb (getD (w .list) b 0) lists
 
 unfoldable pub blockFits : Params → Words → List ℕ → ℕ → Bool
 blockFits p w s b =
@@ -30,6 +30,10 @@ blockFits p w s b =
 
 unfoldable pub unused : Params → List ℕ → ℕ
 unused p s = sumBelow (p .blocks) (λ b. flag (eqb (getD s b 0) 0))
+
+-- how many blocks are Unallocated, if each block fits
+unfoldable pub unusedIfFit : Params → Words → List ℕ → Walked
+unusedIfFit p w s = if allBelow (p .blocks) (blockFits p w s) then Left (unused p s) else Bad
 
 -- ---- walks
 
@@ -65,7 +69,7 @@ leaves n (Left x) = eqb x n
 
 -- the blocks not met are the Unallocated ones, by their number
 unfoldable pub listsFull : Params → Words → List ℕ → Bool
-listsFull p w s = leaves (unused p s) (passes 1470 p w s (p .blocks))
+listsFull p w s = leaves (unused p s) (passes lists p w s (p .blocks))
 
 -- ---- a holder, a part
 

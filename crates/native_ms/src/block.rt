@@ -2,21 +2,21 @@
 // Rust's block.rs, with `init_block` and `block_alloc` of free_list_allocator.rs.
 use crate::address;
 use crate::memory;
-use crate::sound;
 use model::Address;
 use model::Block;
 use model::Params;
 use words::states;
 use words::tables;
 ghost use mathlib.Core.Path.{_≡_};
-ghost use mathlib.Core.Bool.{true, false};
+ghost use mathlib.Core.Bool.{true, false, _||_};
 ghost use Prim.Native.Nat.{_+_, _*_, _^_, _≤_};
+ghost use lib.Dec.{eqb};
 ghost use Rattle.model.specs.Base.{anyBelow};
 ghost use Rattle.model.specs.Params.{goodParams, lowerOk, biased, plusLower};
 ghost use Rattle.model.specs.Memory.{marked};
 ghost use Rattle.model.specs.SizeClasses.{wordsIn};
 ghost use Rattle.model.specs.Tables.{view};
-ghost use Rattle.model.specs.Block.{simple, cellCount, cellsDown};
+ghost use Rattle.model.specs.Block.{simple, cellCount, cellsDown, isCell};
 ghost use Rattle.native_ms.specs.Block.{keptBy, Room, Linked, SweptBy, Swept, Initialised, Cleared, took, takeFree};
 
 // State bytes.
@@ -222,6 +222,41 @@ pub(crate) fn clear_block(w: &mut [usize], st: &mut [u8], b: Block)
     states::set_state(st, i, UNALLOCATED);
 }
 
+// A whole cell of `size` bytes of the block b stands at a.
+fn is_cell(p: Params, b: Block, size: usize, a: Address) -> bool
+    requires { ⌜ goodParams p ≡ true ⌝ }
+    ensures { λ r. ⌜ r ≡ isCell p (b .0) size (a .0) ⌝ }
+{
+    let start = address::start(p, b);
+    let from = start.0;
+    let at = a.0;
+    let bytes = p.bytes;
+    if size == 0 {
+        return false;
+    }
+    if at < from {
+        return false;
+    }
+    if (at - from) % size != 0 {
+        return false;
+    }
+    if bytes < size {
+        return false;
+    }
+    at - from <= bytes - size
+}
+
+// A link of the block b, whose cells have `size` bytes: 0 or a whole cell of it.
+pub(crate) fn link_ok(p: Params, b: Block, size: usize, a: Address) -> bool
+    requires { ⌜ goodParams p ≡ true ⌝ }
+    ensures { λ r. ⌜ r ≡ (eqb (a .0) 0 || isCell p (b .0) size (a .0)) ⌝ }
+{
+    if a.0 == 0 {
+        return true;
+    }
+    is_cell(p, b, size, a)
+}
+
 // Takes the cell at the block's free head. Its link is read before the whole cell is zeroed: the link lies in it.
 pub(crate) fn block_alloc(p: Params, w: &mut [usize], h: &mut [u8], b: Block) -> Taken
     requires { ⌜ goodParams p ≡ true ⌝ }
@@ -231,7 +266,7 @@ pub(crate) fn block_alloc(p: Params, w: &mut [usize], h: &mut [u8], b: Block) ->
     let cell = tables::free(w, i);
     let s = tables::size(w, i);
     let link = memory::load(p, h, Address(cell));
-    let ok = sound::link_ok(p, w, b, Address(link));
+    let ok = link_ok(p, b, s, Address(link));
     if !ok {
         return Taken::BadLink;
     }

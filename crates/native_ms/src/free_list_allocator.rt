@@ -10,6 +10,7 @@ use crate::block_list;
 use crate::global;
 use crate::global::Tested;
 use crate::size_class;
+use model::ABANDONED;
 use model::Address;
 use model::AllocAnswer;
 use model::Block;
@@ -34,9 +35,6 @@ ghost use Rattle.model.specs.Promise.{lend, Promised};
 ghost use Rattle.native_ms.specs.Abandoned.{nextOf, popAbandoned, TakenOver};
 ghost use Rattle.native_ms.specs.Ending.{ended, closedSearch, acquireGlobal, Freshened, stepped, servedBy, Ready};
 ghost use Rattle.native_ms.specs.Checked.{requestTests, allocTests};
-
-// The first set of the abandoned lists.
-const ABANDONED: usize = 24;
 
 // What a search gives: the start of a block with a free cell, 0 for none, and how many blocks were swept.
 pub(crate) struct Found {

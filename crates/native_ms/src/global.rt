@@ -12,11 +12,13 @@ use crate::block;
 use crate::block_list;
 use crate::memory;
 use crate::params;
-use crate::fast_sound;
 use crate::sound;
+use model::ABANDONED;
 use model::Address;
 use model::Answer;
 use model::Block;
+use model::HOLDERS;
+use model::IN_GC;
 use model::MarkAnswer;
 use model::Params;
 use model::Refusal;
@@ -25,13 +27,13 @@ use words::marks;
 use words::states;
 use words::tables;
 ghost use mathlib.Core.Path.{_≡_};
-ghost use mathlib.Core.Bool.{true, _&&_};
+ghost use mathlib.Core.Bool.{true, not, _&&_, _||_};
 ghost use mathlib.Core.List.{List, [], map};
 ghost use Prim.Native.Nat.{ℕ, _<_, _≤_, _^_};
 ghost use lib.ListN.{length, getD, replicate};
 ghost use Rattle.model.specs.Params.{goodParams, minusLower};
 ghost use Rattle.model.specs.Tables.{Words, view, tablesOf, withReleased};
-ghost use Rattle.model.specs.Global.{freed, abandonBin, abandonBlocks, unmarkedState, releaseFrom, releaseBin, releaseHolder, sweepLaterBin, sweepLater, isHolder, hasReleased, partReleased};
+ghost use Rattle.model.specs.Global.{freed, abandonBin, abandonBlocks, unmarkedState, releaseFrom, releaseBin, releaseHolder, sweepLaterBin, sweepLater, isHolder, isBound, hasReleased, allReleased, partReleased};
 ghost use Rattle.model.specs.Calls.{bind, destroy, prepare, mark, release, sharedRelease, goodObject, mayRelease};
 ghost use Rattle.model.specs.Answers.{replyOf, markReply, releaseReply};
 ghost use Rattle.model.specs.Promise.{lend, Promised, SetUpPromised};
@@ -40,16 +42,69 @@ ghost use Rattle.native_ms.specs.Checked.{andThen, lentTests, phaseTest,
 ghost use Rattle.native_ms.specs.Released.{out, total, attemptRelease, releasedBins};
 
 // The phases.
-const RUNNING: usize = 0;
+pub(crate) const RUNNING: usize = 0;
 
-const MARKING: usize = 1;
+pub(crate) const MARKING: usize = 1;
 
-const RELEASING: usize = 2;
+pub(crate) const RELEASING: usize = 2;
 
 // How the tests of a call end: passed, or the first refusal.
 pub(crate) enum Tested {
     Passed,
     Refused(Refusal),
+}
+
+// ---- holders, and what has released
+
+pub(crate) fn is_holder(holder: usize) -> bool
+    ensures { λ r. ⌜ r ≡ isHolder holder ⌝ }
+{
+    if holder < 1 {
+        return false;
+    }
+    holder <= HOLDERS
+}
+
+pub(crate) fn is_bound(w: &[usize], holder: usize) -> bool
+    ensures { λ r. ⌜ r ≡ isBound (view (now (w .entry))) holder ⌝ }
+{
+    if holder < 1 {
+        return false;
+    }
+    if HOLDERS < holder {
+        return false;
+    }
+    tables::bound(w, holder - 1) == 1
+}
+
+pub(crate) fn has_released(w: &[usize], part: usize) -> bool
+    ensures { λ r. ⌜ r ≡ hasReleased (view (now (w .entry))) part ⌝ }
+{
+    tables::released(w, part) == 1
+}
+
+// The holder is not bound, or has released.
+fn not_due(w: &[usize], holder: usize) -> bool
+    ensures { λ r. ⌜ r ≡ (not (isBound (view (now (w .entry))) holder) || hasReleased (view (now (w .entry))) holder) ⌝ }
+{
+    if !is_bound(w, holder) {
+        return true;
+    }
+    has_released(w, holder)
+}
+
+// Nothing is due any more.
+pub(crate) fn all_released(w: &[usize]) -> bool
+    ensures { λ r. ⌜ r ≡ allReleased (view (now (w .entry))) ⌝ }
+{
+    let mut left = HOLDERS;
+    while 0 < left {
+        if !not_due(w, left) {
+            return false;
+        }
+        left = left - 1;
+    }
+    has_released(w, 0)
 }
 
 // ---- tests of more than one call
@@ -71,7 +126,7 @@ fn check_lent(p: Params, w: &[usize], st: &[u8], marks: usize, heap: usize) -> T
     if !lent_fits(p, w.len(), st.len(), marks, heap) {
         return Tested::Refused(Refusal::BadSetup);
     }
-    if !fast_sound::sound(p, w, st) {
+    if !sound::sound(p, w, st) {
         return Tested::Refused(Refusal::BadTables);
     }
     Tested::Passed
@@ -106,7 +161,7 @@ pub(crate) fn check_bound(
     match check_phase(p, w, st, marks, heap, RUNNING) {
         Tested::Refused(r) => Tested::Refused(r),
         Tested::Passed => {
-            if !sound::is_bound(w, holder) {
+            if !is_bound(w, holder) {
                 return Tested::Refused(Refusal::BadHolder);
             }
             Tested::Passed
@@ -153,10 +208,10 @@ fn check_bind(p: Params, w: &[usize], st: &[u8], marks: usize, heap: usize, hold
     match check_phase(p, w, st, marks, heap, RUNNING) {
         Tested::Refused(r) => Tested::Refused(r),
         Tested::Passed => {
-            if !sound::is_holder(holder) {
+            if !is_holder(holder) {
                 return Tested::Refused(Refusal::BadHolder);
             }
-            if sound::is_bound(w, holder) {
+            if is_bound(w, holder) {
                 return Tested::Refused(Refusal::BadHolder);
             }
             Tested::Passed
@@ -227,7 +282,7 @@ pub fn destroy(
         Tested::Refused(r) => Answer::Refused(r),
         Tested::Passed => {
             let from = address::local_sets(holder);
-            abandon_blocks(p, words, 24, from);
+            abandon_blocks(p, words, ABANDONED, from);
             tables::set_bound(words, holder - 1, 0);
             Answer::Done
         }
@@ -442,7 +497,7 @@ fn release_holder(p: Params, w: &mut [usize], st: &mut [u8], holder: usize) -> u
 {
     let owner = address::local_sets(holder);
     let n = release_bins(p, w, st, owner);
-    abandon_blocks(p, w, 27, owner);
+    abandon_blocks(p, w, IN_GC, owner);
     n
 }
 
@@ -481,7 +536,7 @@ fn merge(p: Params, w: &mut [usize])
     requires { ⌜ goodParams p ≡ true ⌝ }
     ensures { λ _. ⌜ view (now (w .exit)) ≡ abandonBlocks p 24 27 (view (now (w .entry))) ⌝ }
 {
-    abandon_blocks(p, w, 24, 27);
+    abandon_blocks(p, w, ABANDONED, IN_GC);
 }
 
 fn clear_released(w: &mut [usize])
@@ -512,7 +567,7 @@ fn part_released(p: Params, w: &mut [usize], part: usize)
 {
     tables::set_phase(w, RELEASING);
     tables::set_released(w, part, 1);
-    let done = sound::all_released(w);
+    let done = all_released(w);
     if done {
         end_of_gc(p, w);
     }
@@ -531,10 +586,10 @@ fn may_release(w: &[usize]) -> bool
 fn released_already(w: &[usize], holder: usize) -> bool
     ensures { λ r. ⌜ r ≡ (isHolder holder && hasReleased (view (now (w .entry))) holder) ⌝ }
 {
-    if !sound::is_holder(holder) {
+    if !is_holder(holder) {
         return false;
     }
-    sound::has_released(w, holder)
+    has_released(w, holder)
 }
 
 fn check_release(
@@ -556,7 +611,7 @@ fn check_release(
             if released_already(w, holder) {
                 return Tested::Refused(Refusal::WrongPhase);
             }
-            if !sound::is_bound(w, holder) {
+            if !is_bound(w, holder) {
                 return Tested::Refused(Refusal::BadHolder);
             }
             Tested::Passed
@@ -594,7 +649,7 @@ fn check_shared_release(p: Params, w: &[usize], st: &[u8], marks: usize, heap: u
             if !may_release(w) {
                 return Tested::Refused(Refusal::WrongPhase);
             }
-            if sound::has_released(w, 0) {
+            if has_released(w, 0) {
                 return Tested::Refused(Refusal::WrongPhase);
             }
             Tested::Passed

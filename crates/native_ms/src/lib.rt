@@ -1,10 +1,5 @@
 // The native mark-sweep space, as in the Rust's files.
 mod address;
-mod fast_at;
-mod fast_blocks;
-mod fast_lists;
-mod fast_marks;
-mod fast_sound;
 pub mod allocator;
 mod block;
 pub mod block_list;

@@ -1,110 +1,51 @@
-// Whether tables are sound. Each block is tested by itself, and each list is walked once; the walks share the count of blocks,
-// so that all of them together take as many steps as there are lists and blocks.
-use crate::address;
-use model::Address;
-use model::Block;
-use model::Params;
-use words::tables;
-ghost use mathlib.Core.Path.{_≡_};
-ghost use mathlib.Core.Bool.{true, not, _||_};
-ghost use Prim.Native.Nat.{_<_};
-ghost use Rattle.model.specs.Params.{goodParams};
-ghost use Rattle.model.specs.Tables.{view};
-ghost use Rattle.model.specs.Block.{isCell};
-ghost use Rattle.model.specs.Global.{isHolder, isBound, hasReleased, allReleased};
-ghost use Rattle.model.specs.Sound.{linkOk, sound};
+// Whether tables are sound, of lent slices whose lengths are known.
+mod blocks;
+mod known;
+mod lists;
+mod parts;
 
-// What a walk gives: that its list is not sound, or how many of the blocks that it might have met are left.
+use model::CLASS_WORDS;
+use model::Params;
+ghost use mathlib.Core.Path.{_≡_};
+ghost use mathlib.Core.List.{List};
+ghost use Prim.Native.Nat.{ℕ};
+ghost use Rattle.model.specs.Tables.{view, tablesOf};
+ghost use Rattle.model.specs.Sound.{sound};
+ghost use Rattle.native_ms.specs.SoundLent.{Lengths};
+
+// What a walk of lists or blocks gives: that one is not sound, or a count of blocks, those that no list may meet or met.
 pub(crate) enum Walked {
     Bad,
     Left(usize),
 }
 
-// A whole cell of s bytes of the block b stands at a.
-pub(crate) fn is_cell(p: Params, b: Block, s: usize, a: Address) -> bool
-    requires { ⌜ goodParams p ≡ true ⌝ }
-    ensures { λ r. ⌜ r ≡ isCell p (b .0) s (a .0) ⌝ }
+pub(crate) fn sound(p: Params, w: &[usize], st: &[u8]) -> bool
+    requires { ⌜ Lengths p (now w) (now st) ⌝ }
+    ensures { λ r. ⌜ ((m : List ℕ) → r ≡ sound p (tablesOf (view (now (w .entry))) (now (st .entry)) m)) ⌝ }
 {
-    let from = address::start(p, b);
-    let v = from.0;
-    let x = a.0;
-    let bytes = p.bytes;
-    if s == 0 {
+    if !parts::phase_known(w) {
         return false;
     }
-    if x < v {
+    if !parts::parts_fit(w) {
         return false;
     }
-    if (x - v) % s != 0 {
+    if !parts::released_some(w) {
         return false;
     }
-    if bytes < s {
+    let firsts = known::firsts(w);
+    if !parts::holders_fit(w, &firsts) {
         return false;
     }
-    x - v <= bytes - s
-}
-
-// A link of the block b: 0 or a whole cell of it.
-pub(crate) fn link_ok(p: Params, w: &[usize], b: Block, a: Address) -> bool
-    requires { ⌜ goodParams p ≡ true ⌝ }
-    ensures { λ r. ⌜ r ≡ linkOk p (view (now (w .entry))) (b .0) (a .0) ⌝ }
-{
-    let i = b.0;
-    let x = a.0;
-    if x == 0 {
-        return true;
-    }
-    let s = tables::size(w, i);
-    is_cell(p, b, s, a)
-}
-
-pub(crate) fn is_holder(h: usize) -> bool
-    ensures { λ r. ⌜ r ≡ isHolder h ⌝ }
-{
-    if h < 1 {
+    if !parts::in_gc_empty(w, &firsts) {
         return false;
     }
-    h <= 8
-}
-
-pub(crate) fn is_bound(w: &[usize], h: usize) -> bool
-    ensures { λ r. ⌜ r ≡ isBound (view (now (w .entry))) h ⌝ }
-{
-    if h < 1 {
+    let classes = CLASS_WORDS;
+    let Walked::Left(unused) = blocks::unused(p, w, st, &classes) else {
         return false;
-    }
-    if 8 < h {
+    };
+    let log = lists::log_of(p);
+    let Walked::Left(left) = lists::passes(p, log, w, st, &firsts) else {
         return false;
-    }
-    tables::bound(w, h - 1) == 1
-}
-
-pub(crate) fn has_released(w: &[usize], part: usize) -> bool
-    ensures { λ r. ⌜ r ≡ hasReleased (view (now (w .entry))) part ⌝ }
-{
-    tables::released(w, part) == 1
-}
-
-// The holder h is not bound, or has released.
-fn not_due(w: &[usize], h: usize) -> bool
-    ensures { λ r. ⌜ r ≡ (not (isBound (view (now (w .entry))) h) || hasReleased (view (now (w .entry))) h) ⌝ }
-{
-    if !is_bound(w, h) {
-        return true;
-    }
-    has_released(w, h)
-}
-
-// Nothing is due any more.
-pub(crate) fn all_released(w: &[usize]) -> bool
-    ensures { λ r. ⌜ r ≡ allReleased (view (now (w .entry))) ⌝ }
-{
-    let mut k: usize = 8;
-    while 0 < k {
-        if !not_due(w, k) {
-            return false;
-        }
-        k = k - 1;
-    }
-    has_released(w, 0)
+    };
+    left == unused
 }

@@ -3,6 +3,7 @@ use Rattle.model.specs.Tables.{view}
 use Rattle.laws.specs.Tables.{put-free}
 use borrow.Author.Needs.{needs}
 use borrow.Author.Tests.{not-true, not-false}
+use Rattle.native_ms.specs.SoundTests.{link-sized}
 use Rattle.native_ms.proofs.Chains.{take-bad, take-good}
 use Rattle.native_ms.proofs.block.block_alloc.Statement.{statement}
 use Rattle.native_ms.proofs.block.block_alloc.Tie as tie
@@ -25,9 +26,9 @@ same-length c = search needs
 same-length-2 : tie.Need-same-length-2
 same-length-2 c = search needs
 
---@ returns c = take-bad (@args .p) (@args .b .0) (view (@args .w .now)) (@args .h .now) (@free .ensures) (@size .ensures) (@load .ensures) (@link-ok .ensures) (not-true _ (@if1 .taken))
+--@ returns c = take-bad (@args .p) (@args .b .0) (view (@args .w .now)) (@args .h .now) (@free .ensures) (@size .ensures) (@load .ensures) (link-sized _ _ _ _ (@size .ensures) (@link-ok .ensures)) (not-true _ (@if1 .taken))
 returns : tie.Need-returns
-returns c = take-bad (c .before .before .before .before .before .before .before .before .before .before .before .args .p) (c .before .before .before .before .before .before .before .before .before .before .before .args .b .0) (view (c .before .before .before .before .before .before .before .before .before .before .before .args .w .now)) (c .before .before .before .before .before .before .before .before .before .before .before .args .h .now) (c .before .before .before .before .before .before .before .free .ensures) (c .before .before .before .before .before .size .ensures) (c .before .before .before .load .ensures) (c .before .link-ok .ensures) (not-true _ (c .if1 .taken))
+returns c = take-bad (c .before .before .before .before .before .before .before .before .before .before .args .p) (c .before .before .before .before .before .before .before .before .before .before .args .b .0) (view (c .before .before .before .before .before .before .before .before .before .before .args .w .now)) (c .before .before .before .before .before .before .before .before .before .before .args .h .now) (c .before .before .before .before .before .before .free .ensures) (c .before .before .before .before .size .ensures) (c .before .before .load .ensures) (link-sized _ _ _ _ (c .before .before .before .before .size .ensures) (c .before .link-ok .ensures)) (not-true _ (c .if1 .taken))
 
 set-free-requires : tie.Need-set-free-requires
 set-free-requires c κs = search needs
@@ -41,9 +42,9 @@ same-length-3 c = search needs
 same-length-4 : tie.Need-same-length-4
 same-length-4 c = search needs
 
---@ returns-2 c = take-good (@args .p) (@args .b .0) (view (@args .w .now)) (@args .h .now) (@free .ensures) (@size .ensures) (@load .ensures) (@link-ok .ensures) (not-false _ (@if1 .left)) (put-free _ _ _ (@set-free .ensures)) (@zero .ensures)
+--@ returns-2 c = take-good (@args .p) (@args .b .0) (view (@args .w .now)) (@args .h .now) (@free .ensures) (@size .ensures) (@load .ensures) (link-sized _ _ _ _ (@size .ensures) (@link-ok .ensures)) (not-false _ (@if1 .left)) (put-free _ _ _ (@set-free .ensures)) (@zero .ensures)
 returns-2 : tie.Need-returns-2
-returns-2 c = take-good (c .before .before .before .before .before .before .before .before .before .before .before .before .before .before .before .before .before .before .before .args .p) (c .before .before .before .before .before .before .before .before .before .before .before .before .before .before .before .before .before .before .before .args .b .0) (view (c .before .before .before .before .before .before .before .before .before .before .before .before .before .before .before .before .before .before .before .args .w .now)) (c .before .before .before .before .before .before .before .before .before .before .before .before .before .before .before .before .before .before .before .args .h .now) (c .before .before .before .before .before .before .before .before .before .before .before .before .before .before .before .free .ensures) (c .before .before .before .before .before .before .before .before .before .before .before .before .before .size .ensures) (c .before .before .before .before .before .before .before .before .before .before .before .load .ensures) (c .before .before .before .before .before .before .before .before .before .link-ok .ensures) (not-false _ (c .before .before .before .before .before .before .before .before .if1 .left)) (put-free _ _ _ (c .before .before .before .before .before .before .set-free .ensures)) (c .before .before .zero .ensures)
+returns-2 c = take-good (c .before .before .before .before .before .before .before .before .before .before .before .before .before .before .before .before .before .before .args .p) (c .before .before .before .before .before .before .before .before .before .before .before .before .before .before .before .before .before .before .args .b .0) (view (c .before .before .before .before .before .before .before .before .before .before .before .before .before .before .before .before .before .before .args .w .now)) (c .before .before .before .before .before .before .before .before .before .before .before .before .before .before .before .before .before .before .args .h .now) (c .before .before .before .before .before .before .before .before .before .before .before .before .before .before .free .ensures) (c .before .before .before .before .before .before .before .before .before .before .before .before .size .ensures) (c .before .before .before .before .before .before .before .before .before .before .load .ensures) (link-sized _ _ _ _ (c .before .before .before .before .before .before .before .before .before .before .before .before .size .ensures) (c .before .before .before .before .before .before .before .before .before .link-ok .ensures)) (not-false _ (c .before .before .before .before .before .before .before .before .if1 .left)) (put-free _ _ _ (c .before .before .before .before .before .before .set-free .ensures)) (c .before .before .zero .ensures)
 
 pub block-alloc-spec : {M : Type 1} → statement M
 block-alloc-spec =
