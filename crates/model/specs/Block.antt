@@ -6,8 +6,10 @@ use mathlib.Core.List.{List, [], _∷_, headD}
 use lib.Dec.{eqb, ltb, leb}
 use lib.ListN.{getD, set}
 use Rattle.model.specs.declared.Params.{Params}
+use Rattle.model.specs.declared.Block.{Block}
+use Rattle.model.specs.declared.ChainWalk.{ChainWalk}
 use Rattle.model.specs.Base.{if_then_else_, anyBelow}
-use Rattle.model.specs.Params.{start, plusLower}
+use Rattle.model.specs.Params.{goodParams, start, plusLower}
 use Rattle.model.specs.Memory.{load, store, marked}
 use Rattle.model.specs.SizeClasses.{wordsIn}
 use Rattle.model.specs.Tables.{Words, setNext, setPrev, setFree, setSize, setList, setTls}
@@ -90,3 +92,23 @@ chainFrom (suc k) p h b s a = if isCell p b s a then (a ∷ chainFrom k p h b s 
 -- the free chain of the block b: "stops at a bad link or after a block's cell count"
 unfoldable pub freeChain : Params → List ℕ → ℕ → Words → List ℕ
 freeChain p h b t = chainFrom (cellCount p (getD (t .size) b 0)) p h b (getD (t .size) b 0) (getD (t .free) b 0)
+
+-- The same, a cell at a time, as a listing prints it. Each is of all inputs: on parameters that are off a walk stands at no cell
+
+-- the walk at the free head of the block b, which may meet as many cells as the block has
+unfoldable pub firstCell : Params → Words → Block → ChainWalk
+firstCell p t b =
+    record {
+      block = b;
+      at = record { 0 = getD (t .free) (b .0) 0 };
+      size = getD (t .size) (b .0) 0;
+      left = cellCount p (getD (t .size) (b .0) 0);
+    }
+
+-- whether it stands at a cell
+unfoldable pub moreCells : Params → ChainWalk → Bool
+moreCells p w = goodParams p && ltb 0 (w .left) && isCell p (w .block .0) (w .size) (w .at .0)
+
+-- the walk from that cell's link on
+unfoldable pub nextCell : Params → List ℕ → ChainWalk → ChainWalk
+nextCell p h w = record { block = w .block; at = record { 0 = load p h (w .at .0) }; size = w .size; left = w .left - 1 }

@@ -97,6 +97,14 @@ pub const CLASS_WORDS: [usize; BINS] = [
     8192,
 ];
 
+// A walk along a block's free chain: the cell at which it stands, the block's cell size, and how many cells it may still meet.
+pub struct ChainWalk {
+    pub block: Block,
+    pub at: Address,
+    pub size: usize,
+    pub left: usize,
+}
+
 // What an alloc is offered in place of `Space::acquire`: nothing, or a block to use as new.
 pub enum Offer {
     Nothing,

@@ -5,6 +5,7 @@ use mathlib.Core.Path.{_≡_}
 use mathlib.Core.Bool.{true, _&&_}
 use lib.Dec.{ltb, leb}
 use borrow.Author.Tests.{le-leb, lt-leb, lt-ltb, le-ltb}
+use Rattle.model.specs.declared.Address.{Address}
 use Rattle.model.specs.declared.Params.{Params}
 use Rattle.model.specs.Base.{if_then_else_}
 use Rattle.model.specs.SizeClasses.{raised, alignAllocation}
@@ -30,7 +31,7 @@ module _ (p : Params) (size align : ℕ) where
 unfoldable pub shiftedTo : ℕ → ℕ → ℕ → Shifted
 shiftedTo region align offset =
     if leb 1 align && leb align 64 && ltb region (2 ^ 47) && leb offset 65536
-    then At (alignAllocation region align offset)
+    then At (record { 0 = alignAllocation region align offset })
     else Off
 
 module _ (region align offset : ℕ) where
@@ -53,6 +54,6 @@ module _ (region align offset : ℕ) where
         unfolding shiftedTo
         shifted-off h = rw (le-leb 1 align a, le-leb align 64 b, lt-ltb region (2 ^ 47) c, lt-leb offset 65536 h)
 
-        pub shifted-at : {r : ℕ} → offset ≤ 65536 → r ≡ alignAllocation region align offset → At r ≡ shiftedTo region align offset
+        pub shifted-at : {r : Address} → offset ≤ 65536 → r .0 ≡ alignAllocation region align offset → At r ≡ shiftedTo region align offset
         unfolding shiftedTo
-        shifted-at h e = rw (le-leb 1 align a, le-leb align 64 b, lt-ltb region (2 ^ 47) c, le-leb offset 65536 h, e)
+        shifted-at h e = rw (le-leb 1 align a, le-leb align 64 b, lt-ltb region (2 ^ 47) c, le-leb offset 65536 h, ← e)

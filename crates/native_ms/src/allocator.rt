@@ -1,5 +1,6 @@
 // Requests: what may be asked for, the size raised by the align, and the shift of an address.
 use crate::params;
+use model::Address;
 use model::Params;
 ghost use mathlib.Core.Path.{_≡_};
 ghost use mathlib.Core.Bool.{true};
@@ -33,29 +34,32 @@ pub fn get_maximum_aligned_size(p: Params, size: usize, align: usize) -> Raised
 }
 
 // The least address from region on that is a multiple of align once offset is added.
-pub(crate) fn align_allocation(region: usize, align: usize, offset: usize) -> usize
-    requires { ⌜ (0 < align) × (align ≤ 64) × (region < 2 ^ 47) × (offset ≤ 65536) ⌝ }
-    ensures { λ r. ⌜ r ≡ alignAllocation region align offset ⌝ }
+pub(crate) fn align_allocation(region: Address, align: usize, offset: usize) -> Address
+    requires { ⌜ (0 < align) × (align ≤ 64) × (region .0 < 2 ^ 47) × (offset ≤ 65536) ⌝ }
+    ensures { λ r. ⌜ r .0 ≡ alignAllocation (region .0) align offset ⌝ }
 {
-    region + (align - (region + offset) % align) % align
+    let from = region.0;
+    let shifted = from + (align - (from + offset) % align) % align;
+    Address(shifted)
 }
 
 // An address that `align_allocation` shifts, on any numbers: off where a request can't be so.
 pub enum Shifted {
-    At(usize),
+    At(Address),
     Off,
 }
 
-pub fn shift_address(region: usize, align: usize, offset: usize) -> Shifted
-    ensures { λ r. ⌜ r ≡ shiftedTo region align offset ⌝ }
+pub fn shift_address(region: Address, align: usize, offset: usize) -> Shifted
+    ensures { λ r. ⌜ r ≡ shiftedTo (region .0) align offset ⌝ }
 {
+    let from = region.0;
     if align < 1 {
         return Shifted::Off;
     }
     if 64 < align {
         return Shifted::Off;
     }
-    if 140737488355328 <= region {
+    if 140737488355328 <= from {
         return Shifted::Off;
     }
     if 65536 < offset {

@@ -41,11 +41,11 @@ pub(crate) fn biased(l: i64) -> usize
 }
 
 // a + L: the place at which an object is marked whose reference lies L above a. L may be negative, so the sum is made first.
-fn plus_lower(p: Params, a: usize) -> Address
-    requires { ⌜ (goodParams p ≡ true) × (a ≤ 2 ^ 60) ⌝ }
-    ensures { λ r. ⌜ r .0 ≡ plusLower p a ⌝ }
+fn plus_lower(p: Params, a: Address) -> Address
+    requires { ⌜ (goodParams p ≡ true) × (a .0 ≤ 2 ^ 60) ⌝ }
+    ensures { λ r. ⌜ r .0 ≡ plusLower p (a .0) ⌝ }
 {
-    let v = a + biased(p.lower);
+    let v = a.0 + biased(p.lower);
     if v < 64 {
         return Address(0);
     }
@@ -74,7 +74,8 @@ fn any_marked(p: Params, m: &[u8], cell: Address, s: usize) -> bool
     let n = (s + 7) / 8;
     let mut word: usize = 0;
     while word < n {
-        let place = plus_lower(p, a + 8 * word);
+        let at = a + 8 * word;
+        let place = plus_lower(p, Address(at));
         let found = memory::is_marked(p, m, place);
         if found {
             return true;
@@ -115,9 +116,9 @@ fn link_unmarked(
     from: Address,
     s: usize,
     n: usize,
-) -> usize
+) -> Address
     requires { ⌜ Room p (from .0) s n ⌝ }
-    ensures { λ r. ⌜ Linked p (cellsDown (keptBy simple p (now (m .entry)) s) (from .0) s n) (now (h .entry)) r (now (h .exit)) ⌝ }
+    ensures { λ r. ⌜ Linked p (cellsDown (keptBy simple p (now (m .entry)) s) (from .0) s n) (now (h .entry)) (r .0) (now (h .exit)) ⌝ }
 {
     let mut seen: usize = 0;
     let mut next = from.0;
@@ -132,13 +133,13 @@ fn link_unmarked(
             last = cell;
         }
     }
-    last
+    Address(last)
 }
 
 // Links all n cells.
-fn link_cells(p: Params, h: &mut [u8], from: Address, s: usize, n: usize) -> usize
+fn link_cells(p: Params, h: &mut [u8], from: Address, s: usize, n: usize) -> Address
     requires { ⌜ Room p (from .0) s n ⌝ }
-    ensures { λ r. ⌜ Linked p (cellsDown (λ a. false) (from .0) s n) (now (h .entry)) r (now (h .exit)) ⌝ }
+    ensures { λ r. ⌜ Linked p (cellsDown (λ a. false) (from .0) s n) (now (h .entry)) (r .0) (now (h .exit)) ⌝ }
 {
     let mut k: usize = 0;
     let mut cell = from.0;
@@ -149,7 +150,7 @@ fn link_cells(p: Params, h: &mut [u8], from: Address, s: usize, n: usize) -> usi
         cell = cell + s;
         k = k + 1;
     }
-    last
+    Address(last)
 }
 
 // Both sweeps: they differ in the reading of a cell's marks.
@@ -161,8 +162,8 @@ fn sweep_by(p: Params, simple: bool, w: &mut [usize], m: &[u8], h: &mut [u8], b:
     let s = tables::size(w, i);
     let n = cell_count(p, s);
     let from = address::start(p, b);
-    let last = link_unmarked(p, simple, m, h, from, s, n);
-    tables::set_free(w, i, last);
+    let head = link_unmarked(p, simple, m, h, from, s, n);
+    tables::set_free(w, i, head.0);
 }
 
 // Frees each whole cell with no mark at its start.
@@ -202,8 +203,8 @@ pub(crate) fn init_block(p: Params, w: &mut [usize], h: &mut [u8], b: Block, s: 
     let i = b.0;
     let n = cell_count(p, s);
     let from = address::start(p, b);
-    let last = link_cells(p, h, from, s, n);
-    tables::set_free(w, i, last);
+    let head = link_cells(p, h, from, s, n);
+    tables::set_free(w, i, head.0);
     tables::set_size(w, i, s);
     tables::set_tls(w, i, tls);
 }

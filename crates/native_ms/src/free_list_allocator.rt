@@ -461,9 +461,9 @@ fn serve(
     match block::block_alloc(p, w, h, b) {
         Taken::BadLink => AllocAnswer::Refused(Refusal::BadLink),
         Taken::Cell { at: cell, size } => {
-            let a = allocator::align_allocation(cell.0, align, offset);
+            let address = allocator::align_allocation(cell, align, offset);
             AllocAnswer::Served {
-                address: Address(a),
+                address,
                 cell_size: size,
                 offer_used: s.fresh,
                 swept: s.swept,

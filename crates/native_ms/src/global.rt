@@ -334,24 +334,26 @@ pub fn prepare(
 }
 
 // Where the object of a mark place starts: place − L.
-fn minus_lower(p: Params, place: Address) -> usize
+fn minus_lower(p: Params, place: Address) -> Address
     requires { ⌜ (goodParams p ≡ true) × (4096 ≤ place .0) × (place .0 ≤ 2 ^ 48) ⌝ }
-    ensures { λ r. ⌜ r ≡ minusLower p (place .0) ⌝ }
+    ensures { λ r. ⌜ r .0 ≡ minusLower p (place .0) ⌝ }
 {
     let a = place.0 + 64;
-    a - block::biased(p.lower)
+    let object = a - block::biased(p.lower);
+    Address(object)
 }
 
-fn in_block(p: Params, b: Block, a: usize) -> bool
+fn in_block(p: Params, b: Block, a: Address) -> bool
     requires { ⌜ (goodParams p ≡ true) × (b .0 < p .blocks) ⌝ }
-    ensures { λ r. ⌜ r ≡ inBlock p (b .0) a ⌝ }
+    ensures { λ r. ⌜ r ≡ inBlock p (b .0) (a .0) ⌝ }
 {
     let from = address::start(p, b);
     let v = from.0;
-    if a < v {
+    let x = a.0;
+    if x < v {
         return false;
     }
-    a < v + p.bytes
+    x < v + p.bytes
 }
 
 // Whether the place can be marked for the block.

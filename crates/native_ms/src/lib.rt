@@ -3,6 +3,7 @@ mod address;
 pub mod allocator;
 mod block;
 pub mod block_list;
+pub mod free_chain;
 pub mod free_list_allocator;
 pub mod global;
 mod memory;

@@ -1,5 +1,6 @@
 // The leaves: bins, raised sizes and shifted addresses.
 use crate::reply::Reply;
+use model::Address;
 use model::Params;
 use native_ms::allocator;
 use native_ms::allocator::Raised;
@@ -91,8 +92,8 @@ pub(crate) fn aligned(p: Params, region: usize, align: usize, offset: usize) -> 
     if !good_request(p, 0, align, offset) {
         return Reply::Bad;
     }
-    match allocator::shift_address(region, align, offset) {
+    match allocator::shift_address(Address(region), align, offset) {
         Shifted::Off => Reply::Bad,
-        Shifted::At(a) => Reply::One(a),
+        Shifted::At(a) => Reply::One(a.0),
     }
 }

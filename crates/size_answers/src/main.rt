@@ -2,6 +2,7 @@
 // MAX and align the raised size, its bin and its cell size, and shifted addresses. Each line of `stdout` is a checksum over the
 // Rust's answers, made by oracle/samples/size_answers.py; this program makes the same from the port's.
 use libc::STDOUT_FILENO;
+use model::Address;
 use model::Params;
 use native_ms::allocator;
 use native_ms::allocator::Raised;
@@ -59,10 +60,10 @@ fn shifted(h: usize, region: usize, align: usize, offset: usize) -> usize
     requires { ⌜ h < 4294967291 ⌝ }
     ensures { λ r. ⌜ r < 4294967291 ⌝ }
 {
-    let r = allocator::shift_address(region, align, offset);
+    let r = allocator::shift_address(Address(region), align, offset);
     match r {
         Shifted::Off => mixed(h, 0),
-        Shifted::At(a) => mixed(h, a),
+        Shifted::At(a) => mixed(h, a.0),
     }
 }
 

@@ -5,24 +5,24 @@ use borrow.Author.Needs.{needs}
 use Rattle.native_ms.proofs.allocator.align_allocation.Statement.{statement}
 use Rattle.native_ms.proofs.allocator.align_allocation.Tie as tie
 
-add-result : tie.Need-add-result
-add-result c = search needs
+add-shifted : tie.Need-add-shifted
+add-shifted c = search needs
 
-rem-result : tie.Need-rem-result
-rem-result c = search needs
+rem-shifted : tie.Need-rem-shifted
+rem-shifted c = search needs
 
-sub-result : tie.Need-sub-result
-sub-result c = rest-within _ _ _ (c .pre .0)
+sub-shifted : tie.Need-sub-shifted
+sub-shifted c = rest-within _ _ _ (c .pre .0)
 
-rem-result-2 : tie.Need-rem-result-2
-rem-result-2 c = search needs
+rem-shifted-2 : tie.Need-rem-shifted-2
+rem-shifted-2 c = search needs
 
-add-result-2 : tie.Need-add-result-2
-add-result-2 c = record { fits = omega (arith, shift-within (c .args .region) (c .args .align) (c .args .offset) (c .pre .0)) }
+add-shifted-2 : tie.Need-add-shifted-2
+add-shifted-2 c = record { fits = omega (arith, shift-within (c .args .region .0) (c .args .align) (c .args .offset) (c .pre .0)) }
 
 returns : tie.Need-returns
 returns c = shifted _ _ _ (c .pre .0)
 
 pub align-allocation-spec : {M : Type 1} → statement M
 align-allocation-spec =
-    tie.close (tie.spec add-result rem-result sub-result rem-result-2 add-result-2 returns)
+    tie.close (tie.spec add-shifted rem-shifted sub-shifted rem-shifted-2 add-shifted-2 returns)

@@ -25,13 +25,13 @@ add-n c = omega (arith, c .before .pre .2)
 loop-holds : tie.Need-loop-holds Inv-loop μ-loop
 loop-holds c = (omega arith, below-none _)
 
---@ mul-plus-lower c = omega (arith, @pre .2)
-mul-plus-lower : tie.Need-mul-plus-lower Inv-loop μ-loop
-mul-plus-lower c = omega (arith, c .before .before .before .pre .2)
+--@ mul-at c = omega (arith, @pre .2)
+mul-at : tie.Need-mul-at Inv-loop μ-loop
+mul-at c = omega (arith, c .before .before .before .pre .2)
 
---@ add-plus-lower c = omega (arith, @pre .1, @pre .2)
-add-plus-lower : tie.Need-add-plus-lower Inv-loop μ-loop
-add-plus-lower c = omega (arith, c .before .before .before .pre .1, c .before .before .before .pre .2)
+--@ add-at c = omega (arith, @pre .1, @pre .2)
+add-at : tie.Need-add-at Inv-loop μ-loop
+add-at c = omega (arith, c .before .before .before .pre .1, c .before .before .before .pre .2)
 
 --@ plus-lower-requires c κs = (@pre .0, omega (arith, @pre .1, @pre .2))
 plus-lower-requires : tie.Need-plus-lower-requires Inv-loop μ-loop
@@ -70,8 +70,8 @@ any-marked-spec =
     μ-loop
     add-n
     loop-holds
-    mul-plus-lower
-    add-plus-lower
+    mul-at
+    add-at
     plus-lower-requires
     is-marked-requires
     returns

@@ -13,15 +13,15 @@ biased-requires c κs = let l = good (c .before .args .p) (c .before .pre .0) .l
 
 --@ add-v c = let l = good (@args .p) (@pre .0) .lower-ok in omega (arith, sum-low (@args .p .lower) l, @biased .ensures ∙ ap biased (back (@args .p .lower) l), @pre .1)
 add-v : tie.Need-add-v
-add-v c = let l = good (c .before .before .args .p) (c .before .before .pre .0) .lower-ok in omega (arith, sum-low (c .before .before .args .p .lower) l, c .biased .ensures ∙ ap biased (back (c .before .before .args .p .lower) l), c .before .before .pre .1)
+add-v c = let l = good (c .before .before .before .args .p) (c .before .before .before .pre .0) .lower-ok in omega (arith, sum-low (c .before .before .before .args .p .lower) l, c .before .biased .ensures ∙ ap biased (back (c .before .before .before .args .p .lower) l), c .before .before .before .pre .1)
 
---@ returns c = let l = good (@args .p) (@pre .0) .lower-ok in plus-low (@args .p) (@args .a) (@biased .ensures ∙ ap biased (back (@args .p .lower) l)) (@if1 .taken)
+--@ returns c = let l = good (@args .p) (@pre .0) .lower-ok in plus-low (@args .p) (@args .a .0) (@biased .ensures ∙ ap biased (back (@args .p .lower) l)) (@if1 .taken)
 returns : tie.Need-returns
-returns c = let l = good (c .before .before .before .args .p) (c .before .before .before .pre .0) .lower-ok in plus-low (c .before .before .before .args .p) (c .before .before .before .args .a) (c .before .biased .ensures ∙ ap biased (back (c .before .before .before .args .p .lower) l)) (c .if1 .taken)
+returns c = let l = good (c .before .before .before .before .args .p) (c .before .before .before .before .pre .0) .lower-ok in plus-low (c .before .before .before .before .args .p) (c .before .before .before .before .args .a .0) (c .before .before .biased .ensures ∙ ap biased (back (c .before .before .before .before .args .p .lower) l)) (c .if1 .taken)
 
---@ returns-2 c = let l = good (@args .p) (@pre .0) .lower-ok in plus-high (@args .p) (@args .a) (@biased .ensures ∙ ap biased (back (@args .p .lower) l)) (@if1 .left)
+--@ returns-2 c = let l = good (@args .p) (@pre .0) .lower-ok in plus-high (@args .p) (@args .a .0) (@biased .ensures ∙ ap biased (back (@args .p .lower) l)) (@if1 .left)
 returns-2 : tie.Need-returns-2
-returns-2 c = let l = good (c .before .before .before .args .p) (c .before .before .before .pre .0) .lower-ok in plus-high (c .before .before .before .args .p) (c .before .before .before .args .a) (c .before .biased .ensures ∙ ap biased (back (c .before .before .before .args .p .lower) l)) (c .if1 .left)
+returns-2 c = let l = good (c .before .before .before .before .args .p) (c .before .before .before .before .pre .0) .lower-ok in plus-high (c .before .before .before .before .args .p) (c .before .before .before .before .args .a .0) (c .before .before .biased .ensures ∙ ap biased (back (c .before .before .before .before .args .p .lower) l)) (c .if1 .left)
 
 pub plus-lower-spec : {M : Type 1} → statement M
 plus-lower-spec = tie.close (tie.spec biased-requires add-v returns returns-2)

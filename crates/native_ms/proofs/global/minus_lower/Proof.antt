@@ -16,9 +16,9 @@ add-a c = search needs
 biased-requires : tie.Need-biased-requires
 biased-requires c κs = let l = good (c .before .before .args .p) (c .before .before .pre .0) .lower-ok in ap lowerOk (back (c .before .before .args .p .lower) l) ∙ l
 
---@ sub-result c = let l = good (@args .p) (@pre .0) .lower-ok in omega (arith, good-bounds (@args .p) (@pre .0) .lower-high, @biased .ensures ∙ ap biased (back (@args .p .lower) l), @pre .1)
-sub-result : tie.Need-sub-result
-sub-result c = let l = good (c .before .before .before .args .p) (c .before .before .before .pre .0) .lower-ok in omega (arith, good-bounds (c .before .before .before .args .p) (c .before .before .before .pre .0) .lower-high, c .biased .ensures ∙ ap biased (back (c .before .before .before .args .p .lower) l), c .before .before .before .pre .1)
+--@ sub-object c = let l = good (@args .p) (@pre .0) .lower-ok in omega (arith, good-bounds (@args .p) (@pre .0) .lower-high, @biased .ensures ∙ ap biased (back (@args .p .lower) l), @pre .1)
+sub-object : tie.Need-sub-object
+sub-object c = let l = good (c .before .before .before .args .p) (c .before .before .before .pre .0) .lower-ok in omega (arith, good-bounds (c .before .before .before .args .p) (c .before .before .before .pre .0) .lower-high, c .biased .ensures ∙ ap biased (back (c .before .before .before .args .p .lower) l), c .before .before .before .pre .1)
 
 --@ returns c = let l = good (@args .p) (@pre .0) .lower-ok in rw (@biased .ensures ∙ ap biased (back (@args .p .lower) l))
 returns : tie.Need-returns
@@ -26,4 +26,4 @@ unfolding minusLower
 returns c = let l = good (c .before .before .before .args .p) (c .before .before .before .pre .0) .lower-ok in rw (c .biased .ensures ∙ ap biased (back (c .before .before .before .args .p .lower) l))
 
 pub minus-lower-spec : {M : Type 1} → statement M
-minus-lower-spec = tie.close (tie.spec add-a biased-requires sub-result returns)
+minus-lower-spec = tie.close (tie.spec add-a biased-requires sub-object returns)
