@@ -104,6 +104,12 @@ def letters():
                   alloc(2, 2), alloc(3, 2, 4096), alloc('-', 2, 4096), 'd 2')
 
 
+def four_blocks_of_words():
+    """Four holders, since one with a free cell uses no offer."""
+    return joined(*['b %d' % h for h in (1, 2, 3, 4)],
+                  *[alloc(h - 1, h, 8) for h in (1, 2, 3, 4)])
+
+
 TRACES = [
     ('the example of 01', b'b 1\na 1 1024 8 0 2'),
     ('nothing', b''),
@@ -128,6 +134,7 @@ TRACES = [
     ('left, marked, collected', joined(*COLLECTED[:5], 'd 1', 'p', 'm 17408 0',
                                        's', 'b 3', alloc('-', 3))),
     ('512 cells of a word', joined('b 8', 'a 8 8 8 0 3', 'a 8 0 8 0 2')),
+    ('2,044 free cells', four_blocks_of_words()),
     ('all blocks, then none', joined('b 1', *[alloc(b, 1, 4096)
                                               for b in '0123-'])),
     ('byte limit in a line', byte_limit(b'23 and more\nb 2\n')),

@@ -224,7 +224,7 @@ pub(crate) fn clear_block(w: &mut [usize], st: &mut [u8], b: Block)
 }
 
 // A whole cell of `size` bytes of the block b stands at a.
-fn is_cell(p: Params, b: Block, size: usize, a: Address) -> bool
+pub(crate) fn is_cell(p: Params, b: Block, size: usize, a: Address) -> bool
     requires { ⌜ goodParams p ≡ true ⌝ }
     ensures { λ r. ⌜ r ≡ isCell p (b .0) size (a .0) ⌝ }
 {

@@ -3,7 +3,6 @@
 use crate::block;
 use crate::memory;
 use crate::params;
-use crate::sound;
 use model::Address;
 use model::Block;
 use model::ChainWalk;
@@ -40,7 +39,7 @@ pub fn more(p: Params, w: ChainWalk) -> bool
     if w.left == 0 {
         return false;
     }
-    sound::is_cell(p, w.block, w.size, w.at)
+    block::is_cell(p, w.block, w.size, w.at)
 }
 
 // One less, and 0 for 0.

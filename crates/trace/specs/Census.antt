@@ -3,7 +3,7 @@ use mathlib.Core.Path.{_≡_, refl, ap}
 use mathlib.Core.List.{List, [], _∷_, _++_, map, flatMap}
 use Prim.Native.Nat.{ℕ, _≤_}
 use native.Mathlib.Omega.{arith}
-use lib.ListN.{length, take, replicate, length-take}
+use lib.ListN.{length, take, drop, replicate, length-take}
 use Rattle.model.specs.declared.Params.{Params}
 use Rattle.model.specs.Params.{Lent, wordCount}
 use Rattle.model.specs.Calls.{Reply, setUp}
@@ -13,7 +13,7 @@ use Rattle.model.specs.Census.{section, occupied, blockRow, freeRows, linesOf, 
 use Rattle.listing.specs.Print.{refusedRows}
 use Rattle.laws.specs.Text.{placeAfter, Printed, printed-append, length-printed}
 use Rattle.model.specs.Memory.{overwrite}
-use Rattle.trace.specs.Room.{census-short}
+use Rattle.trace.specs.Room.{listingBytes, census-short}
 use Rattle.model.specs.Promise.{lend, SetUpPromised}
 use Rattle.trace.specs.Run.{TraceRan}
 use Rattle.trace.specs.Sections.{tablesRead, blocksText, freeText}
@@ -84,7 +84,12 @@ census-printed trace p = rw lends-zeros at p
 pub record Listed (h h′ : List ℕ) (r : ℕ) (text : List ℕ) : Type 0 where
   pub printed : Printed h h′ 0 r text
   pub inside : r ≤ length h′
-  pub whole : 20000 ≤ length h → take r h′ ≡ text
+  pub whole : listingBytes ≤ length h → take r h′ ≡ text
+
+-- The whole text stands at the front, every other byte is as before, and r says how many it has.
+pub record Whole (h h′ : List ℕ) (r : ℕ) (text : List ℕ) : Type 0 where
+  pub bytes : h′ ≡ text ++ drop (length text) h
+  pub count : r ≡ length text
 
 take-overwrite : (text h : List ℕ) → length text ≤ length h → take (length text) (overwrite 0 text h) ≡ text
 unfolding overwrite

@@ -34,6 +34,10 @@ use Rattle.soundness.specs.SoundLists.{sound-parts, block-parts}
 use Rattle.soundness.specs.Replies.{fair-reply, bad-reply}
 use Rattle.soundness.specs.Kept.{Kept, fresh-kept, step-kept}
 
+-- the room that is lent for a listing; `LISTING_BYTES` in the code
+abbrev pub listingBytes : ℕ
+listingBytes = 20000
+
 -- ---- numbers and rows
 
 -- at most k digits, as the model says
@@ -299,7 +303,7 @@ free-few t h (b ∷ bs) f =
 -- ---- a listing
 
 -- with as many bytes of refused rows as 256 lines can have, and sound tables
-listing-few : (r : Ran) → length (flatten (map refusedRow (r .refusals))) ≤ 1792 → Sound (r .lent) → length (listing r) ≤ 20000
+listing-few : (r : Ran) → length (flatten (map refusedRow (r .refusals))) ≤ 1792 → Sound (r .lent) → length (listing r) ≤ listingBytes
 unfolding listing
 listing-few r f K =
     let t : Tables = tablesIn (r .lent) in
@@ -326,7 +330,7 @@ unfolding linesOf
 lines-few bytes = omega (arith, length-take 256 (dropBlankEnd (pieces newline (take 16384 bytes))))
 
 -- Whatever the trace, its listing has at most 20,000 bytes
-pub census-short : (bytes : List ℕ) → length (census bytes) ≤ 20000
+pub census-short : (bytes : List ℕ) → length (census bytes) ≤ listingBytes
 unfolding census
 census-short bytes =
     let l : Lent = setUp censusParams censusLent .lent in

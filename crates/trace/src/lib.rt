@@ -6,13 +6,13 @@ ghost use lib.ListN.{length};
 ghost use Rattle.model.specs.Census.{census};
 ghost use Rattle.model.specs.Promise.{lend};
 ghost use Rattle.laws.specs.Text.{Printed};
-ghost use Rattle.trace.specs.Census.{listingText, listedFrom, Listed};
+ghost use Rattle.trace.specs.Census.{listingText, listedFrom, Listed, Whole};
 
 mod chain;
 mod run;
 mod sections;
 
-// No listing is longer.
+// No listing is longer: `whole_listing` needs it.
 pub const LISTING_BYTES: usize = 20000;
 
 // The three sections of what stands after a trace's lines.
@@ -50,7 +50,7 @@ fn run_and_list(
     listing(out, &lines[..n], &numbers[..n], words, states, heap)
 }
 
-// The listing of a trace, as many of its bytes as the buffer holds. The answer is how many; one of LISTING_BYTES holds all.
+// The listing of a trace, as many of its bytes as the buffer holds. The answer is how many.
 pub fn census(trace: &[u8], out: &mut [u8]) -> usize
     ensures { λ r. ⌜ Listed (now (out .entry)) (now (out .exit)) r (census (now (trace .entry))) ⌝ }
 {
@@ -70,4 +70,11 @@ pub fn census(trace: &[u8], out: &mut [u8]) -> usize
         &mut lines,
         &mut numbers,
     )
+}
+
+// The same in a buffer that holds every listing.
+pub fn whole_listing(trace: &[u8], out: &mut [u8; LISTING_BYTES]) -> usize
+    ensures { λ r. ⌜ Whole (now (out .entry)) (now (out .exit)) r (census (now (trace .entry))) ⌝ }
+{
+    census(trace, out)
 }
