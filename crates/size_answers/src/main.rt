@@ -1,6 +1,7 @@
 // Size classes, raised sizes and shifts, compared with the Rust: for every size from 0 to 65,544 its bin, and for every MIN,
 // MAX and align the raised size, its bin and its cell size, and shifted addresses. Each line of `stdout` is a checksum over the
 // Rust's answers, made by oracle/samples/size_answers.py; this program makes the same from the port's.
+use libc::STDERR_FILENO;
 use libc::STDOUT_FILENO;
 use model::Address;
 use model::Params;
@@ -97,14 +98,27 @@ fn regions(h: usize, from: usize, min: usize, align: usize, first: usize) -> usi
     g
 }
 
-fn show(x: usize, after: u8) {
-    io::print_decimal(STDOUT_FILENO, x as u64);
+// Each function below answers whether its output was written.
+fn show(x: usize, after: u8) -> bool {
+    if !io::print_decimal(STDOUT_FILENO, x as u64) {
+        return false;
+    }
     let end = [after];
-    io::write_all(STDOUT_FILENO, &end);
+    io::write_all(STDOUT_FILENO, &end)
+}
+
+fn show_three(min: usize, max: usize, align: usize) -> bool {
+    if !show(min, b' ') {
+        return false;
+    }
+    if !show(max, b' ') {
+        return false;
+    }
+    show(align, b' ')
 }
 
 // The line of one MIN, MAX and align.
-fn line(min: usize, max: usize, align: usize)
+fn line(min: usize, max: usize, align: usize) -> bool
     requires { ⌜ (0 < min) × (min ≤ 8) ⌝ }
 {
     let p = Params {
@@ -117,37 +131,58 @@ fn line(min: usize, max: usize, align: usize)
         unified: true,
         lower: 0,
     };
-    show(min, b' ');
-    show(max, b' ');
-    show(align, b' ');
-    show(sizes(p, min, align), b' ');
+    if !show_three(min, max, align) {
+        return false;
+    }
+    if !show(sizes(p, min, align), b' ') {
+        return false;
+    }
     let low = regions(0, 8, min, align, 0);
     let high = regions(low, 140737488355200, min, align, 65536 - 32 * min);
-    show(high, b'\n');
+    show(high, b'\n')
 }
 
-fn aligns(min: usize, max: usize)
+fn aligns(min: usize, max: usize) -> bool
     requires { ⌜ (0 < min) × (min ≤ 8) × (max ≤ 64) ⌝ }
 {
     let mut align = min;
     while align <= max {
-        line(min, max, align);
+        if !line(min, max, align) {
+            return false;
+        }
         align = align * 2;
     }
+    true
 }
 
-fn maxes(min: usize)
+fn maxes(min: usize) -> bool
     requires { ⌜ (0 < min) × (min ≤ 8) ⌝ }
 {
     let mut max = min;
     while max <= 64 {
-        aligns(min, max);
+        if !aligns(min, max) {
+            return false;
+        }
         max = max * 2;
     }
+    true
+}
+
+fn all() -> bool {
+    if !show(bins(), b'\n') {
+        return false;
+    }
+    if !maxes(4) {
+        return false;
+    }
+    maxes(8)
 }
 
 fn main() {
-    show(bins(), b'\n');
-    maxes(4);
-    maxes(8);
+    if !all() {
+        io::write_all(
+            STDERR_FILENO,
+            b"size_answers: standard output can't be written\n",
+        );
+    }
 }

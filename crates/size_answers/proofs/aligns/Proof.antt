@@ -16,6 +16,9 @@ loop-holds c = search needs
 line-requires : tie.Need-line-requires Inv-loop μ-loop
 line-requires c κs = search needs
 
+returns : tie.Need-returns Inv-loop μ-loop
+returns c = search needs
+
 mul-align : tie.Need-mul-align Inv-loop μ-loop
 mul-align c = search needs
 
@@ -25,10 +28,10 @@ loop-less c = search needs
 loop-again : tie.Need-loop-again Inv-loop μ-loop
 loop-again c = search needs
 
-returns : tie.Need-returns Inv-loop μ-loop
-returns c = search needs
+returns-2 : tie.Need-returns-2 Inv-loop μ-loop
+returns-2 c = search needs
 
 pub aligns-spec : {M : Type 1} → statement M
 aligns-spec =
     tie.close
-    (tie.spec Inv-loop μ-loop loop-holds line-requires mul-align loop-less loop-again returns)
+    (tie.spec Inv-loop μ-loop loop-holds line-requires returns mul-align loop-less loop-again returns-2)

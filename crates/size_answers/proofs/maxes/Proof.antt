@@ -16,6 +16,9 @@ loop-holds c = search needs
 aligns-requires : tie.Need-aligns-requires Inv-loop μ-loop
 aligns-requires c κs = search needs
 
+returns : tie.Need-returns Inv-loop μ-loop
+returns c = search needs
+
 mul-max : tie.Need-mul-max Inv-loop μ-loop
 mul-max c = search needs
 
@@ -25,10 +28,10 @@ loop-less c = search needs
 loop-again : tie.Need-loop-again Inv-loop μ-loop
 loop-again c = search needs
 
-returns : tie.Need-returns Inv-loop μ-loop
-returns c = search needs
+returns-2 : tie.Need-returns-2 Inv-loop μ-loop
+returns-2 c = search needs
 
 pub maxes-spec : {M : Type 1} → statement M
 maxes-spec =
     tie.close
-    (tie.spec Inv-loop μ-loop loop-holds aligns-requires mul-max loop-less loop-again returns)
+    (tie.spec Inv-loop μ-loop loop-holds aligns-requires returns mul-max loop-less loop-again returns-2)
