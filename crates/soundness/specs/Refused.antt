@@ -4,7 +4,7 @@ use mathlib.Core.Path.{_≡_, refl, sym, ap, _∙_, subst}
 use mathlib.Core.Logic.{_≢_, _⊎_, inl, inr, ⊎-elim}
 use mathlib.Core.Bool.{Bool, true, false, not, _&&_, _||_}
 use mathlib.Core.List.{List, [], _∷_, _++_, headD}
-use Prim.Native.Nat.{ℕ, _-_, _*_, _/_, _<_, _≤_}
+use Prim.Native.Nat.{ℕ, _-_, _/_, _<_, _≤_}
 use native.Mathlib.Omega.{arith}
 use lib.Dec.{eqb, ltb}
 use lib.ListN.{getD, set, length}
@@ -130,7 +130,7 @@ module _ (p : Params) (l : Lent) where
 
 -- ---- an alloc's search and what it ends in
 
-module _ (p : Params) (l : Lent) (f : fits p l ≡ true) (B : Bounds p) (Z : Sized (p .blocks) (view (l .words))) (len : length (l .heap) ≡ heapBytes p)
+module _ (p : Params) (l : Lent) (B : Bounds p) (len : length (l .heap) ≡ heapBytes p)
     (H : Held p (l .marks) (view (l .words)) (l .states))
     (h size align offset : ℕ) (offer : Offer) (lo : 1 ≤ h) (hi : h ≤ 8) (low : binOf p (raised p size align) < 49)
     (room : cellBytes p (binOf p (raised p size align)) ≤ p .bytes) where
@@ -157,7 +157,9 @@ module _ (p : Params) (l : Lent) (f : fits p l ≡ true) (B : Bounds p) (Z : Siz
         values = refl;
         nothing = λ a b. absurd (b refl);
         badLink = λ q. absurd (omega (arith, q));
-        exhausted = λ q. exhausted-lent p h bin l (g .words) (eventsHeap p (g .events) (l .heap)) (G .good .held .sized) (G .idle) (G .quiet) (G .good .frame) (G .blocks);
+        exhausted = λ q.
+            exhausted-lent p h bin l (g .words) (eventsHeap p (g .events) (l .heap)) (G .good .held .sized) (G .idle)
+            (G .quiet) (G .good .frame) (G .blocks);
       })
 
   -- a cell is taken, where its link is good or the block was found by no sweep
@@ -170,7 +172,9 @@ module _ (p : Params) (l : Lent) (f : fits p l ≡ true) (B : Bounds p) (Z : Siz
       (λ n z. record {
         values = refl;
         nothing = λ a b. absurd (a refl);
-        badLink = λ q. ⊎-elim (λ S. bad-lent p h bin l (g .words) heap (G .good .held .sized) (S .idle) x (S .quiet) (G .good .frame) (S .here) (S .others) n)
+        badLink = λ q.
+            ⊎-elim
+            (λ S. bad-lent p h bin l (g .words) heap (G .good .held .sized) (S .idle) x (S .quiet) (G .good .frame) (S .here) (S .others) n)
             (λ y. absurd (not-both _ y n)) (G .end);
         exhausted = λ q. absurd (omega (arith, q));
       }))
@@ -208,9 +212,11 @@ module _ (p : Params) (l : Lent) (f : fits p l ≡ true) (B : Bounds p) (Z : Siz
     unfolding v initBlock initChain setFree setSize setTls eventHeap
     offer-link =
         rw (events-behind p (g .events) (initialised b (initChain p b s)) (l .heap) ∙ ap (linkAll p (initChain p b s)) (G .idle))
-        (chain-link p B (λ a. false) b s lb word v (l .heap) len (set-at (u .size) b s (omega (arith, Zu .size))) (set-at (u .free) b _ (omega (arith, Zu .free))) some-cell)
+        (chain-link p B (λ a. false) b s lb word v (l .heap) len (set-at (u .size) b s (omega (arith, Zu .size)))
+        (set-at (u .free) b _ (omega (arith, Zu .free))) some-cell)
 
-  fresh-found : (o : Offer) → goodOffer p (tablesIn l) o ≡ true → (g : Found) → g .at ≡ 0 → Going′ (g .events) (g .words) → R (acquireFresh p h bin o g (tablesIn l))
+  fresh-found : (o : Offer) → goodOffer p (tablesIn l) o ≡ true → (g : Found) → g .at ≡ 0 → Going′ (g .events) (g .words)
+      → R (acquireFresh p h bin o g (tablesIn l))
   unfolding acquireFresh goodOffer takePlan finish takeCell v
   fresh-found Nothing y g e G = none-found g e G
   fresh-found (Fresh b) y g e G =
@@ -255,8 +261,9 @@ module _ (p : Params) (l : Lent) (f : fits p l ≡ true) where
     H : Held p (l .marks) w (l .states)
     H = record { lists = λ n. blocksOn p n w; good = sound-good p B (tablesIn l) ok; sized = Z; states = parts .2 }
 
-    no-8 : (r : Refusal) → refusalNumber r ≢ 8 → refusalNumber r ≢ 9 → (c : Call) → Fine p l c (refuses (tablesIn l) r)
-    no-8 r a b c = plain p l (parts .1) c r a b
+    -- a refusal of another number
+    as-is : (r : Refusal) → refusalNumber r ≢ 8 → refusalNumber r ≢ 9 → (c : Call) → Fine p l c (refuses (tablesIn l) r)
+    as-is r a b c = plain p l (parts .1) c r a b
 
     plan-fine : (c : Call) → Fine p l c (planSound p (tablesIn l) c)
     unfolding planSound planAlloc releasePlan finish refusalNumber
@@ -270,19 +277,20 @@ module _ (p : Params) (l : Lent) (f : fits p l ≡ true) where
         let c : Call = alloc h size align offset offer in
         if-cases (Fine p l c) (not (eqb (w .phase) 0)) (λ e. wrong-phase p l (parts .1) c)
         (λ e. if-cases (Fine p l c) (not (isBound w h)) (λ g. bad-holder p l (parts .1) c)
-        (λ g. if-cases (Fine p l c) (not (goodRequest p size align offset)) (λ i. no-8 BadRequest (λ q. omega (arith, q)) (λ q. omega (arith, q)) c)
-        (λ i. if-cases (Fine p l c) (tooBig p size align) (λ j. no-8 TooBig (λ q. omega (arith, q)) (λ q. omega (arith, q)) c)
-        (λ j. if-cases (Fine p l c) (not (goodOffer p (tablesIn l) offer)) (λ k. no-8 BadOffer (λ q. omega (arith, q)) (λ q. omega (arith, q)) c)
+        (λ g. if-cases (Fine p l c) (not (goodRequest p size align offset)) (λ i. as-is BadRequest (λ q. omega (arith, q)) (λ q. omega (arith, q)) c)
+        (λ i. if-cases (Fine p l c) (tooBig p size align) (λ j. as-is TooBig (λ q. omega (arith, q)) (λ q. omega (arith, q)) c)
+        (λ j. if-cases (Fine p l c) (not (goodOffer p (tablesIn l) offer)) (λ k. as-is BadOffer (λ q. omega (arith, q)) (λ q. omega (arith, q)) c)
         (λ k.
         let P = bound-at w h (not-false _ g) in
         let n = chosen p (raised p size align) (omega (arith, fits-raised p size align j, B .bytes-high)) in
-        alloc-fine p l f B Z (parts .3) H h size align offset offer (P .low) (P .high) (omega (arith, n .to))
+        alloc-fine p l B (parts .3) H h size align offset offer (P .low) (P .high) (omega (arith, n .to))
         (cell-in-block p (good p (parts .0)) (raised p size align) (fits-raised p size align j)) (not-false _ k))))))
     plan-fine prepare =
         if-cases (Fine p l prepare) (not (eqb (w .phase) 0)) (λ e. wrong-phase p l (parts .1) prepare) (λ e. done p l prepare _ [])
     plan-fine (mark place b) =
         if-cases (Fine p l (mark place b)) (not (eqb (w .phase) 1)) (λ e. wrong-phase p l (parts .1) (mark place b))
-        (λ e. if-cases (Fine p l (mark place b)) (not (goodObject p (tablesIn l) place b)) (λ g. no-8 BadObject (λ q. omega (arith, q)) (λ q. omega (arith, q)) (mark place b))
+        (λ e. if-cases (Fine p l (mark place b)) (not (goodObject p (tablesIn l) place b))
+        (λ g. as-is BadObject (λ q. omega (arith, q)) (λ q. omega (arith, q)) (mark place b))
         (λ g. done p l (mark place b) _ _))
     plan-fine (release h) =
         if-cases (Fine p l (release h)) (not (mayRelease w) || (isHolder h && hasReleased w h)) (λ e. wrong-phase p l (parts .1) (release h))

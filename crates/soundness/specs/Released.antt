@@ -64,7 +64,7 @@ module _ (n : ℕ) (s₀ : List ℕ) where
   one-more p l b f T e =
       record {
         blocks = length-set (f .states) b 0 ∙ T .blocks;
-        count = releases-behind (f .events) b ∙ ap (λ (x : ℕ). x + 1) (T .count) ∙ sym (sum-same n (gone (set (f .states) b 0)) (λ i. gone (f .states) i + flag (eqb i b)) (λ i l. at i (ℕ-discrete i b)) ∙ sum-add n (gone (f .states)) (λ i. flag (eqb i b)) ∙ ap (λ (x : ℕ). sumBelow n (gone (f .states)) + x) alone);
+        count = releases-behind (f .events) b ∙ ap (λ (x : ℕ). x + 1) (T .count) ∙ sym more;
         others = λ i o. stay i o (ℕ-discrete i b);
       }
     where
@@ -86,6 +86,11 @@ module _ (n : ℕ) (s₀ : List ℕ) where
 
       alone : sumBelow n (λ i. flag (eqb i b)) ≡ 1
       alone = sum-one n (λ i. flag (eqb i b)) b (omega (arith, low, T .blocks)) (λ i l g. ap flag (ne-eqb i b g)) ∙ ap flag (eq-eqb b b refl)
+
+      more : sumBelow n (gone (set (f .states) b 0)) ≡ sumBelow n (gone (f .states)) + 1
+      more =
+          sum-same n (gone (set (f .states) b 0)) (λ i. gone (f .states) i + flag (eqb i b)) (λ i l. at i (ℕ-discrete i b))
+          ∙ sum-add n (gone (f .states)) (λ i. flag (eqb i b)) ∙ ap (λ (x : ℕ). sumBelow n (gone (f .states)) + x) alone
 
       stay : (i : ℕ) → getD (set (f .states) b 0) i 0 ≢ 0 → Dec (i ≡ b) → getD (set (f .states) b 0) i 0 ≡ getD s₀ i 0
       stay i o (yes q) = absurd (o (ap (λ (y : ℕ). getD (set (f .states) b 0) y 0) q ∙ now))
@@ -144,7 +149,9 @@ module _ (p : Params) (l : Lent) where
   call-counts : (c : Call) → (fits p l ≡ true → Planned (planSound p (tablesIn l) c)) → CountsReleased p l c
   unfolding CountsReleased call step plan refusalNumber
   call-counts c h =
-      if-cases Counts (fits p l) (λ e. if-cases Planned (sound p (tablesIn l)) (λ s. h e) (λ s. refused-counts BadTables (λ z. omega (arith, z)))) (λ e z. absurd (omega (arith, z)))
+      if-cases Counts (fits p l)
+      (λ e. if-cases Planned (sound p (tablesIn l)) (λ s. h e) (λ s. refused-counts BadTables (λ z. omega (arith, z))))
+      (λ e z. absurd (omega (arith, z)))
 
 pub released-counted : ReleasedCounts
 unfolding ReleasedCounts planSound

@@ -42,13 +42,15 @@ use Rattle.soundness.specs.Alloc.{Tweaked, tweak-free, tweak-tls, my-ava
 push-last : (p : Params) (l b : ℕ) (w : Words) (n : ℕ) → n ≢ l → getD (push p l b w .last) n 0 ≡ getD (w .last) n 0
 unfolding push setFirst setLast setNext setPrev setList
 push-last p l b w n f =
-    if-cases (λ (x : Words). getD (x .last) n 0 ≡ getD (w .last) n 0) (eqb (getD (w .first) l 0) 0) (λ e. set-off (w .last) l (start p b) n f) (λ e. refl)
+    if-cases (λ (x : Words). getD (x .last) n 0 ≡ getD (w .last) n 0) (eqb (getD (w .first) l 0) 0)
+    (λ e. set-off (w .last) l (start p b) n f) (λ e. refl)
 
 pop-last : (p : Params) (l : ℕ) (w : Words) (n : ℕ) → n ≢ l → getD (pop p l w .words .last) n 0 ≡ getD (w .last) n 0
 unfolding pop popHead setFirst setLast setNext setPrev setList
 pop-last p l w n f =
     if-cases (λ (x : Popped). getD (x .words .last) n 0 ≡ getD (w .last) n 0) (eqb (getD (w .first) l 0) 0) (λ e. refl)
-    (λ e. if-cases (λ (x : Words). getD (x .last) n 0 ≡ getD (w .last) n 0) (eqb (getD (w .next) (blockAt p (getD (w .first) l 0)) 0) 0) (λ g. set-off (w .last) l 0 n f) (λ g. refl))
+    (λ e. if-cases (λ (x : Words). getD (x .last) n 0 ≡ getD (w .last) n 0)
+    (eqb (getD (w .next) (blockAt p (getD (w .first) l 0)) 0) 0) (λ g. set-off (w .last) l 0 n f) (λ g. refl))
 
 -- the block x goes from the list l to the list c; u are the words after
 pub record Move (l c x : ℕ) (w u : Words) : Type 0 where
@@ -93,8 +95,15 @@ module _ (p : Params) (B : Bounds p) (st : List ℕ) (w : Words) (Z : Sized (p .
       record {
         from = H .on .names;
         to = ap (λ (y : List ℕ). getD y x 0) (push-list p c x v) ∙ set-at (v .list) x (listWord c) (omega (arith, Z₂ .list, H .on .low));
-        others = λ b f. record { list = list b f; free = ap (λ (y : List ℕ). getD y b 0) (P .free) ∙ T .words b f .free ∙ ap (λ (y : List ℕ). getD y b 0) (Q .free); tls = ap (λ (y : List ℕ). getD y b 0) (P .tls) ∙ T .words b f .tls ∙ ap (λ (y : List ℕ). getD y b 0) (Q .tls) };
-        first = λ n f g. ap (λ (y : List ℕ). getD y n 0) (push-first p c x v) ∙ set-off (v .first) c (start p x) n g ∙ ap (λ (y : Links). getD (y .first) n 0) (T .links) ∙ pop-firsts p l w n f f;
+        others = λ b f.
+            record {
+              list = list b f;
+              free = ap (λ (y : List ℕ). getD y b 0) (P .free) ∙ T .words b f .free ∙ ap (λ (y : List ℕ). getD y b 0) (Q .free);
+              tls = ap (λ (y : List ℕ). getD y b 0) (P .tls) ∙ T .words b f .tls ∙ ap (λ (y : List ℕ). getD y b 0) (Q .tls);
+            };
+        first = λ n f g.
+            ap (λ (y : List ℕ). getD y n 0) (push-first p c x v) ∙ set-off (v .first) c (start p x) n g
+            ∙ ap (λ (y : Links). getD (y .first) n 0) (T .links) ∙ pop-firsts p l w n f f;
         last = λ n f g. push-last p c x v n g ∙ ap (λ (y : Links). getD (y .last) n 0) (T .links) ∙ pop-last p l w n f;
         next = λ b f g. onto b f g .next ∙ ap (λ (y : Links). getD (y .next) b 0) (T .links) ∙ out b f .next;
         prev = λ b f g. onto b f g .prev ∙ ap (λ (y : Links). getD (y .prev) b 0) (T .links) ∙ out b f .prev;
@@ -260,15 +269,24 @@ tweak-trans : (x : ℕ) (w u v : Words) → Tweaked x w u → Tweaked x u v → 
 tweak-trans x w u v T U =
     record {
       links = U .links ∙ T .links;
-      words = λ b f. record { free = U .words b f .free ∙ T .words b f .free; size = U .words b f .size ∙ T .words b f .size; tls = U .words b f .tls ∙ T .words b f .tls };
+      words = λ b f.
+          record {
+            free = U .words b f .free ∙ T .words b f .free;
+            size = U .words b f .size ∙ T .words b f .size;
+            tls = U .words b f .tls ∙ T .words b f .tls;
+          };
     }
 
 -- the search of the holder h for the bin, from the words w₀ and the heap on
 module _ (p : Params) (B : Bounds p) (st ms : List ℕ) (h bin : ℕ) (lo : 1 ≤ h) (hi : h ≤ 8) (low : bin < 49) (w₀ : Words)
     (heap : List ℕ) (len : length heap ≡ heapBytes p) where
+  -- tables are good still
+  abbrev Good : Words → Type 0
+  Good = Searched p B st ms h bin lo hi low w₀
+
   -- nothing is found yet
   pub record Going (es : List Event) (w : Words) : Type 0 where
-    pub good : Searched p B st ms h bin lo hi low w₀ w
+    pub good : Good w
     pub quiet : Quiet h bin w₀ w
     pub idle : eventsHeap p es heap ≡ heap
     pub blocks : (b : ℕ) → Passed p ms h bin w₀ w b
@@ -282,16 +300,22 @@ module _ (p : Params) (B : Bounds p) (st ms : List ℕ) (h bin : ℕ) (lo : 1 �
 
   -- or by one, and then the link of its first cell is good
   pub record Stopped (es : List Event) (a : ℕ) (w : Words) : Type 0 where
-    pub good : Searched p B st ms h bin lo hi low w₀ w
-    pub end : Stood es (blockAt p a) w ⊎ (linkOk p w (blockAt p a) (load p (eventsHeap p es heap) (getD (w .free) (blockAt p a) 0)) ≡ true)
+    pub good : Good w
+    pub end : Stood es (blockAt p a) w
+        ⊎ (linkOk p w (blockAt p a) (load p (eventsHeap p es heap) (getD (w .free) (blockAt p a) 0)) ≡ true)
 
   pass-on : (b : ℕ) (w u : Words) → Passed p ms h bin w₀ w b → Unmoved w u b → Passed p ms h bin w₀ u b
   pass-on b w u (inl U) K = inl (record { list = K .list ∙ U .list; free = K .free ∙ U .free; tls = K .tls ∙ U .tls })
   pass-on b w u (inr M) K = inr (record { was = M .was; list = K .list ∙ M .list; free = K .free ∙ M .free; tls = K .tls ∙ M .tls })
 
-  -- the head of one of the lists that blocks are taken from
-  module _ (es : List Event) (w : Words) (G : Going es w) (l : ℕ) (ll : l < 1470) (eb : l % 49 ≡ bin) (sl : searches h bin l ≡ true)
-      (nl : l ≢ consumed (localSets h) bin) (some : getD (w .first) l 0 ≢ 0) where
+  -- a list that blocks are taken from
+  record Tried (l : ℕ) : Type 0 where
+    number : l < 1470
+    listed : searches h bin l ≡ true
+    other : l ≢ consumed (localSets h) bin
+
+  -- its head
+  module _ (es : List Event) (w : Words) (G : Going es w) (l : ℕ) (R : Tried l) (some : getD (w .first) l 0 ≢ 0) where
     abbrev Hw : Held p ms w st
     Hw = G .good .held
 
@@ -302,15 +326,15 @@ module _ (p : Params) (B : Bounds p) (st ms : List ℕ) (h bin : ℕ) (lo : 1 �
     u₁ = pop p l w .words
 
     head : Head p st w (Hw .lists) l
-    head = head-of p B st w (Hw .lists) (Hw .good .lists) l ll some
+    head = head-of p B st w (Hw .lists) (Hw .good .lists) l (R .number) some
 
     fit : Fit p (tablesOf w st ms) l y
     unfolding In
-    fit = Hw .good .fit l y ll (rw (head .is) (inl refl))
+    fit = Hw .good .fit l y (R .number) (rw (head .is) (inl refl))
 
     -- it has not been moved before
     still : Unmoved w₀ w y
-    still = ⊎-elim (λ U. U) (λ M. absurd (nl (word-same l (consumed (localSets h) bin) (sym (head .on .names) ∙ M .list)))) (G .blocks y)
+    still = ⊎-elim (λ U. U) (λ M. absurd (R .other (word-same l (consumed (localSets h) bin) (sym (head .on .names) ∙ M .list)))) (G .blocks y)
 
     was : OnList w₀ l y
     was = sym (still .list) ∙ head .on .names
@@ -319,16 +343,16 @@ module _ (p : Params) (B : Bounds p) (st ms : List ℕ) (h bin : ℕ) (lo : 1 �
     popped-size = pop-links p l w (links-refl w) .size
 
     moves : (c : ℕ) → c < 1470 → (v : Words) → Tweaked y u₁ v → lengths v ≡ lengths u₁ → Move l c y w (push p c y v)
-    moves c lc v T e = move p B st w (Hw .sized) (Hw .lists) (Hw .good .lists) l c ll lc head v T e
+    moves c lc v T e = move p B st w (Hw .sized) (Hw .lists) (Hw .good .lists) l c (R .number) lc head v T e
 
     -- where its words are v, it has no cell, and it goes to consumed
     goes-full : (v : Words) → Tweaked y u₁ v → lengths v ≡ lengths u₁ → v .size ≡ w .size → (es′ : List Event)
-        → Searched p B st ms h bin lo hi low w₀ (push p (consumed (localSets h) bin) y v) → eventsHeap p es′ heap ≡ heap → HadNone p ms h bin w₀ y
+        → Good (push p (consumed (localSets h) bin) y v) → eventsHeap p es′ heap ≡ heap → HadNone p ms h bin w₀ y
         → getD (v .free) y 0 ≡ 0 → getD (v .tls) y 0 ≡ h → Going es′ (push p (consumed (localSets h) bin) y v)
     goes-full v T e z es′ S i n ef et =
         record {
           good = S;
-          quiet = quiet-moved h bin w₀ l c y w (push p c y v) (G .quiet) sl (searches-consumed h bin) (P .size ∙ z) M;
+          quiet = quiet-moved h bin w₀ l c y w (push p c y v) (G .quiet) (R .listed) (searches-consumed h bin) (P .size ∙ z) M;
           idle = i;
           blocks = λ b. at b (ℕ-discrete b y);
         }
@@ -343,13 +367,19 @@ module _ (p : Params) (B : Bounds p) (st ms : List ℕ) (h bin : ℕ) (lo : 1 �
         M = moves c (my-consumed p B st ms h bin lo hi low w₀ .low) v T e
 
         at : (b : ℕ) → Dec (b ≡ y) → Passed p ms h bin w₀ (push p c y v) b
-        at b (yes q) = rw q (inr (record { was = n; list = M .to; free = ap (λ (x : List ℕ). getD x y 0) (P .free) ∙ ef; tls = ap (λ (x : List ℕ). getD x y 0) (P .tls) ∙ et }))
+        at b (yes q) =
+            rw q (inr (record {
+              was = n;
+              list = M .to;
+              free = ap (λ (x : List ℕ). getD x y 0) (P .free) ∙ ef;
+              tls = ap (λ (x : List ℕ). getD x y 0) (P .tls) ∙ et;
+            }))
         at b (no f) = pass-on b w (push p c y v) (G .blocks b) (M .others b f)
 
     -- it is swept, with these words, and filed
     module _ (u : Words) (T : Tweaked y u₁ u) (e : lengths u ≡ lengths u₁) (z : u .size ≡ w .size) (et : getD (u .tls) y 0 ≡ h)
         (from : OnList w₀ (unswept (localSets h) bin) y ⊎ OnList w₀ (unswept abandoned bin) y)
-        (F : Files p ms h bin (λ es w. Searched p B st ms h bin lo hi low w₀ w) (λ es a w. Searched p B st ms h bin lo hi low w₀ w)
+        (F : Files p ms h bin (λ es w. Good w) (λ es a w. Good w)
         (es ++ (sweepOf p ms y u ∷ [])) (getD (w .first) l 0) (sweptWords p ms y u)) where
       abbrev s : ℕ
       s = getD (u .size) y 0
@@ -384,7 +414,9 @@ module _ (p : Params) (B : Bounds p) (st ms : List ℕ) (h bin : ℕ) (lo : 1 �
       unfolding sweptWords setFree linkAll sweepChain
       files-swept =
           record {
-            full = λ q. goes-full v T′ (lengths-setFree y _ u ∙ e) z _ (F .full q) (written ∙ ap (λ (x : List ℕ). linkAll p x heap) (none (sym now ∙ q))) (unswept-none q) q et;
+            full = λ q.
+                goes-full v T′ (lengths-setFree y _ u ∙ e) z _ (F .full q)
+                (written ∙ ap (λ (x : List ℕ). linkAll p x heap) (none (sym now ∙ q))) (unswept-none q) q et;
             has = λ q.
                 let c = available (localSets h) bin in
                 let P = push-links p c y v (links-refl v) in
@@ -395,7 +427,7 @@ module _ (p : Params) (B : Bounds p) (st ms : List ℕ) (h bin : ℕ) (lo : 1 �
                 };
           }
 
-  abbrev S : Steps p ms h bin (λ es w. Searched p B st ms h bin lo hi low w₀ w) (λ es a w. Searched p B st ms h bin lo hi low w₀ w)
+  abbrev S : Steps p ms h bin (λ es w. Good w) (λ es a w. Good w)
   S = steps p B st ms h bin lo hi low w₀
 
   abbrev av : ℕ
@@ -410,21 +442,24 @@ module _ (p : Params) (B : Bounds p) (st ms : List ℕ) (h bin : ℕ) (lo : 1 �
   my-un : Numbered un (h - 1) bin
   my-un = my-unswept p B st ms h bin lo hi low w₀
 
-  av-differs : av ≢ consumed (localSets h) bin
+  -- the four lists
+  first-tried : Tried av
   unfolding available consumed listOf
-  av-differs q = omega (arith, q)
+  first-tried = record { number = my-av .low; listed = searches-available h bin; other = λ q. omega (arith, q) }
 
-  un-differs : un ≢ consumed (localSets h) bin
+  second-tried : Tried un
   unfolding unswept consumed listOf
-  un-differs q = omega (arith, q)
+  second-tried = record { number = my-un .low; listed = searches-unswept h bin; other = λ q. omega (arith, q) }
 
-  far-av : available abandoned bin ≢ consumed (localSets h) bin
+  third-tried : Tried (available abandoned bin)
   unfolding available consumed localSets listOf
-  far-av q = omega (arith, q)
+  third-tried =
+      record { number = available-numbered 8 bin (omega arith) low .low; listed = searches-abandoned h bin; other = λ q. omega (arith, q) }
 
-  far-un : unswept abandoned bin ≢ consumed (localSets h) bin
+  fourth-tried : Tried (unswept abandoned bin)
   unfolding unswept consumed localSets listOf
-  far-un q = omega (arith, q)
+  fourth-tried =
+      record { number = unswept-numbered 8 bin (omega arith) low .low; listed = searches-last h bin; other = λ q. omega (arith, q) }
 
   -- a block on a local list is the holder's
   local-h : (l x : ℕ) (w : Words) → Numbered l (h - 1) bin → Fit p (tablesOf w st ms) l x → getD (w .tls) x 0 ≡ h
@@ -435,43 +470,42 @@ module _ (p : Params) (B : Bounds p) (st ms : List ℕ) (h bin : ℕ) (lo : 1 �
   search-steps =
       record {
         moved = λ es w G some q.
-            let m = my-av in
             let u = pop p av w .words in
             let P = pop-links p av w (links-refl w) in
             let x = blockAt p (getD (w .first) av 0) in
-            goes-full es w G av (m .low) (m .bin) (searches-available h bin) av-differs some u (tweak-refl x u) refl (P .size) es (S .moved es w (G .good) some q) (G .idle)
-            (inl (inl (was es w G av (m .low) (m .bin) (searches-available h bin) av-differs some), sym (still es w G av (m .low) (m .bin) (searches-available h bin) av-differs some .free) ∙ q))
+            let R = first-tried in
+            goes-full es w G av R some u (tweak-refl x u) refl (P .size) es (S .moved es w (G .good) some q) (G .idle)
+            (inl (inl (was es w G av R some), sym (still es w G av R some .free) ∙ q))
             (ap (λ (y : List ℕ). getD y x 0) (P .free) ∙ q)
-            (ap (λ (y : List ℕ). getD y x 0) (P .tls) ∙ local-h av x w m (fit es w G av (m .low) (m .bin) (searches-available h bin) av-differs some));
+            (ap (λ (y : List ℕ). getD y x 0) (P .tls) ∙ local-h av x w my-av (fit es w G av R some));
         seen = λ es w G some q.
             record {
               good = G .good;
               end = inl (record {
                 quiet = G .quiet;
                 idle = G .idle;
-                here = inl (still es w G av (my-av .low) (my-av .bin) (searches-available h bin) av-differs some);
+                here = inl (still es w G av first-tried some);
                 others = λ b f. G .blocks b;
               });
             };
         recycled = λ es w G some.
-            let m = my-un in
             let u = pop p un w .words in
             let P = pop-links p un w (links-refl w) in
             let x = blockAt p (getD (w .first) un 0) in
-            files-swept es w G un (m .low) (m .bin) (searches-unswept h bin) un-differs some u (tweak-refl x u) refl (P .size)
-            (ap (λ (y : List ℕ). getD y x 0) (P .tls) ∙ local-h un x w m (fit es w G un (m .low) (m .bin) (searches-unswept h bin) un-differs some))
-            (inl (was es w G un (m .low) (m .bin) (searches-unswept h bin) un-differs some)) (S .recycled es w (G .good) some);
+            let R = second-tried in
+            files-swept es w G un R some u (tweak-refl x u) refl (P .size)
+            (ap (λ (y : List ℕ). getD y x 0) (P .tls) ∙ local-h un x w my-un (fit es w G un R some))
+            (inl (was es w G un R some)) (S .recycled es w (G .good) some);
         over = λ es w G some. over-files es w G some;
         swept = λ es w G none some.
-            let m = unswept-numbered 8 bin (omega arith) low in
             let l = unswept abandoned bin in
             let u = pop p l w .words in
             let P = pop-links p l w (links-refl w) in
             let x = blockAt p (getD (w .first) l 0) in
-            let H = head es w G l (m .low) (m .bin) (searches-last h bin) far-un some in
-            files-swept es w G l (m .low) (m .bin) (searches-last h bin) far-un some (setTls x h u) (tweak-tls x h u) (lengths-setTls x h u) (P .size)
-            (set-at (u .tls) x h (omega (arith, sized-same (P .lengths) (G .good .held .sized) .tls, H .on .low)))
-            (inr (was es w G l (m .low) (m .bin) (searches-last h bin) far-un some)) (S .swept es w (G .good) none some);
+            let R = fourth-tried in
+            files-swept es w G l R some (setTls x h u) (tweak-tls x h u) (lengths-setTls x h u) (P .size)
+            (set-at (u .tls) x h (omega (arith, sized-same (P .lengths) (G .good .held .sized) .tls, head es w G l R some .on .low)))
+            (inr (was es w G l R some)) (S .swept es w (G .good) none some);
       }
     where
       over-files : (es : List Event) (w : Words) (G : Going es w) → getD (w .first) (available abandoned bin) 0 ≢ 0
@@ -479,15 +513,16 @@ module _ (p : Params) (B : Bounds p) (st ms : List ℕ) (h bin : ℕ) (lo : 1 �
           Files p ms h bin Going Stopped es a (setTls (blockAt p a) h (pop p (available abandoned bin) w .words))
       over-files es w G some =
           record {
-            full = λ q. goes-full es w G l (N .low) (N .bin) (searches-abandoned h bin) far-av some v (tweak-tls x h u) (lengths-setTls x h u) (P .size) es (F .full q) (G .idle)
+            full = λ q.
+                goes-full es w G l R some v (tweak-tls x h u) (lengths-setTls x h u) (P .size) es (F .full q) (G .idle)
                 (inl (inr from, sym (U .free) ∙ sym (ap (λ (y : List ℕ). getD y x 0) (P .free)) ∙ q)) q mine;
             has = λ q.
-                let M = moves es w G l (N .low) (N .bin) (searches-abandoned h bin) far-av some av (my-av .low) v (tweak-tls x h u) (lengths-setTls x h u) in
+                let M = moves es w G l R some av (my-av .low) v (tweak-tls x h u) (lengths-setTls x h u) in
                 let O = push-links p av x v (links-refl v) in
                 record {
                   good = F .has q;
                   end = inl (record {
-                    quiet = quiet-moved h bin w₀ l av x w (push p av x v) (G .quiet) (searches-abandoned h bin) (searches-available h bin) (O .size ∙ P .size) M;
+                    quiet = quiet-moved h bin w₀ l av x w (push p av x v) (G .quiet) (R .listed) (searches-available h bin) (O .size ∙ P .size) M;
                     idle = G .idle;
                     here = inr (record {
                       was = from;
@@ -503,8 +538,8 @@ module _ (p : Params) (B : Bounds p) (st ms : List ℕ) (h bin : ℕ) (lo : 1 �
           l : ℕ
           l = available abandoned bin
 
-          N : Numbered l 8 bin
-          N = available-numbered 8 bin (omega arith) low
+          R : Tried l
+          R = third-tried
 
           x : ℕ
           x = blockAt p (getD (w .first) l 0)
@@ -518,14 +553,14 @@ module _ (p : Params) (B : Bounds p) (st ms : List ℕ) (h bin : ℕ) (lo : 1 �
           P : LinksOnly w u
           P = pop-links p l w (links-refl w)
 
-          F : Files p ms h bin (λ es w. Searched p B st ms h bin lo hi low w₀ w) (λ es a w. Searched p B st ms h bin lo hi low w₀ w) es (getD (w .first) l 0) v
+          F : Files p ms h bin (λ es w. Good w) (λ es a w. Good w) es (getD (w .first) l 0) v
           F = S .over es w (G .good) some
 
           U : Unmoved w₀ w x
-          U = still es w G l (N .low) (N .bin) (searches-abandoned h bin) far-av some
+          U = still es w G l R some
 
           from : OnList w₀ l x
-          from = was es w G l (N .low) (N .bin) (searches-abandoned h bin) far-av some
+          from = was es w G l R some
 
           mine : getD (v .tls) x 0 ≡ h
-          mine = set-at (u .tls) x h (omega (arith, sized-same (P .lengths) (G .good .held .sized) .tls, head es w G l (N .low) (N .bin) (searches-abandoned h bin) far-av some .on .low))
+          mine = set-at (u .tls) x h (omega (arith, sized-same (P .lengths) (G .good .held .sized) .tls, head es w G l R some .on .low))
