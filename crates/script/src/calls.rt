@@ -2,6 +2,7 @@
 use crate::leaves;
 use crate::loads;
 use crate::numbers;
+use crate::records;
 use crate::reply;
 use crate::reply::Reply;
 use model::Address;
@@ -11,7 +12,6 @@ use model::MarkAnswer;
 use model::Offer;
 use model::PagesAnswer;
 use model::Params;
-use native_ms::block_list;
 use native_ms::free_list_allocator;
 use native_ms::global;
 
@@ -70,12 +70,10 @@ fn pages(p: Params, w: &[usize], set: usize) -> Reply {
     if 30 <= set {
         return Reply::Bad;
     }
-    let from = 49 * set;
-    let to = from + 49;
-    if w.len() < to {
+    if w.len() < 49 * set + 49 {
         return Reply::Bad;
     }
-    match block_list::pages_of_firsts(p, w, &w[from..to]) {
+    match records::pages(p, w, set) {
         PagesAnswer::Refused(r) => Reply::Refused(r),
         PagesAnswer::Pages(n) => Reply::One(n),
     }

@@ -11,9 +11,11 @@ pub(crate) struct Cursor {
     pub end: usize,
 }
 
+// The next byte; no more; or no more because a read failed.
 pub(crate) enum Step {
     Byte(u8, Cursor),
     End,
+    Failed,
 }
 
 // A line of `len` bytes, and where the next begins. The last has nothing behind it.
@@ -25,7 +27,14 @@ pub(crate) struct Line {
 
 fn refill(input: &mut [u8; INPUT_BYTES]) -> Step {
     let got = libc::read(libc::STDIN_FILENO, input);
-    if got <= 0 {
+    if got < 0 {
+        io::write_all(
+            libc::STDERR_FILENO,
+            b"script: standard input can't be read\n",
+        );
+        return Step::Failed;
+    }
+    if got == 0 {
         return Step::End;
     }
     let n = io::count(got, input);
@@ -57,8 +66,8 @@ fn keep(line: &mut [u8; LINE_BYTES], n: usize, b: u8) -> usize {
     n
 }
 
-// The bytes up to a newline or the end of the input. Nothing says that the input ends: the turns are counted down from a
-// number that no run uses up.
+// The bytes up to a newline or the end of the input; none of a line that a failed read cuts off. Nothing says that the input
+// ends: the turns are counted down from a number that no run uses up.
 pub(crate) fn read(
     input: &mut [u8; INPUT_BYTES],
     line: &mut [u8; LINE_BYTES],
@@ -73,6 +82,13 @@ pub(crate) fn read(
             Step::End => {
                 return Line {
                     len: n,
+                    next: c,
+                    last: true,
+                };
+            }
+            Step::Failed => {
+                return Line {
+                    len: 0,
                     next: c,
                     last: true,
                 };

@@ -8,6 +8,7 @@ mod lines;
 mod loads;
 mod numbers;
 mod out;
+mod records;
 mod reply;
 mod setup;
 
@@ -273,6 +274,14 @@ fn hear(
     }
 }
 
+// Not after a bad line, nor where the output can't be written.
+fn goes_on(t: Told) -> bool {
+    if t.written == out::LOST {
+        return false;
+    }
+    t.on
+}
+
 fn after(h: Heard, l: Line) -> Run {
     let told = h.told;
     let space = h.space;
@@ -286,7 +295,7 @@ fn after(h: Heard, l: Line) -> Run {
         };
     }
     Run {
-        on: told.on,
+        on: goes_on(told),
         written: told.written,
         next: next,
         space: space,
@@ -327,7 +336,7 @@ fn drive(
     let mut turns = usize::MAX;
     while 0 < turns {
         if !r.on {
-            out::flush(o, r.written);
+            out::finish(o, r.written);
             return;
         }
         r = turn(r, input, line, o, w, st, marks, heap);

@@ -2,10 +2,24 @@
 
 pub(crate) const OUT: usize = 65536;
 
-// Writes the buffer's first n bytes.
-pub(crate) fn flush(out: &[u8], n: usize) {
+// The count after a write that failed: more than the buffer has.
+pub(crate) const LOST: usize = OUT + 1;
+
+// Writes the buffer's first n bytes, and answers whether it could.
+fn flush(out: &[u8], n: usize) -> bool {
     if n <= out.len() {
-        io::write_all(libc::STDOUT_FILENO, &out[..n]);
+        return io::write_all(libc::STDOUT_FILENO, &out[..n]);
+    }
+    false
+}
+
+// Writes what is left at the end of a run, and says so if something is lost.
+pub(crate) fn finish(out: &[u8], n: usize) {
+    if !flush(out, n) {
+        io::write_all(
+            libc::STDERR_FILENO,
+            b"script: standard output can't be written\n",
+        );
     }
 }
 
@@ -14,9 +28,11 @@ pub(crate) fn put(out: &mut [u8; OUT], n: usize, b: u8) -> usize {
         out[n] = b;
         return n + 1;
     }
-    flush(out, OUT);
-    out[0] = b;
-    1
+    if flush(out, n) {
+        out[0] = b;
+        return 1;
+    }
+    LOST
 }
 
 pub(crate) fn text(out: &mut [u8; OUT], n: usize, s: &[u8]) -> usize {

@@ -15,8 +15,8 @@ no-space-requires c κs = search needs
 loop-holds : tie.Need-loop-holds Inv-loop μ-loop
 loop-holds c = search needs
 
-flush-requires : tie.Need-flush-requires Inv-loop μ-loop
-flush-requires c κs = search needs
+finish-requires : tie.Need-finish-requires Inv-loop μ-loop
+finish-requires c κs = search needs
 
 returns : tie.Need-returns Inv-loop μ-loop
 returns c = search needs
@@ -44,7 +44,7 @@ drive-spec =
     μ-loop
     no-space-requires
     loop-holds
-    flush-requires
+    finish-requires
     returns
     turn-requires
     sub-turns
