@@ -5,7 +5,7 @@ use mathlib.Core.List.{List, [], _∷_, map}
 use Prim.Native.Nat.{ℕ}
 use Rattle.model.specs.declared.Params.{Params}
 use Rattle.model.specs.Params.{Lent}
-use Rattle.model.specs.Calls.{Reply, answered, Result, setUp, pages}
+use Rattle.model.specs.Calls.{answered, Result, setUp, pages}
 use Rattle.model.specs.Promise.{Promised, SetUpPromised}
 use Rattle.model.specs.Runs.{Turn, State, foundBy, stepOf, resultOf, bookOf, turned, emptyBook, begun, HoldersWrite, Seen, seen, CallKeeps}
 
@@ -52,7 +52,8 @@ portTrace p s (m ∷ ms) = seen (m .gave) (stepOf p s (m .turn) .events) ∷ por
 unfoldable pub PortKeeps : Params → State → List Made → Type 0
 PortKeeps p s [] = Unit {0}
 PortKeeps p s (m ∷ ms) =
-    (CallKeeps p (m .turn .call) (stepOf p s (m .turn) .events) (m .gave) (foundBy p (s .lent) (m .turn) .heap) (s .book) (bookOf p s (m .turn))
+    (CallKeeps p (m .turn .call) (stepOf p s (m .turn) .events) (m .gave) (foundBy p (s .lent) (m .turn) .heap) (s .book)
+    (bookOf p s (m .turn))
     × PortKeeps p (portTurned p s m) ms)
 
 -- ---- demand 3 of the port
@@ -73,7 +74,8 @@ pub record PortAlike (p : Params) (a b : PortRun p) : Type 0 where
   pub setUps : seen (a .first) [] ≡ seen (b .first) []
   pub calls : portTrace p (portBegun a) (a .made) ≡ portTrace p (portBegun b) (b .made)
   pub pagesAtSetUp : (firsts : List ℕ) → pages p (a .first .lent .words) firsts ≡ pages p (b .first .lent .words) firsts
-  pub pagesAfter : (firsts : List ℕ) → map (λ m. pages p (m .gave .lent .words) firsts) (a .made) ≡ map (λ m. pages p (m .gave .lent .words) firsts) (b .made)
+  pub pagesAfter : (firsts : List ℕ)
+      → map (λ m. pages p (m .gave .lent .words) firsts) (a .made) ≡ map (λ m. pages p (m .gave .lent .words) firsts) (b .made)
 
 -- The premises are those of `Demand3`. No property of the port but its promises is used
 unfoldable pub Demand3OfThePort : Type 0

@@ -253,7 +253,8 @@ pub record Alike (p : Params) (l l′ : Lent) (us us′ : List Turn) : Type 0 wh
   pub calls : trace p (begun p l) us ≡ trace p (begun p l′) us′
   -- 01: "Pages used [..] asked at one point of both runs on the same records, it answers alike."
   pub pagesAtSetUp : (firsts : List ℕ) → pages p (setUp p l .lent .words) firsts ≡ pages p (setUp p l′ .lent .words) firsts
-  pub pagesAfter : (firsts : List ℕ) → map (λ s. pages p (s .words) firsts) (trace p (begun p l) us) ≡ map (λ s. pages p (s .words) firsts) (trace p (begun p l′) us′)
+  pub pagesAfter : (firsts : List ℕ)
+      → map (λ s. pages p (s .words) firsts) (trace p (begun p l) us) ≡ map (λ s. pages p (s .words) firsts) (trace p (begun p l′) us′)
 
 -- "What a holder writes shows in no answer and reaches no other holder. For every list of bind, destroy, alloc, prepare, mark,
 -- release and shared release calls, refused ones included, after a set-up that isn't refused: whatever bytes the heap starts with

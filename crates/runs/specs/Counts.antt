@@ -1,10 +1,9 @@
 -- The counts that a call answers are those of its events, on any tables and heap. Assumes nothing.
-use mathlib.Core.Path.{_≡_, refl, sym, ap, _∙_}
-use mathlib.Core.Bool.{Bool, true, false, not, _&&_, _||_}
+use mathlib.Core.Path.{_≡_, refl, sym, ap}
+use mathlib.Core.Bool.{not, _&&_, _||_}
 use mathlib.Core.List.{List, [], _∷_, _++_}
 use Prim.Native.Nat.{ℕ, suc}
 use lib.Dec.{eqb}
-use lib.ListN.{length}
 use borrow.Author.Tests.{eq-eqb}
 use Rattle.model.specs.declared.Params.{Params}
 use Rattle.model.specs.declared.Offer.{Offer}
@@ -14,9 +13,9 @@ use Rattle.model.specs.Base.{filter}
 use Rattle.model.specs.Tables.{Tables}
 use Rattle.model.specs.Events.{Event, initialised, swept, released, taken, eventsHeap, isSweep, sweeps}
 use Rattle.model.specs.FreeListAllocator.{Search}
-use Rattle.model.specs.Global.{isHolder, isBound, hasReleased, Freed}
+use Rattle.model.specs.Global.{isHolder, isBound, hasReleased}
 use Rattle.model.specs.Sound.{linkOk, sound}
-use Rattle.model.specs.Calls.{refused, refusalNumber, Call, bind, destroy, alloc, prepare, mark, release, sharedRelease, End, says, takes, Plan, refuses, goodRequest, tooBig, goodOffer, takePlan, planAlloc, mayRelease, releasePlan, planSound, plan, Step, takeCell, finish, step}
+use Rattle.model.specs.Calls.{refused, Call, bind, destroy, alloc, prepare, mark, release, sharedRelease, End, Plan, refuses, goodRequest, tooBig, goodOffer, takePlan, planAlloc, mayRelease, releasePlan, planSound, plan, Step, takeCell, finish, step}
 use Rattle.model.specs.Runs.{Counted}
 use Rattle.laws.specs.Base.{if-cases, not-both}
 use Rattle.runs.specs.Plans.{refusal-some}

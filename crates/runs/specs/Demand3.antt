@@ -16,7 +16,7 @@ use Rattle.model.specs.Tables.{blocksIn, Tables, view, flat}
 use Rattle.model.specs.Events.{sweeps, releases}
 use Rattle.model.specs.Global.{freshWords, freshTables}
 use Rattle.model.specs.Calls.{Call, Step, step, Result, lentOf, resultFrom, setUp, pages}
-use Rattle.model.specs.Runs.{Cell, Book, bookAfter, Write, written, Turn, State, foundBy, stepOf, resultOf, bookOf, turned, emptyBook, begun, covers, Holds, HoldersWrite, Seen, seen, trace, CallKeeps, TurnKeeps, RunKeeps, Demand3}
+use Rattle.model.specs.Runs.{Cell, Book, bookAfter, Write, written, Turn, State, foundBy, stepOf, resultOf, bookOf, turned, emptyBook, begun, covers, Holds, HoldersWrite, Seen, seen, trace, TurnKeeps, RunKeeps, Demand3}
 use Rattle.laws.specs.Params.{Bounds}
 use Rattle.laws.specs.Tables.{part-zeros, Sized, sized-view}
 use Rattle.laws.specs.Memory as Mem

@@ -4,11 +4,9 @@ use mathlib.Core.Path.{_≡_, refl, sym, ap, _∙_, subst}
 use mathlib.Core.List.{List, [], _∷_, map}
 use Prim.Native.Nat.{ℕ}
 use Rattle.model.specs.declared.Params.{Params}
-use Rattle.model.specs.Params.{Lent}
 use Rattle.model.specs.Calls.{Reply, answered, Result, setUp, pages}
-use Rattle.model.specs.Promise.{Promised, SetUpPromised}
-use Rattle.model.specs.Runs.{Turn, State, foundBy, stepOf, resultOf, bookOf, turned, emptyBook, begun, HoldersWrite, Seen, seen, trace, RunKeeps, Alike, Demand3}
-use Rattle.model.specs.Port.{Made, Chain, PortRun, turnsOf, portBegun, portTurned, portTrace, PortKeeps, ran, IsRun, PortAlike, Demand3OfThePort}
+use Rattle.model.specs.Runs.{Turn, State, stepOf, resultOf, turned, emptyBook, begun, Seen, seen, trace, RunKeeps, Demand3}
+use Rattle.model.specs.Port.{Made, Chain, PortRun, turnsOf, portBegun, portTurned, portTrace, PortKeeps, ran, IsRun, Demand3OfThePort}
 use Rattle.runs.specs.Demand3.{demand3}
 
 module _ (p : Params) where
