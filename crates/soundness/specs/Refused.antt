@@ -2,37 +2,36 @@
 -- Assumes nothing.
 use mathlib.Core.Path.{_≡_, refl, sym, ap, _∙_, subst}
 use mathlib.Core.Logic.{_≢_, _⊎_, inl, inr, ⊎-elim}
-use mathlib.Core.Bool.{Bool, true, false, not, _&&_, _||_}
+use mathlib.Core.Bool.{true, false, not, _&&_, _||_}
 use mathlib.Core.List.{List, [], _∷_, _++_, headD}
 use Prim.Native.Nat.{ℕ, _-_, _/_, _<_, _≤_}
 use native.Mathlib.Omega.{arith}
 use lib.Dec.{eqb, ltb}
-use lib.ListN.{getD, set, length}
+use lib.ListN.{getD, length}
 use borrow.Author.Tests.{eqb-true, ltb-true, eq-eqb, ne-eqb, not-false}
 use Rattle.model.specs.declared.Params.{Params}
 use Rattle.model.specs.declared.Offer.{Offer}
 use Rattle.model.specs.declared.Offer.the-variants.{Nothing, Fresh}
 use Rattle.model.specs.declared.Refusal.{Refusal}
-use Rattle.model.specs.declared.Refusal.the-variants.{BadSetup, BadTables, WrongPhase, BadHolder, BadRequest, TooBig, BadOffer, BadLink, Exhausted, BadObject}
-use Rattle.model.specs.Base.{if_then_else_}
+use Rattle.model.specs.declared.Refusal.the-variants.{BadTables, WrongPhase, BadHolder, BadRequest, TooBig, BadOffer, BadObject}
 use Rattle.model.specs.Params.{goodParams, Lent, fits, wordCount, heapBytes, start, blockAt, localSets, available}
-use Rattle.model.specs.Memory.{load, marked}
-use Rattle.model.specs.Tables.{Words, Tables, tablesOf, withWords, view, flat, setFree, setSize, setTls}
+use Rattle.model.specs.Memory.{load}
+use Rattle.model.specs.Tables.{Words, Tables, tablesOf, view, flat, setFree, setSize, setTls}
 use Rattle.model.specs.SizeClasses.{binOf, raised, cellBytes}
 use Rattle.model.specs.BlockList.{blocksOn, push}
-use Rattle.model.specs.Block.{cellCount, initChain, initBlock, linkAll}
+use Rattle.model.specs.Block.{initChain, initBlock, linkAll}
 use Rattle.model.specs.Events.{Event, initialised, eventHeap, eventsHeap}
 use Rattle.model.specs.FreeListAllocator.{Found, Search, inFound, acquireFresh, findBlock}
 use Rattle.model.specs.Global.{isHolder, isBound, hasReleased}
-use Rattle.model.specs.Sound.{stateOf, linkOk, sound}
-use Rattle.model.specs.Calls.{refusalNumber, refused, Call, bind, destroy, alloc, prepare, mark, release, sharedRelease, End, says, takes, Plan, refuses, changes, goodRequest, tooBig, goodOffer, goodObject, takePlan, planAlloc, mayRelease, releasePlan, planSound, plan, Step, takeCell, finish, step, Result, tablesIn, lentOf, resultFrom, badSetup, call, setUp}
+use Rattle.model.specs.Sound.{linkOk, sound}
+use Rattle.model.specs.Calls.{refusalNumber, Call, bind, destroy, alloc, prepare, mark, release, sharedRelease, Plan, refuses, changes, goodRequest, tooBig, goodOffer, goodObject, takePlan, planAlloc, mayRelease, releasePlan, planSound, plan, Step, takeCell, finish, step, Result, tablesIn, lentOf, resultFrom, badSetup, call, setUp}
 use Rattle.model.specs.Refusals.{Passed, Unmoved, TakenOver, SearchKeeps, KeptExhausted, KeptBadLink, OfAlloc, Refused, RefusalKeeps, SetUpKeeps}
 use Rattle.laws.specs.Below.{and-five}
 use Rattle.laws.specs.Base.{if-cases, and-left, not-both}
 use Rattle.laws.specs.Good.{good}
 use Rattle.laws.specs.Params.{Bounds, good-bounds, some-start, blockAt-start}
 use Rattle.laws.specs.Stores.{set-at}
-use Rattle.laws.specs.Tables.{Sized, sized-same, sized-view, flat-view, view-flat, kept-lengths}
+use Rattle.laws.specs.Tables.{Sized, sized-same, sized-view, flat-view, view-flat}
 use Rattle.laws.specs.Classes.{chosen, fits-raised, cell-in-block, cellBytes-least}
 use Rattle.laws.specs.Cells.{chain-in}
 use Rattle.laws.specs.Frame.{links-refl, push-links}
@@ -41,8 +40,7 @@ use Rattle.soundness.specs.SoundLists.{sound-good}
 use Rattle.soundness.specs.Owners.{Framed, framed-refl}
 use Rattle.soundness.specs.Held.{Held}
 use Rattle.soundness.specs.Flags.{bound-at}
-use Rattle.soundness.specs.Alloc.{Searched}
-use Rattle.soundness.specs.Searches.{chain-above, some-head, chain-link, events-behind, Quiet, quiet-start, Going, Stood, Stopped, search-steps}
+use Rattle.soundness.specs.Searches.{chain-above, some-head, chain-link, events-behind, Quiet, quiet-start, Going, Stopped, search-steps}
 
 -- ---- what was lent, with what the search left in it
 

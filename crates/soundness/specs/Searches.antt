@@ -1,7 +1,7 @@
 -- What the search of an alloc moves, block by block, while it finds nothing: a block stays, or had no cell to give and is on the
 -- holder's consumed list. It sweeps no cell free, so the heap stays; the first sweep that frees one ends the search, and the link
 -- of the cell found there is good. Rides on what Alloc.antt shows of each step. Assumes nothing.
-use mathlib.Core.Path.{_≡_, refl, sym, ap, _∙_, subst}
+use mathlib.Core.Path.{_≡_, refl, sym, ap, _∙_}
 use mathlib.Core.Logic.{_≢_, _⊎_, inl, inr, ⊎-elim}
 use mathlib.Core.Bool.{Bool, true, false, _||_}
 use mathlib.Core.List.{List, [], _∷_, _++_, headD}
@@ -12,16 +12,16 @@ use lib.Dec.{eqb}
 use lib.ListN.{getD, length}
 use borrow.Author.Tests.{eq-eqb}
 use Rattle.model.specs.declared.Params.{Params}
-use Rattle.model.specs.Base.{if_then_else_, In}
+use Rattle.model.specs.Base.{In}
 use Rattle.model.specs.Memory.{load, marked}
 use Rattle.model.specs.Params.{start, blockAt, heapBytes, listOf, listWord, localSets, abandoned, available, unswept, consumed}
 use Rattle.model.specs.Tables.{Words, tablesOf, setFirst, setLast, setNext, setPrev, setFree, setList, setTls}
-use Rattle.model.specs.BlockList.{push, pop, popHead, Popped, popped}
+use Rattle.model.specs.BlockList.{push, pop, popHead, Popped}
 use Rattle.model.specs.Block.{isCell, cellCount, cellsDown, linkAll, keeps, sweepChain, sweptWords}
 use Rattle.model.specs.Events.{Event, eventHeap, eventsHeap}
 use Rattle.model.specs.FreeListAllocator.{sweepOf}
 use Rattle.model.specs.Sound.{linkOk}
-use Rattle.model.specs.Refusals.{OnList, searches, HadNone, Unmoved, MovedFull, TakenOver, Passed}
+use Rattle.model.specs.Refusals.{OnList, searches, HadNone, Unmoved, TakenOver, Passed}
 use Rattle.laws.specs.Base.{if-cases, not-both, or-left, or-right}
 use Rattle.laws.specs.Params.{Bounds, blockAt-start, word-same}
 use Rattle.laws.specs.Stores.{set-at, set-off}
@@ -30,9 +30,9 @@ use Rattle.laws.specs.Cells.{Whole, whole-isCell, whole-nonzero, in-chain, desc
 use Rattle.laws.specs.Walks.{Numbered, available-numbered, unswept-numbered, Files, Steps}
 use Rattle.laws.specs.Tables.{Sized, lengths, sized-same, lengths-setFree, lengths-setTls}
 use Rattle.laws.specs.Frame.{LinksOnly, links-refl, push-links, pop-links, push-list, push-first, FirstsBut, pop-firsts}
-use Rattle.soundness.specs.Lists.{Lists, On, Same, put, Links, linksOf, on-list, lists-same, first-none, first-some}
+use Rattle.soundness.specs.Lists.{Lists, On, Same, put, Links, on-list, lists-same, first-none, first-some}
 use Rattle.soundness.specs.Moves.{push-stays, pop-words, pop-stays, pop-lists}
-use Rattle.soundness.specs.Held.{Held, SameWords}
+use Rattle.soundness.specs.Held.{Held}
 use Rattle.soundness.specs.SoundLists.{Fit}
 use Rattle.soundness.specs.Alloc.{Tweaked, tweak-free, tweak-tls, my-available, my-unswept, my-consumed, Searched, steps}
 
