@@ -92,6 +92,13 @@ listOf set bin = 49 * set + bin
 unfoldable pub listWord : ℕ → ℕ
 listWord l = 1 + l
 
+abbrev pub holders : ℕ
+holders = 8
+
+-- those that release: the holders, and the shared part at 0
+abbrev pub parts : ℕ
+parts = 9
+
 -- "Holder h (1 to 8) has sets 3(h−1) available, then unswept, then consumed. Abandoned has sets 24 to 26 and
 -- abandoned-in-gc 27 to 29, same order." Each owner by its first set
 unfoldable pub localSets : ℕ → ℕ

@@ -36,7 +36,7 @@ pub const ABANDONED: usize = 24;
 
 pub const IN_GC: usize = 27;
 
-// Holders are counted from 1. The parts that release are these and the shared one.
+// Holders are counted from 1. Those that release, the parts, are the holders and the shared part at 0.
 pub const HOLDERS: usize = 8;
 
 pub const PARTS: usize = 9;

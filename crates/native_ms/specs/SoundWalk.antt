@@ -7,7 +7,7 @@ use lib.Dec.{eqb, leb}
 use lib.ListN.{getD}
 use Rattle.model.specs.declared.Params.{Params}
 use Rattle.model.specs.Base.{if_then_else_, allBelow, sumBelow, flag}
-use Rattle.model.specs.Params.{blockAt, isStart, listWord, localSets, lists}
+use Rattle.model.specs.Params.{blockAt, isStart, listWord, localSets, lists, holders, parts}
 use Rattle.model.specs.Tables.{Words}
 use Rattle.model.specs.Global.{isBound, hasReleased}
 use Rattle.model.specs.Sound.{blockClear, sizeOk, linkOk, tlsOk, ownerEmpty, inGcEmpty, phaseKnown, releasedSome}
@@ -85,5 +85,5 @@ partFits w part =
 
 unfoldable pub soundWalk : Params → Words → List ℕ → Bool
 soundWalk p w s =
-    phaseKnown w && allBelow 9 (partFits w) && releasedSome w && allBelow 8 (holderFits w) && inGcEmpty w
+    phaseKnown w && allBelow parts (partFits w) && releasedSome w && allBelow holders (holderFits w) && inGcEmpty w
     && allBelow (p .blocks) (blockFits p w s) && listsFull p w s

@@ -1,4 +1,6 @@
-// Whether tables are sound, of lent slices whose lengths are known.
+// Whether tables are sound. Each block is tested by itself (`blocks`), and each list is walked once (`lists`); `parts` is about
+// the phase, the holders and the released marks. The lengths were tested before, so that a word of a block or a list is read
+// with no test of its index (`known`).
 mod blocks;
 mod known;
 mod lists;
@@ -13,38 +15,39 @@ ghost use Rattle.model.specs.Tables.{view, tablesOf};
 ghost use Rattle.model.specs.Sound.{sound};
 ghost use Rattle.native_ms.specs.SoundLent.{Lengths};
 
-// What a walk of lists or blocks gives: that one is not sound, or a count of blocks, those that no list may meet or met.
+// What a walk gives: that something is not sound, or a number of blocks. Of lists, those that none of them meets; of blocks,
+// those that none may meet.
 pub(crate) enum Walked {
     Bad,
     Left(usize),
 }
 
-pub(crate) fn sound(p: Params, w: &[usize], st: &[u8]) -> bool
-    requires { ⌜ Lengths p (now w) (now st) ⌝ }
-    ensures { λ r. ⌜ ((m : List ℕ) → r ≡ sound p (tablesOf (view (now (w .entry))) (now (st .entry)) m)) ⌝ }
+pub(crate) fn sound(p: Params, words: &[usize], states: &[u8]) -> bool
+    requires { ⌜ Lengths p (now words) (now states) ⌝ }
+    ensures { λ r. ⌜ ((m : List ℕ) → r ≡ sound p (tablesOf (view (now (words .entry))) (now (states .entry)) m)) ⌝ }
 {
-    if !parts::phase_known(w) {
+    if !parts::phase_known(words) {
         return false;
     }
-    if !parts::parts_fit(w) {
+    if !parts::parts_fit(words) {
         return false;
     }
-    if !parts::released_some(w) {
+    if !parts::released_some(words) {
         return false;
     }
-    let firsts = known::firsts(w);
-    if !parts::holders_fit(w, &firsts) {
+    let firsts = known::firsts(words);
+    if !parts::holders_fit(words, &firsts) {
         return false;
     }
-    if !parts::in_gc_empty(w, &firsts) {
+    if !parts::in_gc_empty(words, &firsts) {
         return false;
     }
     let classes = CLASS_WORDS;
-    let Walked::Left(unused) = blocks::unused(p, w, st, &classes) else {
+    let Walked::Left(unused) = blocks::unused(p, words, states, &classes) else {
         return false;
     };
     let log = lists::log_of(p);
-    let Walked::Left(left) = lists::passes(p, log, w, st, &firsts) else {
+    let Walked::Left(left) = lists::passes(p, log, words, states, &firsts) else {
         return false;
     };
     left == unused

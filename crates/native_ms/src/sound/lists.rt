@@ -63,38 +63,38 @@ fn block_from(p: Params, log: usize, a: Address) -> Block
 // The block b, which starts at a, stands on the list behind the block at `before`.
 fn stands_on(
     p: Params,
-    w: &[usize],
-    st: &[u8],
+    words: &[usize],
+    states: &[u8],
     list: usize,
     before: Address,
     a: Address,
     b: Block,
 ) -> bool
-    requires { ⌜ (Lengths p (now w) (now st)) × (list < lists) × (b .0 < p .blocks) × (isStart p (a .0) ≡ true) × (b .0 ≡ blockAt p (a .0)) ⌝ }
-    ensures { λ r. ⌜ r ≡ standsOn p (view (now (w .entry))) (now (st .entry)) list (before .0) (a .0) ⌝ }
+    requires { ⌜ (Lengths p (now words) (now states)) × (list < lists) × (b .0 < p .blocks) × (isStart p (a .0) ≡ true) × (b .0 ≡ blockAt p (a .0)) ⌝ }
+    ensures { λ r. ⌜ r ≡ standsOn p (view (now (words .entry))) (now (states .entry)) list (before .0) (a .0) ⌝ }
 {
     let blocks = p.blocks;
-    let state = known::state(st, b);
+    let state = known::state(states, b);
     if state == block::UNALLOCATED {
         return false;
     }
-    let word = known::list(w, blocks, b);
+    let word = known::list(words, blocks, b);
     if word != 1 + list {
         return false;
     }
-    let prev = known::prev(w, blocks, b);
+    let prev = known::prev(words, blocks, b);
     prev.0 == before.0
 }
 
 // Walks a list, of at most `most` blocks: how many of these it does not meet.
-fn pass(p: Params, log: usize, w: &[usize], st: &[u8], list: usize, most: usize) -> Walked
-    requires { ⌜ (Ready p log (now w) (now st)) × (list < lists) ⌝ }
-    ensures { λ r. ⌜ r ≡ passFrom most p (view (now (w .entry))) (now (st .entry)) list 0 (getD (view (now (w .entry)) .first) list 0) ⌝ }
+fn pass(p: Params, log: usize, words: &[usize], states: &[u8], list: usize, most: usize) -> Walked
+    requires { ⌜ (Ready p log (now words) (now states)) × (list < lists) ⌝ }
+    ensures { λ r. ⌜ r ≡ passFrom most p (view (now (words .entry))) (now (states .entry)) list 0 (getD (view (now (words .entry)) .first) list 0) ⌝ }
 {
     let blocks = p.blocks;
     let mut left = most;
     let mut before = Address(0);
-    let mut a = known::first(w, list);
+    let mut a = known::first(words, list);
     while a.0 != 0 {
         if left == 0 {
             return Walked::Bad;
@@ -103,14 +103,14 @@ fn pass(p: Params, log: usize, w: &[usize], st: &[u8], list: usize, most: usize)
         if blocks <= b.0 {
             return Walked::Bad;
         }
-        if !stands_on(p, w, st, list, before, a, b) {
+        if !stands_on(p, words, states, list, before, a, b) {
             return Walked::Bad;
         }
         before = a;
-        a = known::next(w, blocks, b);
+        a = known::next(words, blocks, b);
         left = left - 1;
     }
-    let last = known::last(w, list);
+    let last = known::last(words, list);
     if last.0 != before.0 {
         return Walked::Bad;
     }
@@ -118,18 +118,25 @@ fn pass(p: Params, log: usize, w: &[usize], st: &[u8], list: usize, most: usize)
 }
 
 // Walks the lists of a set, from its first one on: those that have a first or a last.
-fn pass_set(p: Params, log: usize, w: &[usize], st: &[u8], from: usize, most: usize) -> Walked
-    requires { ⌜ (Ready p log (now w) (now st)) × (from + bins ≤ lists) ⌝ }
-    ensures { λ r. ⌜ onLeft r (passes from p (view (now (w .entry))) (now (st .entry))) ≡ passes (from + bins) p (view (now (w .entry))) (now (st .entry)) most ⌝ }
+fn pass_set(
+    p: Params,
+    log: usize,
+    words: &[usize],
+    states: &[u8],
+    from: usize,
+    most: usize,
+) -> Walked
+    requires { ⌜ (Ready p log (now words) (now states)) × (from + bins ≤ lists) ⌝ }
+    ensures { λ r. ⌜ onLeft r (passes from p (view (now (words .entry))) (now (states .entry))) ≡ passes (from + bins) p (view (now (words .entry))) (now (states .entry)) most ⌝ }
 {
     let mut list = from + BINS;
     let mut left = most;
     while from < list {
         list = list - 1;
-        let first = known::first(w, list);
-        let last = known::last(w, list);
+        let first = known::first(words, list);
+        let last = known::last(words, list);
         if first.0 | last.0 != 0 {
-            let Walked::Left(rest) = pass(p, log, w, st, list, left) else {
+            let Walked::Left(rest) = pass(p, log, words, states, list, left) else {
                 return Walked::Bad;
             };
             left = rest;
@@ -142,12 +149,12 @@ fn pass_set(p: Params, log: usize, w: &[usize], st: &[u8], from: usize, most: us
 pub(crate) fn passes(
     p: Params,
     log: usize,
-    w: &[usize],
-    st: &[u8],
+    words: &[usize],
+    states: &[u8],
     firsts: &[usize; SETS],
 ) -> Walked
-    requires { ⌜ (Ready p log (now w) (now st)) × (Firsts (now w) (now firsts)) ⌝ }
-    ensures { λ r. ⌜ r ≡ passes lists p (view (now (w .entry))) (now (st .entry)) (p .blocks) ⌝ }
+    requires { ⌜ (Ready p log (now words) (now states)) × (Firsts (now words) (now firsts)) ⌝ }
+    ensures { λ r. ⌜ r ≡ passes lists p (view (now (words .entry))) (now (states .entry)) (p .blocks) ⌝ }
 {
     let mut set = SETS;
     let mut left = p.blocks;
@@ -155,9 +162,9 @@ pub(crate) fn passes(
         set = set - 1;
         let from = BINS * set;
         let first = firsts[set];
-        let last = known::union_of(w, LISTS + from, BINS);
+        let last = known::union_of(words, LISTS + from, BINS);
         if first | last != 0 {
-            let Walked::Left(rest) = pass_set(p, log, w, st, from, left) else {
+            let Walked::Left(rest) = pass_set(p, log, words, states, from, left) else {
                 return Walked::Bad;
             };
             left = rest;

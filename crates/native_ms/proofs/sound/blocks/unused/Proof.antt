@@ -15,14 +15,14 @@ use borrow.Author.Needs.{needs}
 use native.Mathlib.Omega.{arith}
 
 abbrev Inv-loop : tie.InvT-loop
-Inv-loop p w st classes unused₀ left₀ unused left = (unused + left ≤ left₀) × (unused + sumBelow left (freeAt st) ≡ sumBelow left₀ (freeAt st)) × (allBelow left (blockFits p (view w) st) ≡ allBelow left₀ (blockFits p (view w) st))
+Inv-loop p words states classes unused₀ left₀ unused left = (unused + left ≤ left₀) × (unused + sumBelow left (freeAt states) ≡ sumBelow left₀ (freeAt states)) × (allBelow left (blockFits p (view words) states) ≡ allBelow left₀ (blockFits p (view words) states))
 
 abbrev μ-loop : tie.MeasureT-loop
-μ-loop p w st classes unused₀ left₀ unused left = left
+μ-loop p words states classes unused₀ left₀ unused left = left
 
---@ loop-holds c = (omega arith, unused-none (@args .st .now) _, refl)
+--@ loop-holds c = (omega arith, unused-none (@args .states .now) _, refl)
 loop-holds : tie.Need-loop-holds Inv-loop μ-loop
-loop-holds c = (omega arith, unused-none (c .before .before .args .st .now) _, refl)
+loop-holds c = (omega arith, unused-none (c .before .before .args .states .now) _, refl)
 
 sub-left : tie.Need-sub-left Inv-loop μ-loop
 sub-left c = search needs
@@ -47,21 +47,21 @@ add-unused c = record { fits = omega (arith, c .before .before .before .before .
 loop-less : tie.Need-loop-less Inv-loop μ-loop
 loop-less c = falls-down _ (c .before .before .before .before .loop-test .taken)
 
---@ loop-again c = (omega (arith, @loop .inv .0, @loop-test .taken), unused-one (@args .st .now) _ _ (@loop-test .taken) (@loop .inv .1) (@state .ensures) (@if2 .taken), all-step _ _ (@loop-test .taken) (sym (@block-fits .ensures) ∙ not-false _ (@if1 .left)) ∙ @loop .inv .2)
+--@ loop-again c = (omega (arith, @loop .inv .0, @loop-test .taken), unused-one (@args .states .now) _ _ (@loop-test .taken) (@loop .inv .1) (@state .ensures) (@if2 .taken), all-step _ _ (@loop-test .taken) (sym (@block-fits .ensures) ∙ not-false _ (@if1 .left)) ∙ @loop .inv .2)
 loop-again : tie.Need-loop-again Inv-loop μ-loop
-loop-again c = (omega (arith, c .before .before .before .before .before .loop .inv .0, c .before .before .before .before .loop-test .taken), unused-one (c .before .before .before .before .before .before .before .before .args .st .now) _ _ (c .before .before .before .before .loop-test .taken) (c .before .before .before .before .before .loop .inv .1) (c .before .state .ensures) (c .if2 .taken), all-step _ _ (c .before .before .before .before .loop-test .taken) (sym (c .before .before .before .block-fits .ensures) ∙ not-false _ (c .before .before .if1 .left)) ∙ c .before .before .before .before .before .loop .inv .2)
+loop-again c = (omega (arith, c .before .before .before .before .before .loop .inv .0, c .before .before .before .before .loop-test .taken), unused-one (c .before .before .before .before .before .before .before .before .args .states .now) _ _ (c .before .before .before .before .loop-test .taken) (c .before .before .before .before .before .loop .inv .1) (c .before .state .ensures) (c .if2 .taken), all-step _ _ (c .before .before .before .before .loop-test .taken) (sym (c .before .before .before .block-fits .ensures) ∙ not-false _ (c .before .before .if1 .left)) ∙ c .before .before .before .before .before .loop .inv .2)
 
 --@ loop-less-2 c = falls-down _ (@loop-test .taken)
 loop-less-2 : tie.Need-loop-less-2 Inv-loop μ-loop
 loop-less-2 c = falls-down _ (c .before .before .before .before .loop-test .taken)
 
---@ loop-again-2 c = (omega (arith, @loop .inv .0, @loop-test .taken), unused-more (@args .st .now) _ _ (@loop-test .taken) (@loop .inv .1) (@state .ensures) (@if2 .left), all-step _ _ (@loop-test .taken) (sym (@block-fits .ensures) ∙ not-false _ (@if1 .left)) ∙ @loop .inv .2)
+--@ loop-again-2 c = (omega (arith, @loop .inv .0, @loop-test .taken), unused-more (@args .states .now) _ _ (@loop-test .taken) (@loop .inv .1) (@state .ensures) (@if2 .left), all-step _ _ (@loop-test .taken) (sym (@block-fits .ensures) ∙ not-false _ (@if1 .left)) ∙ @loop .inv .2)
 loop-again-2 : tie.Need-loop-again-2 Inv-loop μ-loop
-loop-again-2 c = (omega (arith, c .before .before .before .before .before .loop .inv .0, c .before .before .before .before .loop-test .taken), unused-more (c .before .before .before .before .before .before .before .before .args .st .now) _ _ (c .before .before .before .before .loop-test .taken) (c .before .before .before .before .before .loop .inv .1) (c .before .state .ensures) (c .if2 .left), all-step _ _ (c .before .before .before .before .loop-test .taken) (sym (c .before .before .before .block-fits .ensures) ∙ not-false _ (c .before .before .if1 .left)) ∙ c .before .before .before .before .before .loop .inv .2)
+loop-again-2 c = (omega (arith, c .before .before .before .before .before .loop .inv .0, c .before .before .before .before .loop-test .taken), unused-more (c .before .before .before .before .before .before .before .before .args .states .now) _ _ (c .before .before .before .before .loop-test .taken) (c .before .before .before .before .before .loop .inv .1) (c .before .state .ensures) (c .if2 .left), all-step _ _ (c .before .before .before .before .loop-test .taken) (sym (c .before .before .before .block-fits .ensures) ∙ not-false _ (c .before .before .if1 .left)) ∙ c .before .before .before .before .before .loop .inv .2)
 
---@ returns-2 c = fit-left _ _ _ (sym (@loop .inv .2) ∙ all-end _ _ (@loop-test .left)) (unused-all (@args .st .now) _ _ _ (@loop-test .left) (@loop .inv .1))
+--@ returns-2 c = fit-left _ _ _ (sym (@loop .inv .2) ∙ all-end _ _ (@loop-test .left)) (unused-all (@args .states .now) _ _ _ (@loop-test .left) (@loop .inv .1))
 returns-2 : tie.Need-returns-2 Inv-loop μ-loop
-returns-2 c = fit-left _ _ _ (sym (c .before .loop .inv .2) ∙ all-end _ _ (c .loop-test .left)) (unused-all (c .before .before .before .before .args .st .now) _ _ _ (c .loop-test .left) (c .before .loop .inv .1))
+returns-2 c = fit-left _ _ _ (sym (c .before .loop .inv .2) ∙ all-end _ _ (c .loop-test .left)) (unused-all (c .before .before .before .before .args .states .now) _ _ _ (c .loop-test .left) (c .before .loop .inv .1))
 
 pub unused-spec : {M : Type 1} → statement M
 unused-spec =

@@ -24,9 +24,9 @@ mul-result-2 c = record { fits = omega (arith, few-tables (c .before .args .tabl
 shared-slice-read-result : tie.Need-shared-slice-read-result
 shared-slice-read-result c = omega (arith, few-tables (c .before .before .args .table) (c .before .before .args .blocks) (c .before .before .pre .2), c .before .before .pre .0, c .before .before .pre .1)
 
---@ returns c = table-word (@args .w .now) (@args .blocks) (@args .table) (@args .b .0) (@pre .0) (@pre .1)
+--@ returns c = table-word (@args .words .now) (@args .blocks) (@args .table) (@args .b .0) (@pre .0) (@pre .1)
 returns : tie.Need-returns
-returns c = table-word (c .before .before .args .w .now) (c .before .before .args .blocks) (c .before .before .args .table) (c .before .before .args .b .0) (c .before .before .pre .0) (c .before .before .pre .1)
+returns c = table-word (c .before .before .args .words .now) (c .before .before .args .blocks) (c .before .before .args .table) (c .before .before .args .b .0) (c .before .before .pre .0) (c .before .before .pre .1)
 
 pub block-word-spec : {M : Type 1} → statement M
 block-word-spec =

@@ -11,10 +11,10 @@ use borrow.Author.Needs.{needs}
 use native.Mathlib.Omega.{arith}
 
 abbrev Inv-loop : tie.InvT-loop
-Inv-loop w unions₀ set₀ unions set = (set ≤ sets) × (length unions ≡ sets) × ((k : ℕ) → k < set → setIs w unions k)
+Inv-loop words unions₀ set₀ unions set = (set ≤ sets) × (length unions ≡ sets) × ((k : ℕ) → k < set → setIs words unions k)
 
 abbrev μ-loop : tie.MeasureT-loop
-μ-loop w unions₀ set₀ unions set = sets - set
+μ-loop words unions₀ set₀ unions set = sets - set
 
 loop-holds : tie.Need-loop-holds Inv-loop μ-loop
 loop-holds c = (omega arith, refl, below-none _)
@@ -38,9 +38,9 @@ add-set c = search needs
 loop-less : tie.Need-loop-less Inv-loop μ-loop
 loop-less c = search needs
 
---@ loop-again c = (omega arith, length-set (@loop .unions) (@loop .set) (@union-of .result) ∙ @loop .inv .1, firsts-step (@args .w .now) (@loop .unions) (@loop .set) (@union-of .result) (omega (arith, @loop .inv .1, @loop-test .taken)) (@loop .inv .2) (@union-of .ensures))
+--@ loop-again c = (omega arith, length-set (@loop .unions) (@loop .set) (@union-of .result) ∙ @loop .inv .1, firsts-step (@args .words .now) (@loop .unions) (@loop .set) (@union-of .result) (omega (arith, @loop .inv .1, @loop-test .taken)) (@loop .inv .2) (@union-of .ensures))
 loop-again : tie.Need-loop-again Inv-loop μ-loop
-loop-again c = (omega arith, length-set (c .before .before .loop .unions) (c .before .before .loop .set) (c .union-of .result) ∙ c .before .before .loop .inv .1, firsts-step (c .before .before .before .before .args .w .now) (c .before .before .loop .unions) (c .before .before .loop .set) (c .union-of .result) (omega (arith, c .before .before .loop .inv .1, c .before .loop-test .taken)) (c .before .before .loop .inv .2) (c .union-of .ensures))
+loop-again c = (omega arith, length-set (c .before .before .loop .unions) (c .before .before .loop .set) (c .union-of .result) ∙ c .before .before .loop .inv .1, firsts-step (c .before .before .before .before .args .words .now) (c .before .before .loop .unions) (c .before .before .loop .set) (c .union-of .result) (omega (arith, c .before .before .loop .inv .1, c .before .loop-test .taken)) (c .before .before .loop .inv .2) (c .union-of .ensures))
 
 --@ returns c = record { set = λ k l. @loop .inv .2 k (omega (arith, l, @loop-test .left)) }
 returns : tie.Need-returns Inv-loop μ-loop

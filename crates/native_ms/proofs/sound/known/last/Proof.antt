@@ -16,10 +16,10 @@ mul-word c = search needs
 shared-slice-read-word : tie.Need-shared-slice-read-word
 shared-slice-read-word c = search needs
 
---@ returns c = sym (getD-part lists lists (@args .list) (@args .w .now) (@pre .1))
+--@ returns c = sym (getD-part lists lists (@args .list) (@args .words .now) (@pre .1))
 returns : tie.Need-returns
 unfolding view
-returns c = sym (getD-part lists lists (c .before .args .list) (c .before .args .w .now) (c .before .pre .1))
+returns c = sym (getD-part lists lists (c .before .args .list) (c .before .args .words .now) (c .before .pre .1))
 
 pub last-spec : {M : Type 1} → statement M
 last-spec = tie.close (tie.spec add-word mul-word shared-slice-read-word returns)

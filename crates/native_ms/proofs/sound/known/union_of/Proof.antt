@@ -11,14 +11,14 @@ use borrow.Author.Needs.{needs}
 use native.Mathlib.Omega.{arith}
 
 abbrev Inv-loop : tie.InvT-loop
-Inv-loop w from count union₀ i₀ union i = (i ≤ count) × (eqb union 0 ≡ allBelow i (zeroAt w from))
+Inv-loop words from count union₀ i₀ union i = (i ≤ count) × (eqb union 0 ≡ allBelow i (zeroAt words from))
 
 abbrev μ-loop : tie.MeasureT-loop
-μ-loop w from count union₀ i₀ union i = count - i
+μ-loop words from count union₀ i₀ union i = count - i
 
---@ loop-holds c = (omega arith, words-none (@args .w .now) (@args .from))
+--@ loop-holds c = (omega arith, words-none (@args .words .now) (@args .from))
 loop-holds : tie.Need-loop-holds Inv-loop μ-loop
-loop-holds c = (omega arith, words-none (c .args .w .now) (c .args .from))
+loop-holds c = (omega arith, words-none (c .args .words .now) (c .args .from))
 
 add-union : tie.Need-add-union Inv-loop μ-loop
 add-union c = search needs
@@ -35,13 +35,13 @@ add-i c = search needs
 loop-less : tie.Need-loop-less Inv-loop μ-loop
 loop-less c = search needs
 
---@ loop-again c = (omega arith, words-step (@args .w .now) (@args .from) (@loop .union) (@loop .i) (@loop .inv .1))
+--@ loop-again c = (omega arith, words-step (@args .words .now) (@args .from) (@loop .union) (@loop .i) (@loop .inv .1))
 loop-again : tie.Need-loop-again Inv-loop μ-loop
-loop-again c = (omega arith, words-step (c .before .before .before .args .w .now) (c .before .before .before .args .from) (c .before .before .loop .union) (c .before .before .loop .i) (c .before .before .loop .inv .1))
+loop-again c = (omega arith, words-step (c .before .before .before .args .words .now) (c .before .before .before .args .from) (c .before .before .loop .union) (c .before .before .loop .i) (c .before .before .loop .inv .1))
 
---@ returns c = words-all (@args .w .now) (@args .from) (@loop .union) (@loop .i) _ (@loop .inv .0) (@loop-test .left) (@loop .inv .1)
+--@ returns c = words-all (@args .words .now) (@args .from) (@loop .union) (@loop .i) _ (@loop .inv .0) (@loop-test .left) (@loop .inv .1)
 returns : tie.Need-returns Inv-loop μ-loop
-returns c = words-all (c .before .before .args .w .now) (c .before .before .args .from) (c .before .loop .union) (c .before .loop .i) _ (c .before .loop .inv .0) (c .loop-test .left) (c .before .loop .inv .1)
+returns c = words-all (c .before .before .args .words .now) (c .before .before .args .from) (c .before .loop .union) (c .before .loop .i) _ (c .before .loop .inv .0) (c .loop-test .left) (c .before .loop .inv .1)
 
 pub union-of-spec : {M : Type 1} → statement M
 union-of-spec =

@@ -9,10 +9,10 @@ use Rattle.native_ms.specs.SoundTests.{stands-off, closed-here, closed-o
 use native.Mathlib.Omega.{arith}
 
 abbrev Inv-loop : tie.InvT-loop
-Inv-loop p log w st list most blocks left₀ before₀ a₀ left before a = passFrom left p (view w) st list (before .0) (a .0) ≡ passFrom left₀ p (view w) st list (before₀ .0) (a₀ .0)
+Inv-loop p log words states list most blocks left₀ before₀ a₀ left before a = passFrom left p (view words) states list (before .0) (a .0) ≡ passFrom left₀ p (view words) states list (before₀ .0) (a₀ .0)
 
 abbrev μ-loop : tie.MeasureT-loop
-μ-loop p log w st list most blocks left₀ before₀ a₀ left before a = left
+μ-loop p log words states list most blocks left₀ before₀ a₀ left before a = left
 
 --@ first-requires c κs = (omega (arith, @pre .0 .lent .words), @pre .1)
 first-requires : tie.Need-first-requires Inv-loop μ-loop

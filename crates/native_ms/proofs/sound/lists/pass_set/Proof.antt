@@ -11,10 +11,10 @@ use borrow.Author.Needs.{needs}
 use native.Mathlib.Omega.{arith}
 
 abbrev Inv-loop : tie.InvT-loop
-Inv-loop p log w st from most list₀ left₀ list left = (from ≤ list) × (list ≤ list₀) × (passes list p (view w) st left ≡ passes list₀ p (view w) st left₀)
+Inv-loop p log words states from most list₀ left₀ list left = (from ≤ list) × (list ≤ list₀) × (passes list p (view words) states left ≡ passes list₀ p (view words) states left₀)
 
 abbrev μ-loop : tie.MeasureT-loop
-μ-loop p log w st from most list₀ left₀ list left = list
+μ-loop p log words states from most list₀ left₀ list left = list
 
 --@ add-list c = record { fits = omega (arith, @pre .1) }
 add-list : tie.Need-add-list Inv-loop μ-loop

@@ -13,10 +13,10 @@ use borrow.Author.Needs.{needs}
 use native.Mathlib.Omega.{arith}
 
 abbrev Inv-loop : tie.InvT-loop
-Inv-loop p log w st firsts set₀ left₀ set left = (set ≤ sets) × (passes (bins * set) p (view w) st left ≡ passes (bins * set₀) p (view w) st left₀)
+Inv-loop p log words states firsts set₀ left₀ set left = (set ≤ sets) × (passes (bins * set) p (view words) states left ≡ passes (bins * set₀) p (view words) states left₀)
 
 abbrev μ-loop : tie.MeasureT-loop
-μ-loop p log w st firsts set₀ left₀ set left = set
+μ-loop p log words states firsts set₀ left₀ set left = set
 
 loop-holds : tie.Need-loop-holds Inv-loop μ-loop
 loop-holds c = (omega arith, refl)
@@ -70,9 +70,9 @@ loop-again c = (omega (arith, c .before .before .before .before .before .before 
 loop-less-2 : tie.Need-loop-less-2 Inv-loop μ-loop
 loop-less-2 c = falls-down _ (c .before .before .before .loop-test .taken)
 
---@ loop-again-2 c = (omega (arith, @loop .inv .0, @loop-test .taken), set-skip _ (@args .w .now) _ _ _ (getD (@args .firsts .now) (@loop .set - 1) 0) (@union-of .result) (omega (arith, @loop .inv .0, @loop-test .taken)) (@pre .1 .set (@loop .set - 1) (omega (arith, @loop .inv .0, @loop-test .taken))) (@union-of .ensures) (@if1 .left) ∙ set-up _ _ _ _ _ (@loop-test .taken) ∙ @loop .inv .1)
+--@ loop-again-2 c = (omega (arith, @loop .inv .0, @loop-test .taken), set-skip _ (@args .words .now) _ _ _ (getD (@args .firsts .now) (@loop .set - 1) 0) (@union-of .result) (omega (arith, @loop .inv .0, @loop-test .taken)) (@pre .1 .set (@loop .set - 1) (omega (arith, @loop .inv .0, @loop-test .taken))) (@union-of .ensures) (@if1 .left) ∙ set-up _ _ _ _ _ (@loop-test .taken) ∙ @loop .inv .1)
 loop-again-2 : tie.Need-loop-again-2 Inv-loop μ-loop
-loop-again-2 c = (omega (arith, c .before .before .before .before .loop .inv .0, c .before .before .before .loop-test .taken), set-skip _ (c .before .before .before .before .before .before .before .args .w .now) _ _ _ (getD (c .before .before .before .before .before .before .before .args .firsts .now) (c .before .before .before .before .loop .set - 1) 0) (c .before .union-of .result) (omega (arith, c .before .before .before .before .loop .inv .0, c .before .before .before .loop-test .taken)) (c .before .before .before .before .before .before .before .pre .1 .set (c .before .before .before .before .loop .set - 1) (omega (arith, c .before .before .before .before .loop .inv .0, c .before .before .before .loop-test .taken))) (c .before .union-of .ensures) (c .if1 .left) ∙ set-up _ _ _ _ _ (c .before .before .before .loop-test .taken) ∙ c .before .before .before .before .loop .inv .1)
+loop-again-2 c = (omega (arith, c .before .before .before .before .loop .inv .0, c .before .before .before .loop-test .taken), set-skip _ (c .before .before .before .before .before .before .before .args .words .now) _ _ _ (getD (c .before .before .before .before .before .before .before .args .firsts .now) (c .before .before .before .before .loop .set - 1) 0) (c .before .union-of .result) (omega (arith, c .before .before .before .before .loop .inv .0, c .before .before .before .loop-test .taken)) (c .before .before .before .before .before .before .before .pre .1 .set (c .before .before .before .before .loop .set - 1) (omega (arith, c .before .before .before .before .loop .inv .0, c .before .before .before .loop-test .taken))) (c .before .union-of .ensures) (c .if1 .left) ∙ set-up _ _ _ _ _ (c .before .before .before .loop-test .taken) ∙ c .before .before .before .before .loop .inv .1)
 
 --@ returns-2 c = passes-none _ _ _ _ _ (@loop-test .left) ∙ @loop .inv .1
 returns-2 : tie.Need-returns-2 Inv-loop μ-loop

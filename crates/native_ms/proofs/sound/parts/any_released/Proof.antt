@@ -12,10 +12,10 @@ use Rattle.native_ms.proofs.sound.parts.any_released.Statement.{stateme
 use Rattle.native_ms.proofs.sound.parts.any_released.Tie as tie
 
 abbrev Inv-loop : tie.InvT-loop
-Inv-loop w left₀ left = (left ≤ 9) × (anyBelow left (hasReleased (view w)) ≡ anyBelow left₀ (hasReleased (view w)))
+Inv-loop words left₀ left = (left ≤ 9) × (anyBelow left (hasReleased (view words)) ≡ anyBelow left₀ (hasReleased (view words)))
 
 abbrev μ-loop : tie.MeasureT-loop
-μ-loop w left₀ left = left
+μ-loop words left₀ left = left
 
 loop-holds : tie.Need-loop-holds Inv-loop μ-loop
 loop-holds c = (omega arith, refl)

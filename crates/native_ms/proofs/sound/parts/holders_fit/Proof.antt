@@ -13,10 +13,10 @@ use Rattle.native_ms.proofs.sound.parts.holders_fit.Statement.{statemen
 use Rattle.native_ms.proofs.sound.parts.holders_fit.Tie as tie
 
 abbrev Inv-loop : tie.InvT-loop
-Inv-loop w firsts left₀ left = (left ≤ 8) × (allBelow left (holderFits (view w)) ≡ allBelow left₀ (holderFits (view w)))
+Inv-loop words firsts left₀ left = (left ≤ 8) × (allBelow left (holderFits (view words)) ≡ allBelow left₀ (holderFits (view words)))
 
 abbrev μ-loop : tie.MeasureT-loop
-μ-loop w firsts left₀ left = left
+μ-loop words firsts left₀ left = left
 
 loop-holds : tie.Need-loop-holds Inv-loop μ-loop
 loop-holds c = (omega arith, refl)

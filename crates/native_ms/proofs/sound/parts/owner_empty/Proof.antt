@@ -28,9 +28,9 @@ mul-result-3 c = search needs
 element-copy-out-result-3 : tie.Need-element-copy-out-result-3
 element-copy-out-result-3 c = search needs
 
---@ returns c = owner-words (@args .w .now) (@args .firsts .now) (@pre .0) (@args .owner) (@pre .1)
+--@ returns c = owner-words (@args .words .now) (@args .firsts .now) (@pre .0) (@args .owner) (@pre .1)
 returns : tie.Need-returns
-returns c = owner-words (c .before .before .before .args .w .now) (c .before .before .before .args .firsts .now) (c .before .before .before .pre .0) (c .before .before .before .args .owner) (c .before .before .before .pre .1)
+returns c = owner-words (c .before .before .before .args .words .now) (c .before .before .before .args .firsts .now) (c .before .before .before .pre .0) (c .before .before .before .args .owner) (c .before .before .before .pre .1)
 
 pub owner-empty-spec : {M : Type 1} → statement M
 owner-empty-spec =

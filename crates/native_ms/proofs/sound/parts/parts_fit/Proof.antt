@@ -13,10 +13,10 @@ use Rattle.native_ms.proofs.sound.parts.parts_fit.Statement.{statement}
 use Rattle.native_ms.proofs.sound.parts.parts_fit.Tie as tie
 
 abbrev Inv-loop : tie.InvT-loop
-Inv-loop w left₀ left = (left ≤ 9) × (allBelow left (partFits (view w)) ≡ allBelow left₀ (partFits (view w)))
+Inv-loop words left₀ left = (left ≤ 9) × (allBelow left (partFits (view words)) ≡ allBelow left₀ (partFits (view words)))
 
 abbrev μ-loop : tie.MeasureT-loop
-μ-loop w left₀ left = left
+μ-loop words left₀ left = left
 
 loop-holds : tie.Need-loop-holds Inv-loop μ-loop
 loop-holds c = (omega arith, refl)
