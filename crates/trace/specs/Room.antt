@@ -29,7 +29,7 @@ use Rattle.laws.specs.Below.{true-not-false}
 use Rattle.laws.specs.Params.{Bounds, good-bounds, start-in}
 use Rattle.laws.specs.Tables.{view-flat}
 use Rattle.laws.specs.Classes.{cellBytes-least}
-use Rattle.trace.specs.Sections.{flatten-append}
+use Rattle.trace.specs.Sections.{fine, flatten-append}
 use Rattle.soundness.specs.SoundLists.{sound-parts, block-parts}
 use Rattle.soundness.specs.Replies.{fair-reply, bad-reply}
 use Rattle.soundness.specs.Kept.{Kept, fresh-kept, step-kept}
@@ -173,12 +173,7 @@ refused-few i (x ∷ xs) l h =
 
 -- ---- tables stay sound
 
--- the census's parameters are good
-fine : goodParams censusParams ≡ true
-unfolding goodParams powerOfTwo anyBelow lowerOk heapEnd heapBytes censusParams
-fine = refl
-
--- so they are bounded
+-- the census's parameters are good, so they are bounded
 abbrev B : Bounds censusParams
 B = good-bounds censusParams fine
 

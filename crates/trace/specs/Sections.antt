@@ -13,10 +13,13 @@ use lib.ListN.{length, getD, drop, length-append, length-map, drop-of-length-le,
 use lib.Seq.{drop-cons, getD-at}
 use borrow.Author.Tests.{lt-ltb, ltb-true}
 use Rattle.model.specs.declared.Params.{Params}
-use Rattle.model.specs.Base.{filter}
+use Rattle.model.specs.declared.Block.{Block}
+use Rattle.model.specs.declared.ChainWalk.{ChainWalk}
+use Rattle.model.specs.Base.{filter, anyBelow}
+use Rattle.model.specs.Params.{powerOfTwo, lowerOk, heapBytes, heapEnd, goodParams}
 use Rattle.model.specs.Tables.{Words, Tables, tablesOf, view}
 use Rattle.model.specs.Memory.{load}
-use Rattle.model.specs.Block.{Unallocated, cellCount, isCell, chainFrom, freeChain}
+use Rattle.model.specs.Block.{Unallocated, cellCount, isCell, chainFrom, freeChain, firstCell, moreCells, nextCell}
 use Rattle.model.specs.Sound.{stateOf, setNamed}
 use Rattle.model.specs.Census.{censusParams, decimal, spaced, section, upTo, occupied, letter}
 use Rattle.model.specs.Census.{blockRow, freeRows}
@@ -24,7 +27,6 @@ use Rattle.laws.specs.Text.{Printed, Remains, remains-start, remains-end}
 use Rattle.laws.specs.Below.{and-left, and-right}
 use Rattle.laws.specs.Base.{below-last, if-cases}
 use Rattle.listing.specs.Print.{rows-round}
-use Rattle.trace.specs.declared.chain.Walk.{Walk}
 
 unfoldable pub tablesRead : List ℕ → List ℕ → Tables
 tablesRead words states = tablesOf (view words) states []
@@ -45,49 +47,59 @@ freeText words states heap =
 unfoldable pub cellRows : ℕ → List ℕ → List (List ℕ)
 cellRows b cells = map (λ a. spaced (decimal b ∷ decimal a ∷ [])) cells
 
--- a walk at the free head, whether it stands at a cell, and the walk from the next on
-unfoldable pub firstCell : Words → ℕ → Walk
-firstCell t b = record { at = getD (t .free) b 0; size = getD (t .size) b 0; left = cellCount censusParams (getD (t .size) b 0) }
-
-unfoldable pub moreCells : ℕ → Walk → Bool
-moreCells b w = ltb 0 (w .left) && isCell censusParams b (w .size) (w .at)
-
-unfoldable pub nextCell : List ℕ → Walk → Walk
-nextCell h w = record { at = load censusParams h (w .at); size = w .size; left = w .left - 1 }
+-- the census's parameters are good
+pub fine : goodParams censusParams ≡ true
+unfolding goodParams powerOfTwo anyBelow lowerOk heapEnd heapBytes censusParams
+fine = refl
 
 -- the cells that a walk still meets
-unfoldable pub cellsOf : List ℕ → ℕ → Walk → List ℕ
-cellsOf h b w = chainFrom (w .left) censusParams h b (w .size) (w .at)
+unfoldable pub cellsOf : List ℕ → ChainWalk → List ℕ
+cellsOf h w = chainFrom (w .left) censusParams h (w .block .0) (w .size) (w .at .0)
 
-pub cells-first : (h : List ℕ) (t : Words) (b : ℕ) → cellsOf h b (firstCell t b) ≡ freeChain censusParams h b t
+pub cells-first : (h : List ℕ) (t : Words) (b : Block) → cellsOf h (firstCell censusParams t b) ≡ freeChain censusParams h (b .0) t
 unfolding cellsOf firstCell freeChain
 cells-first h t b = refl
 
-module _ (h : List ℕ) (b : ℕ) (w : Walk) where
-  pub cells-left : moreCells b w ≡ true → 0 < w .left
-  unfolding moreCells
-  cells-left e = ltb-true 0 (w .left) (and-left (ltb 0 (w .left)) _ e)
+-- a walk under parameters that are the census's
+pub first-here : {p : Params} {w : ChainWalk} (t : Words) (b : Block) → p ≡ censusParams → w ≡ firstCell p t b → w ≡ firstCell censusParams t b
+first-here t b e f = f ∙ ap (λ (q : Params). firstCell q t b) e
 
-  pub cells-fall : {w′ : Walk} → moreCells b w ≡ true → w′ ≡ nextCell h w → w′ .left < w .left
+module _ {p : Params} (w : ChainWalk) (e : p ≡ censusParams) where
+  pub more-here : {r y : Bool} → r ≡ moreCells p w → r ≡ y → moreCells censusParams w ≡ y
+  more-here f y = sym (f ∙ ap (λ (q : Params). moreCells q w) e) ∙ y
+
+  pub next-here : {w′ : ChainWalk} (h : List ℕ) → w′ ≡ nextCell p h w → w′ ≡ nextCell censusParams h w
+  next-here h f = f ∙ ap (λ (q : Params). nextCell q h w) e
+
+module _ (h : List ℕ) (w : ChainWalk) where
+  -- that the walk stands at a cell, but for the parameters, which are good
+  stands : {y : Bool} → moreCells censusParams w ≡ y → (ltb 0 (w .left) && isCell censusParams (w .block .0) (w .size) (w .at .0)) ≡ y
+  unfolding moreCells
+  stands e = sym (ap (λ (g : Bool). g && ltb 0 (w .left) && isCell censusParams (w .block .0) (w .size) (w .at .0)) fine) ∙ e
+
+  pub cells-left : moreCells censusParams w ≡ true → 0 < w .left
+  cells-left e = ltb-true 0 (w .left) (and-left (ltb 0 (w .left)) _ (stands e))
+
+  pub cells-fall : {w′ : ChainWalk} → moreCells censusParams w ≡ true → w′ ≡ nextCell censusParams h w → w′ .left < w .left
   unfolding nextCell
   cells-fall y e = rw e (omega (arith, cells-left y))
 
-  pub cells-more : moreCells b w ≡ true → cellsOf h b w ≡ w .at ∷ cellsOf h b (nextCell h w)
-  unfolding cellsOf nextCell moreCells chainFrom
-  cells-more e = go (w .left) (cells-left e) (and-right (ltb 0 (w .left)) _ e)
+  pub cells-more : moreCells censusParams w ≡ true → cellsOf h w ≡ w .at .0 ∷ cellsOf h (nextCell censusParams h w)
+  unfolding cellsOf nextCell chainFrom
+  cells-more e = go (w .left) (cells-left e) (and-right (ltb 0 (w .left)) _ (stands e))
     where
-      go : (k : ℕ) → 0 < k → isCell censusParams b (w .size) (w .at) ≡ true
-          → chainFrom k censusParams h b (w .size) (w .at)
-          ≡ w .at ∷ chainFrom (k - 1) censusParams h b (w .size) (load censusParams h (w .at))
+      go : (k : ℕ) → 0 < k → isCell censusParams (w .block .0) (w .size) (w .at .0) ≡ true
+          → chainFrom k censusParams h (w .block .0) (w .size) (w .at .0)
+          ≡ w .at .0 ∷ chainFrom (k - 1) censusParams h (w .block .0) (w .size) (load censusParams h (w .at .0))
       go zero l cell = absurd (not-suc-le-zero l)
       go (suc k) l cell = let d : suc k - 1 ≡ k = omega arith in rw (d, cell)
 
-  pub cells-end : moreCells b w ≡ false → cellsOf h b w ≡ []
-  unfolding cellsOf moreCells chainFrom
-  cells-end e = go (w .left) e
+  pub cells-end : moreCells censusParams w ≡ false → cellsOf h w ≡ []
+  unfolding cellsOf chainFrom
+  cells-end e = go (w .left) (stands e)
     where
-      go : (k : ℕ) → (ltb 0 k && isCell censusParams b (w .size) (w .at)) ≡ false
-          → chainFrom k censusParams h b (w .size) (w .at) ≡ []
+      go : (k : ℕ) → (ltb 0 k && isCell censusParams (w .block .0) (w .size) (w .at .0)) ≡ false
+          → chainFrom k censusParams h (w .block .0) (w .size) (w .at .0) ≡ []
       go zero f = refl
       go (suc k) f = rw (rw (lt-ltb 0 (suc k) (omega arith)) at f)
 
@@ -108,56 +120,54 @@ chain-few t h b =
       div-le-self 4096 (getD (t .size) b 0),
     )
 
--- a loop that counts them: n are passed
-pub record CellsCounted (words heap : List ℕ) (b : ℕ) (w : Walk) (n : ℕ) : Type 0 where
-  pub all : n + length (cellsOf heap b w) ≡ length (freeChain censusParams heap b (view words))
+-- a loop that counts them, from the walk w₀ on: n are passed
+pub record CellsCounted (heap : List ℕ) (w₀ w : ChainWalk) (n : ℕ) : Type 0 where
+  pub all : n + length (cellsOf heap w) ≡ length (cellsOf heap w₀)
   pub few : n + w .left ≤ 4096
 
-module _ (words heap : List ℕ) (b : ℕ) where
-  pub count-start : {w : Walk} → w ≡ firstCell (view words) b → CellsCounted words heap b w 0
-  unfolding firstCell cellCount censusParams
-  count-start e =
-      record {
-        all = omega (arith, ap length (ap (cellsOf heap b) e ∙ cells-first heap (view words) b));
-        few = rw e (omega (arith, div-le-self 4096 (getD (view words .size) b 0)));
-      }
+pub count-start : (heap : List ℕ) (t : Words) (b : Block) {w : ChainWalk} → w ≡ firstCell censusParams t b → CellsCounted heap w w 0
+unfolding firstCell cellCount censusParams
+count-start heap t b e =
+    record { all = omega arith; few = rw e (omega (arith, div-le-self 4096 (getD (t .size) (b .0) 0))) }
 
-  module _ (w : Walk) (n : ℕ) (c : CellsCounted words heap b w n) where
-    pub count-room : moreCells b w ≡ true → n < 4096
-    count-room y = omega (arith, cells-left heap b w y, c .few)
+module _ (heap : List ℕ) (w₀ w : ChainWalk) (n : ℕ) (c : CellsCounted heap w₀ w n) where
+  pub count-room : moreCells censusParams w ≡ true → n < 4096
+  count-room y = omega (arith, cells-left heap w y, c .few)
 
-    pub count-round : {w′ : Walk} → moreCells b w ≡ true → w′ ≡ nextCell heap w → CellsCounted words heap b w′ (n + 1)
-    unfolding nextCell
-    count-round y e =
-        rw e
-        (record {
-          all = omega (arith, ap length (cells-more heap b w y), c .all);
-          few = omega (arith, cells-left heap b w y, c .few);
-        })
+  pub count-round : {w′ : ChainWalk} → moreCells censusParams w ≡ true → w′ ≡ nextCell censusParams heap w → CellsCounted heap w₀ w′ (n + 1)
+  unfolding nextCell
+  count-round y e =
+      rw e
+      (record {
+        all = omega (arith, ap length (cells-more heap w y), c .all);
+        few = omega (arith, cells-left heap w y, c .few);
+      })
 
-    pub count-end : moreCells b w ≡ false → n ≡ length (freeChain censusParams heap b (view words))
-    count-end z = omega (arith, ap length (cells-end heap b w z), c .all)
+  pub count-end : (t : Words) (b : Block) → moreCells censusParams w ≡ false → w₀ ≡ firstCell censusParams t b
+      → n ≡ length (freeChain censusParams heap (b .0) t)
+  count-end t b z e =
+      omega (arith, ap length (cells-end heap w z), c .all, ap length (ap (cellsOf heap) e ∙ cells-first heap t b))
 
 -- a loop that prints them: the rows of those that are left, printed here, make all printed there
-abbrev pub CellsLeft : List ℕ → List ℕ → ℕ → Walk → List ℕ → List ℕ → ℕ → ℕ → Type 0
+abbrev pub CellsLeft : List ℕ → List ℕ → ℕ → ChainWalk → List ℕ → List ℕ → ℕ → ℕ → Type 0
 CellsLeft words heap b w h h′ at at′ =
     Remains h h′ at at′ (flatten (cellRows b (freeChain censusParams heap b (view words))))
-    (flatten (cellRows b (cellsOf heap b w)))
+    (flatten (cellRows b (cellsOf heap w)))
 
-module _ (words heap : List ℕ) (b : ℕ) where
-  pub cells-start : (h : List ℕ) (at : ℕ) {w : Walk} → w ≡ firstCell (view words) b → CellsLeft words heap b w h h at at
-  cells-start h at e = rw (e, cells-first heap (view words) b) (remains-start h at _)
+pub cells-start : (words heap : List ℕ) (b : Block) (h : List ℕ) (at : ℕ) {w : ChainWalk} → w ≡ firstCell censusParams (view words) b
+    → CellsLeft words heap (b .0) w h h at at
+cells-start words heap b h at e = rw (e, cells-first heap (view words) b) (remains-start h at _)
 
-  module _ (w : Walk) {h h′ : List ℕ} {at at′ : ℕ} (r : CellsLeft words heap b w h h′ at at′) where
-    pub cells-round : {w′ : Walk} {h″ : List ℕ} {at″ : ℕ} → moreCells b w ≡ true → w′ ≡ nextCell heap w
-        → Printed h′ h″ at′ at″ (spaced (decimal b ∷ decimal (w .at) ∷ [])) → CellsLeft words heap b w′ h h″ at at″
-    unfolding cellRows
-    cells-round y e p =
-        rw e (rows-round _ (cellRows b (cellsOf heap b (nextCell heap w))) (rw (cells-more heap b w y) at r) p)
+module _ (words heap : List ℕ) (b : ℕ) (w : ChainWalk) {h h′ : List ℕ} {at at′ : ℕ} (r : CellsLeft words heap b w h h′ at at′) where
+  pub cells-round : {w′ : ChainWalk} {h″ : List ℕ} {at″ : ℕ} → moreCells censusParams w ≡ true → w′ ≡ nextCell censusParams heap w
+      → Printed h′ h″ at′ at″ (spaced (decimal b ∷ decimal (w .at .0) ∷ [])) → CellsLeft words heap b w′ h h″ at at″
+  unfolding cellRows
+  cells-round y e p =
+      rw e (rows-round _ (cellRows b (cellsOf heap (nextCell censusParams heap w))) (rw (cells-more heap w y) at r) p)
 
-    pub cells-printed : moreCells b w ≡ false → Printed h h′ at at′ (flatten (freeRows (tablesRead words []) heap b))
-    unfolding cellRows flatten freeRows tablesRead
-    cells-printed z = remains-end (rw (cells-end heap b w z) at r)
+  pub cells-printed : moreCells censusParams w ≡ false → Printed h h′ at at′ (flatten (freeRows (tablesRead words []) heap b))
+  unfolding cellRows flatten freeRows tablesRead
+  cells-printed z = remains-end (rw (cells-end heap w z) at r)
 
 -- ---- a loop over the numbers below n that pass a test: those from i on
 

@@ -132,13 +132,13 @@ fn run_mark(
     states: &mut [u8],
     marks: &mut [u8],
     heap: &[u8],
-    place: usize,
-    block: usize,
+    place: Address,
+    block: Block,
 ) -> usize
-    ensures { λ r. ⌜ LineRan (lend (now (words .entry)) (now (states .entry)) (now (marks .entry)) (now (heap .entry))) (some (mark place block)) r (lend (now (words .entry)) (now (states .exit)) (now (marks .exit)) (now (heap .entry))) ⌝ }
+    ensures { λ r. ⌜ LineRan (lend (now (words .entry)) (now (states .entry)) (now (marks .entry)) (now (heap .entry))) (some (mark (place .0) (block .0))) r (lend (now (words .entry)) (now (states .exit)) (now (marks .exit)) (now (heap .entry))) ⌝ }
 {
     let p = params();
-    mark_number(global::mark(p, words, states, marks, heap, Address(place), Block(block)))
+    mark_number(global::mark(p, words, states, marks, heap, place, block))
 }
 
 // Makes the call that a line asks for. The answer is the refusal's number, 0 for none.
@@ -173,7 +173,14 @@ fn run_line(
             offer,
         ),
         Line::Prepare => number_of(global::prepare(p, words, states, marks, heap)),
-        Line::Mark { place, block } => run_mark(words, states, marks, heap, place, block),
+        Line::Mark { place, block } => run_mark(
+            words,
+            states,
+            marks,
+            heap,
+            Address(place),
+            Block(block),
+        ),
         Line::Release(h) => release_number(global::release(p, words, states, marks, heap, h)),
         Line::Shared => release_number(global::shared_release(p, words, states, marks, heap)),
         Line::Bad => refusal_number(Refusal::BadLine),

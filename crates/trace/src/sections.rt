@@ -1,6 +1,7 @@
 // The sections on blocks and free cells.
 use crate::chain;
 use listing::print;
+use model::Block;
 use words::states;
 use words::tables;
 ghost use mathlib.Core.Path.{_≡_};
@@ -13,10 +14,10 @@ ghost use Rattle.laws.specs.Text.{Printed};
 ghost use Rattle.trace.specs.Sections.{tablesRead, isOccupied, occupiedIn, blocksText, freeText};
 
 // Whether the block is not Unallocated.
-fn is_occupied(states: &[u8], b: usize) -> bool
-    ensures { λ r. ⌜ r ≡ isOccupied (now (states .entry)) b ⌝ }
+fn is_occupied(states: &[u8], b: Block) -> bool
+    ensures { λ r. ⌜ r ≡ isOccupied (now (states .entry)) (b .0) ⌝ }
 {
-    states::state(states, b) != 0
+    states::state(states, b.0) != 0
 }
 
 // In each loop over the blocks the test comes last in a turn, so that the turn's two ends never meet.
@@ -26,7 +27,7 @@ fn count_blocks(states: &[u8]) -> usize
     let mut n: usize = 0;
     let mut next: usize = 0;
     while next < 4 {
-        let b = next;
+        let b = Block(next);
         next = next + 1;
         if is_occupied(states, b) {
             n = n + 1;
@@ -42,24 +43,24 @@ fn wide(x: u8) -> usize
 }
 
 // The set of the list that the block names; 0 if it names none.
-fn set_named(words: &[usize], b: usize) -> usize
-    ensures { λ r. ⌜ r ≡ setNamed (view (now (words .entry))) b ⌝ }
+fn set_named(words: &[usize], b: Block) -> usize
+    ensures { λ r. ⌜ r ≡ setNamed (view (now (words .entry))) (b .0) ⌝ }
 {
-    let list = tables::list(words, b);
+    let list = tables::list(words, b.0);
     if list == 0 {
         return 0;
     }
     (list - 1) / 49
 }
 
-fn block_row(out: &mut [u8], at: usize, words: &[usize], states: &[u8], b: usize) -> usize
-    ensures { λ r. ⌜ Printed (now (out .entry)) (now (out .exit)) at r (blockRow (tablesRead (now (words .entry)) (now (states .entry))) b) ⌝ }
+fn block_row(out: &mut [u8], at: usize, words: &[usize], states: &[u8], b: Block) -> usize
+    ensures { λ r. ⌜ Printed (now (out .entry)) (now (out .exit)) at r (blockRow (tablesRead (now (words .entry)) (now (states .entry))) (b .0)) ⌝ }
 {
-    let state = wide(states::state(states, b));
-    let size = tables::size(words, b);
+    let state = wide(states::state(states, b.0));
+    let size = tables::size(words, b.0);
     let list = print::list_letter(set_named(words, b));
-    let holder = tables::tls(words, b);
-    print::block_row(out, at, b, state, size, list, holder)
+    let holder = tables::tls(words, b.0);
+    print::block_row(out, at, b.0, state, size, list, holder)
 }
 
 fn block_rows(out: &mut [u8], at: usize, words: &[usize], states: &[u8]) -> usize
@@ -68,7 +69,7 @@ fn block_rows(out: &mut [u8], at: usize, words: &[usize], states: &[u8]) -> usiz
     let mut place = at;
     let mut next: usize = 0;
     while next < 4 {
-        let b = next;
+        let b = Block(next);
         next = next + 1;
         if is_occupied(states, b) {
             place = block_row(out, place, words, states, b);
@@ -92,7 +93,7 @@ fn count_cells(words: &[usize], states: &[u8], heap: &[u8]) -> usize
     let mut n: usize = 0;
     let mut next: usize = 0;
     while next < 4 {
-        let b = next;
+        let b = Block(next);
         next = next + 1;
         if is_occupied(states, b) {
             n = n + chain::count(words, heap, b);
@@ -107,7 +108,7 @@ fn cell_rows(out: &mut [u8], at: usize, words: &[usize], states: &[u8], heap: &[
     let mut place = at;
     let mut next: usize = 0;
     while next < 4 {
-        let b = next;
+        let b = Block(next);
         next = next + 1;
         if is_occupied(states, b) {
             place = chain::rows(out, place, words, heap, b);
