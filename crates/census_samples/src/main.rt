@@ -1,7 +1,7 @@
 // Traces with the listings that oracle/census/listing.py worked out from document 01, replayed: the library's listing of each
 // must have the same bytes. Standard input (made by oracle/census/traces.py) has for each a head of 47 bytes, its lengths and
 // its name, then the trace and the listing.
-use libc::STDIN_FILENO;
+use libc::STDERR_FILENO;
 use libc::STDOUT_FILENO;
 ghost use Prim.Native.Nat.{_+_, _<_, _≤_};
 ghost use lib.ListN.{length};
@@ -39,40 +39,112 @@ fn number(head: &[u8], at: usize) -> usize
     1000 * three(head, at) + three(head, at + 3)
 }
 
-fn tell(name: &[u8], as_it_must: bool) {
-    io::write_all(STDOUT_FILENO, name);
-    if as_it_must {
-        io::write_all(STDOUT_FILENO, b" as 01 says\n");
-    } else {
-        io::write_all(STDOUT_FILENO, b" DIFFERS\n");
+fn say(text: &[u8]) {
+    io::write_all(STDERR_FILENO, text);
+}
+
+// A line of standard output.
+fn tell_line(name: &[u8], what: &[u8]) -> bool {
+    if io::write_all(STDOUT_FILENO, name) {
+        if io::write_all(STDOUT_FILENO, what) {
+            return true;
+        }
     }
+    say(b"census_samples: standard output can't be written\n");
+    false
 }
 
-// Reads n bytes, or as many as there are and as fit.
-fn fill(buf: &mut [u8], n: usize) -> usize {
+fn tell(name: &[u8], as_it_must: bool) -> bool {
+    if as_it_must {
+        return tell_line(name, b" as 01 says\n");
+    }
+    tell_line(name, b" DIFFERS\n")
+}
+
+// Whether n bytes could be read and fit; if not, says why.
+fn filled(buf: &mut [u8], n: usize) -> bool {
     let k = least(n, buf.len());
-    io::read_full(STDIN_FILENO, &mut buf[..k])
+    let read = streams::read_input(&mut buf[..k]);
+    if read.failed {
+        say(b"census_samples: standard input can't be read\n");
+        return false;
+    }
+    if read.len < n {
+        say(b"census_samples: a sample is cut off or too long\n");
+        return false;
+    }
+    true
 }
 
-// One trace: its listing is made, and held to the one that is read.
-fn replay(head: &[u8], input: &mut [u8], wanted: &mut [u8], out: &mut [u8])
+// The next sample's head, if there is one.
+fn next_head(head: &mut [u8]) -> bool {
+    let read = streams::read_input(head);
+    if read.failed {
+        say(b"census_samples: standard input can't be read\n");
+        return false;
+    }
+    if read.len == 0 {
+        return false;
+    }
+    if read.len < HEAD {
+        say(b"census_samples: a sample is cut off or too long\n");
+        return false;
+    }
+    true
+}
+
+// Whether the first n bytes are the first k that are wanted.
+fn same(out: &[u8], n: usize, wanted: &[u8], k: usize) -> bool
+    requires { ⌜ (n ≤ length (now out)) × (k ≤ length (now wanted)) ⌝ }
+{
+    check::same(&out[..n], &wanted[..k])
+}
+
+// One trace: its listing is made, and held to the one that was read.
+fn compare(head: &[u8], input: &[u8], wanted: &[u8], out: &mut [u8; trace::LISTING_BYTES]) -> bool
     requires { ⌜ 47 ≤ length (now head) ⌝ }
 {
-    let read = least(fill(input, number(head, 0)), input.len());
-    let known = least(fill(wanted, number(head, 7)), wanted.len());
-    let n = trace::census(&input[..read], out);
-    tell(&head[14..46], check::same(&out[..n], &wanted[..known]));
+    let read = least(number(head, 0), input.len());
+    let known = least(number(head, 7), wanted.len());
+    let n = trace::whole_listing(&input[..read], out);
+    let as_it_must = same(out, n, wanted, known);
+    tell(&head[14..46], as_it_must)
 }
 
-fn replay_all(head: &mut [u8], input: &mut [u8], wanted: &mut [u8], out: &mut [u8])
+// One sample more, and whether the run goes on.
+fn replay(
+    head: &mut [u8],
+    input: &mut [u8],
+    wanted: &mut [u8],
+    out: &mut [u8; trace::LISTING_BYTES],
+) -> bool
+    requires { ⌜ 47 ≤ length (now head) ⌝ }
+{
+    if !next_head(head) {
+        return false;
+    }
+    if !filled(input, number(head, 0)) {
+        return false;
+    }
+    if !filled(wanted, number(head, 7)) {
+        return false;
+    }
+    compare(head, input, wanted, out)
+}
+
+fn replay_all(
+    head: &mut [u8],
+    input: &mut [u8],
+    wanted: &mut [u8],
+    out: &mut [u8; trace::LISTING_BYTES],
+)
     requires { ⌜ 47 ≤ length (now head) ⌝ }
 {
     let mut i: usize = 0;
     while i < MOST {
-        if io::read_full(STDIN_FILENO, head) < HEAD {
+        if !replay(head, input, wanted, out) {
             return;
         }
-        replay(head, input, wanted, out);
         i = i + 1;
     }
 }

@@ -9,12 +9,14 @@ use model::Block;
 use model::Offer;
 ghost use mathlib.Core.Path.{_≡_};
 ghost use mathlib.Core.List.{[]};
-ghost use lib.ListN.{getD, take};
+ghost use lib.Dec.{ltb};
+ghost use lib.ListN.{length, getD, take};
+ghost use Rattle.laws.specs.Text.{linesFrom};
 ghost use Rattle.model.specs.Calls.{bind, destroy, release, prepare, sharedRelease};
 ghost use Rattle.model.specs.Census.{pieces, space, lineOf};
 ghost use Rattle.listing.specs.Number.{numberOf};
 ghost use Rattle.listing.specs.Line.{wordsOf, lineFor, asked, askedOne, markAsked, allocAsked, oneNumber, offered};
-ghost use Rattle.listing.specs.Lines.{nextLine};
+ghost use Rattle.listing.specs.Lines.{nextLine, unread};
 
 // What is read of a trace; "the rest is unread".
 pub fn read_part(s: &[u8]) -> &[u8]
@@ -47,6 +49,37 @@ pub fn next_line(s: &[u8], at: usize) -> NextLine
         to,
         next: to,
     }
+}
+
+// Whether a line is left behind the first 256.
+fn line_left(s: &[u8]) -> bool
+    ensures { λ r. ⌜ r ≡ ltb 256 (length (linesFrom (now (s .entry)) 0)) ⌝ }
+{
+    let mut n: usize = 0;
+    let mut at: usize = 0;
+    while n < 256 {
+        let NextLine::Line {
+            from: _,
+            to: _,
+            next,
+        } = next_line(s, at)
+        else {
+            return false;
+        };
+        n = n + 1;
+        at = next;
+    }
+    at < s.len()
+}
+
+// Whether a trace has a rest that is unread.
+pub fn unread(s: &[u8]) -> bool
+    ensures { λ r. ⌜ r ≡ unread (now (s .entry)) ⌝ }
+{
+    if 16384 < s.len() {
+        return true;
+    }
+    line_left(read_part(s))
 }
 
 fn number_at(s: &[u8], k: usize) -> Number

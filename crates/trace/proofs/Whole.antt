@@ -3,7 +3,7 @@ use mathlib.Core.Path.{_≡_, refl, ap}
 use mathlib.Core.List.{List, [], _∷_, _++_}
 use Prim.Native.Nat.{ℕ, _≤_}
 use native.Mathlib.Omega.{arith}
-use lib.ListN.{length, drop}
+use lib.ListN.{length, drop, length-append}
 use Rattle.model.specs.Memory.{overwrite}
 use Rattle.model.specs.Census.{census}
 use Rattle.laws.specs.Memory.{overwrite-nil}
@@ -25,3 +25,7 @@ unfolding placeAfter
 census-whole {h} trace room l =
     let fits : length (census trace) ≤ length h = omega (arith, census-short trace, room) in
     record { bytes = rw (l .printed .bytes) (overwrite-front (census trace) h fits); count = omega (arith, l .printed .place, fits) }
+
+-- it lies within the buffer
+pub whole-inside : {h h′ : List ℕ} {r : ℕ} {text : List ℕ} → Whole h h′ r text → r ≤ length h′
+whole-inside {h} {h′} {r} {text} w = omega (arith, w .count, ap length (w .bytes), length-append text (drop (length text) h))
