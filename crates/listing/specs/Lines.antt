@@ -1,6 +1,6 @@
 -- The lines of a trace, one after the other. Assumes nothing.
 use mathlib.Core.Path.{_≡_, refl, sym}
-use mathlib.Core.Bool.{Bool, true, false, _||_}
+use mathlib.Core.Bool.{true, false}
 use mathlib.Core.Logic.{_⊎_, inl, inr}
 use mathlib.Core.List.{List, [], _∷_}
 use Prim.Native.Nat.{ℕ, suc, _+_, _-_, _≤_, _<_}
@@ -10,15 +10,11 @@ use lib.ListN.{length, take, drop}
 use lib.Seq.{take-nil}
 use borrow.Author.Tests.{ltb-true, ltb-false, lt-ltb, le-ltb}
 use Rattle.model.specs.Base.{if_then_else_}
-use Rattle.model.specs.Census.{newline, dropBlankEnd, pieces}
+use Rattle.model.specs.Census.{newline}
 use Rattle.laws.specs.Below.{test}
 use Rattle.laws.specs.Text.{pieceEnd, linesFrom, lines-end, lines-more, lines-last, end-between}
 use Rattle.listing.specs.declared.NextLine.{NextLine}
 use Rattle.listing.specs.declared.NextLine.the-variants.{Line, End}
-
--- whether there is a rest: a byte after those, or a line among them after the 256th
-unfoldable pub unread : List ℕ → Bool
-unread bytes = ltb 16384 (length bytes) || ltb 256 (length (dropBlankEnd (pieces newline (take 16384 bytes))))
 
 -- the line at a place, and the place behind it and its newline
 unfoldable pub nextLine : List ℕ → ℕ → NextLine

@@ -13,10 +13,10 @@ ghost use lib.Dec.{ltb};
 ghost use lib.ListN.{length, getD, take};
 ghost use Rattle.laws.specs.Text.{linesFrom};
 ghost use Rattle.model.specs.Calls.{bind, destroy, release, prepare, sharedRelease};
-ghost use Rattle.model.specs.Census.{pieces, space, lineOf};
+ghost use Rattle.model.specs.Census.{pieces, space, lineOf, unread};
 ghost use Rattle.listing.specs.Number.{numberOf};
 ghost use Rattle.listing.specs.Line.{wordsOf, lineFor, asked, askedOne, markAsked, allocAsked, oneNumber, offered};
-ghost use Rattle.listing.specs.Lines.{nextLine, unread};
+ghost use Rattle.listing.specs.Lines.{nextLine};
 
 // What is read of a trace; "the rest is unread".
 pub fn read_part(s: &[u8]) -> &[u8]

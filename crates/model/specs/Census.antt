@@ -46,6 +46,10 @@ dropBlankEnd (x ∷ (y ∷ ys)) = x ∷ dropBlankEnd (y ∷ ys)
 unfoldable pub linesOf : List ℕ → List (List ℕ)
 linesOf bytes = take 256 (dropBlankEnd (pieces newline (take 16384 bytes)))
 
+-- whether there is a rest: a byte after those, or a line among them after the 256th
+unfoldable pub unread : List ℕ → Bool
+unread bytes = ltb 16384 (length bytes) || ltb 256 (length (dropBlankEnd (pieces newline (take 16384 bytes))))
+
 -- ---- numbers: "below 2^64 with no needless zero", decimal
 
 unfoldable pub isDigit : ℕ → Bool
