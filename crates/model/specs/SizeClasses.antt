@@ -50,3 +50,16 @@ shift region align offset = (align - (region + offset) % align) % align
 
 unfoldable pub alignAllocation : ℕ → ℕ → ℕ → ℕ
 alignAllocation region align offset = region + shift region align offset
+
+-- 02, R-1: "each entry is what `mi_bin_from_size` gives for that many words"; 0 past 8,192 words, where there is no bin
+unfoldable pub binOfWords : Params → ℕ → ℕ
+binOfWords p words = binOf p (8 * words)
+
+-- f i, f (i + 1), and so on: n of them
+unfoldable pub tabulated : (ℕ → ℕ) → ℕ → ℕ → List ℕ
+tabulated f zero i = []
+tabulated f (suc n) i = f i ∷ tabulated f n (suc i)
+
+-- 02, R-1: "a table of 8,193 entries that gives the bin of every word count from 0 to 8,192"
+unfoldable pub binTable : Params → List ℕ
+binTable p = tabulated (binOfWords p) 8193 0
