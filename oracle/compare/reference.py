@@ -675,6 +675,7 @@ class Driver:
             'p': (0, self.do_prepare), 'm': (2, self.do_mark),
             'r': (1, self.do_release), 's': (0, self.do_shared_release),
             'u': (1, self.do_pages_used), 'n': (1, self.do_bin),
+            't': (1, self.do_bin_of_words),
             'q': (2, self.do_raise), 'g': (3, self.do_align),
             'w': (2, self.do_write), 'T': (8, self.do_block_words),
             'F': (3, self.do_list_words), 'G': (3, self.do_phase_words),
@@ -755,6 +756,9 @@ class Driver:
     def do_bin(self, size):
         bin = bin_from_size(size)
         return 'ok -' if bin is None else 'ok %d' % bin
+
+    def do_bin_of_words(self, words):
+        return self.do_bin(8 * words)
 
     def do_raise(self, size, align):
         bad_unless(self.space.is_good_request(size, align, 0))

@@ -114,6 +114,7 @@ impl Space {
                 try_rust(|| self.machine.pages_used(set as usize)).and_then(ok)
             }
             Line::Bin(size) => ok(self.bin(size)),
+            Line::BinOfWords(words) => ok(words.checked_mul(8).map_or("-".into(), |size| self.bin(size))),
             Line::Raise(size, align) => return self.raise(size, align),
             Line::Align(region, align, offset) => return self.align(region, align, offset),
             Line::Dump => Ok(self.dump()),

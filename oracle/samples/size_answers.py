@@ -1,5 +1,6 @@
 #!/usr/bin/env python3
-"""Makes crates/size_answers/stdout anew from the Rust's answers: checksums over bins, raised sizes and shifts.
+"""Makes crates/size_answers/stdout anew from the Rust's answers: checksums over bins, the table's
+entries (twice, since the port looks them up in two ways), raised sizes and shifts.
 
     oracle/build.sh && oracle/samples/size_answers.py > crates/size_answers/stdout
 
@@ -47,6 +48,8 @@ def powers(low, high):
 
 def main():
     print(folded(0, ask([setup(8, 8)] + [f'n {size}' for size in range(65545)])[1:], 1))
+    table = folded(0, ask([setup(8, 8)] + [f't {words}' for words in range(8201)])[1:], 1)
+    print(table, table)
     for low in (4, 8):
         for high in powers(low, 64):
             for align in powers(low, high):

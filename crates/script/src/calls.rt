@@ -19,7 +19,7 @@ use native_ms::global;
 pub(crate) fn shape(letter: u8) -> usize {
     match letter {
         b'p' | b's' | b'D' | b'H' => 0,
-        b'b' | b'd' | b'r' | b'u' | b'n' => 1,
+        b'b' | b'd' | b'r' | b'u' | b'n' | b't' => 1,
         b'm' | b'q' | b'w' => 2,
         b'g' | b'F' | b'G' => 3,
         b'a' => 5,
@@ -120,6 +120,7 @@ fn plain(
 ) -> Reply {
     match letter {
         b'n' => leaves::bin(v[0]),
+        b't' => leaves::bin_of_words(v[0]),
         b'q' => leaves::raised(p, v[0], v[1]),
         b'g' => leaves::aligned(p, v[0], v[1], v[2]),
         b'w' => loads::heap_word(p, heap, v[0], v[1]),

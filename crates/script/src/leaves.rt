@@ -16,6 +16,15 @@ pub(crate) fn bin(size: usize) -> Reply {
     Reply::One(b)
 }
 
+// `t words`.
+pub(crate) fn bin_of_words(words: usize) -> Reply {
+    let b = size_table::bin_of_words(words);
+    if b == 0 {
+        return Reply::Nothing;
+    }
+    Reply::One(b as usize)
+}
+
 fn multiple(x: usize, of: usize) -> bool {
     if of == 0 {
         return false;

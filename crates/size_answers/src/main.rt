@@ -1,6 +1,7 @@
-// Size classes, raised sizes and shifts, compared with the Rust: for every size from 0 to 65,544 its bin, and for every MIN,
-// MAX and align the raised size, its bin and its cell size, and shifted addresses. Each line of `stdout` is a checksum over the
-// Rust's answers, made by oracle/samples/size_answers.py; this program makes the same from the port's.
+// Size classes, raised sizes and shifts, compared with the Rust: for every size from 0 to 65,544 its bin, for every word count
+// from 0 to 8,200 its bin by look-up, and for every MIN, MAX and align the raised size, its bin and its cell size, and shifted
+// addresses. The lines of `stdout` are checksums over the Rust's answers, made by oracle/samples/size_answers.py; this program
+// makes the same from the port's.
 use libc::STDERR_FILENO;
 use libc::STDOUT_FILENO;
 use model::Address;
@@ -25,6 +26,33 @@ fn bins() -> usize {
     while size < 65545 {
         h = mixed(h, size_class::mi_bin_from_size(size));
         size = size + 1;
+    }
+    h
+}
+
+// By look-up in the table, taken once: each of its entries, and eight counts past it.
+fn looked_up(table: &[u8]) -> usize {
+    let mut h: usize = 0;
+    let mut words: usize = 0;
+    while words < 8201 {
+        h = mixed(h, size_table::bin_in(table, words) as usize);
+        words = words + 1;
+    }
+    h
+}
+
+fn entries() -> usize {
+    let table = size_table::bin_table();
+    looked_up(&table)
+}
+
+// The same counts, each by a call of its own.
+fn bins_of_words() -> usize {
+    let mut h: usize = 0;
+    let mut words: usize = 0;
+    while words < 8201 {
+        h = mixed(h, size_table::bin_of_words(words) as usize);
+        words = words + 1;
     }
     h
 }
@@ -170,6 +198,12 @@ fn maxes(min: usize) -> bool
 
 fn all() -> bool {
     if !show(bins(), b'\n') {
+        return false;
+    }
+    if !show(entries(), b' ') {
+        return false;
+    }
+    if !show(bins_of_words(), b'\n') {
         return false;
     }
     if !maxes(4) {
