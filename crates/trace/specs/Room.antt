@@ -14,8 +14,8 @@ use lib.ListN.{length, getD, take, length-append, length-take}
 use borrow.Author.Tests.{lt-ltb, leb-true, eqb-true, eq-eqb}
 use Rattle.model.specs.declared.Refusal.{Refusal}
 use Rattle.model.specs.declared.Refusal.the-variants.{BadSetup, BadTables, WrongPhase, BadHolder, BadRequest, TooBig, BadOffer, BadLink, Exhausted, BadObject, BadLine}
-use Rattle.model.specs.Base.{if_then_else_, anyBelow, filter, In}
-use Rattle.model.specs.Params.{Lent, powerOfTwo, lowerOk, heapBytes, heapEnd, goodParams, fits, start}
+use Rattle.model.specs.Base.{if_then_else_, filter, In}
+use Rattle.model.specs.Params.{Lent, heapBytes, fits, start}
 use Rattle.model.specs.Memory.{load}
 use Rattle.model.specs.Tables.{Tables, tablesOf, view, flat}
 use Rattle.model.specs.SizeClasses.{cellBytes}
