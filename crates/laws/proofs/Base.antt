@@ -8,8 +8,8 @@ use native.Mathlib.Decide.{decLt}
 use native.Mathlib.Omega.{arith}
 use lib.Dec.{eqb}
 use borrow.Author.Tests.{eqb-true, eq-eqb}
-use Rattle.laws.specs.Below.{true-not-false}
-pub use Rattle.laws.specs.Below.{and-left, and-right, or-cases, or-left, or-right, same-test, test as bool-cases, allBelow-at as all-below, allBelow-from as below-all, anyBelow-from as below-any, anyBelow-none as below-none-any}
+use Rattle.laws.proofs.Below.{true-not-false}
+pub use Rattle.laws.proofs.Below.{and-left, and-right, or-cases, or-left, or-right, same-test, test as bool-cases, allBelow-at as all-below, allBelow-from as below-all, anyBelow-from as below-any, anyBelow-none as below-none-any}
 use Rattle.model.specs.Base.{if_then_else_, allBelow, anyBelow, member, filter, In, Pairwise}
 
 -- ---- tests
@@ -47,22 +47,10 @@ below-last i n l = go (decLt i n)
     go (yes y) = inr y
     go (no f) = inl (omega arith)
 
-pub none-below : (n : ℕ) (f : ℕ → Bool) → anyBelow n f ≡ false → (i : ℕ) → i < n → f i ≡ false
-none-below n f e i l = go (bool-cases (f i))
-  where
-    go : (f i ≡ true) ⊎ (f i ≡ false) → f i ≡ false
-    go (inl y) = absurd (not-both (anyBelow n f) (below-any n f i l y) e)
-    go (inr z) = z
-
 pub any-same : (n : ℕ) (f g : ℕ → Bool) → ((i : ℕ) → i < n → f i ≡ g i) → anyBelow n f ≡ anyBelow n g
 unfolding anyBelow
 any-same zero f g h = refl
 any-same (suc n) f g h = rw (h n (omega arith), any-same n f g (λ i l. h i (omega arith)))
-
-pub all-same : (n : ℕ) (f g : ℕ → Bool) → ((i : ℕ) → i < n → f i ≡ g i) → allBelow n f ≡ allBelow n g
-unfolding allBelow
-all-same zero f g h = refl
-all-same (suc n) f g h = rw (h n (omega arith), all-same n f g (λ i l. h i (omega arith)))
 
 -- ---- membership
 

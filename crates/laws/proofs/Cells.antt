@@ -17,10 +17,10 @@ use Rattle.model.specs.Base.{if_then_else_, In, Pairwise}
 use Rattle.model.specs.Params.{start, blockAt, inHeap, heapBytes}
 use Rattle.model.specs.Memory.{load, store}
 use Rattle.model.specs.Block.{cellCount, isCell, cellsDown, linkAll, chainFrom}
-use Rattle.laws.specs.Below.{and-four, and-both}
-use Rattle.laws.specs.Base.{if-cases, below-last, pairwise-more}
-use Rattle.laws.specs.Params.{Bounds, start-in, start-end, blockAt-within, inHeap-yes}
-use Rattle.laws.specs.Memory.{Apart, Same, same-trans, same-store, length-store, load-store, load-same}
+use Rattle.laws.proofs.Below.{and-four, and-both}
+use Rattle.laws.proofs.Base.{if-cases, below-last, pairwise-more}
+use Rattle.laws.proofs.Params.{Bounds, start-in, start-end, blockAt-within, inHeap-yes}
+use Rattle.laws.proofs.Memory.{Apart, Same, same-trans, same-store, length-store, load-store, load-same}
 
 -- ---- whole cells
 
@@ -40,16 +40,6 @@ whole-isCell p b s a w =
     (and-both (lt-ltb 0 s (omega (arith, w .word))) (le-leb (start p b) a (omega (arith, w .at))))
     (rw d (eq-eqb (w .k * s % s) 0 (mul-mod-left (w .k) s))))
     (rw d (le-leb (w .k * s + s) (p .bytes) (w .fits)))
-
-pub isCell-whole : (p : Params) (b s a : ℕ) → 8 ≤ s → isCell p b s a ≡ true → Whole p b s a
-unfolding isCell
-isCell-whole p b s a word e =
-    let r = and-four (ltb 0 s) (leb (start p b) a) (eqb ((a - start p b) % s) 0) (leb ((a - start p b) + s) (p .bytes)) e in
-    let l : start p b ≤ a = leb-true (start p b) a (r .1) in
-    let z : (a - start p b) % s ≡ 0 = eqb-true ((a - start p b) % s) 0 (r .2) in
-    let f : (a - start p b) + s ≤ p .bytes = leb-true ((a - start p b) + s) (p .bytes) (r .3) in
-    let d : (a - start p b) / s * s + (a - start p b) % s ≡ a - start p b = div-add-mod' (a - start p b) s in
-    record { k = (a - start p b) / s; at = omega arith; word = word; fits = omega arith }
 
 -- less, equal or more
 pub tri : (a b : ℕ) → (a < b) ⊎ ((a ≡ b) ⊎ (b < a))
@@ -104,9 +94,6 @@ module _ (p : Params) (g : Bounds p) (b s a : ℕ) (h : b < p .blocks) (w : Whol
 
   pub whole-blockAt : blockAt p a ≡ b
   whole-blockAt = let e : a + 0 ≡ a = omega arith in rw e at (whole-block 0 (omega (arith, w .word)))
-
-  pub whole-inHeap : inHeap p a ≡ true
-  whole-inHeap = inHeap-yes p a whole-from (omega (arith, whole-to, w .word))
 
   pub whole-nonzero : 0 < a
   whole-nonzero = omega (arith, whole-from, g .base-low)
@@ -174,13 +161,6 @@ desc-cellsDown kept from s (suc n) =
       ih,
     ))
 
-pub length-cellsDown : (kept : ℕ → Bool) (from s n : ℕ) → length (cellsDown kept from s n) ≤ n
-unfolding cellsDown
-length-cellsDown kept from s zero = omega arith
-length-cellsDown kept from s (suc n) =
-    let ih : length (cellsDown kept from s n) ≤ n = length-cellsDown kept from s n in
-    if-cases (λ (c : List ℕ). length c ≤ suc n) (kept (from + n * s)) (λ t. omega arith) (λ t. omega arith)
-
 -- one cell more, kept or not
 pub cellsDown-kept : (kept : ℕ → Bool) (from s k : ℕ) {a : ℕ} → a ≡ from + k * s → kept a ≡ true
     → cellsDown kept from s k ≡ cellsDown kept from s (k + 1)
@@ -191,14 +171,6 @@ pub cellsDown-freed : (kept : ℕ → Bool) (from s k : ℕ) {a : ℕ} → a ≡
     → (a ∷ cellsDown kept from s k) ≡ cellsDown kept from s (k + 1)
 unfolding cellsDown
 cellsDown-freed kept from s k e t = rw (add-one k, ap kept (sym e) ∙ t, e)
-
--- cells kept alike make one chain
-pub cellsDown-same : (kept kept′ : ℕ → Bool) (from s n : ℕ) → ((k : ℕ) → k < n → kept (from + k * s) ≡ kept′ (from + k * s))
-    → cellsDown kept from s n ≡ cellsDown kept′ from s n
-unfolding cellsDown
-cellsDown-same kept kept′ from s zero e = refl
-cellsDown-same kept kept′ from s (suc n) e =
-    rw (e n (omega arith), cellsDown-same kept kept′ from s n (λ k l. e k (omega arith)))
 
 -- the cells of a block that are not kept: what a sweep or an init links
 module _ (p : Params) (kept : ℕ → Bool) (b s a : ℕ) where
@@ -277,30 +249,6 @@ stands-linkAll p (x ∷ l) h w d =
           (λ y i. same-store p (linkAll p l h) x (headD l 0) (y - p .base) 8
           (inr (omega (arith, d .0 y i, w y (inr i) .0)))) rest),
     )
-
--- the chain that stands from an address on is the only one
-pub stands-same : (p : Params) (h : List ℕ) (a : ℕ) (l m : List ℕ) → ((x : ℕ) → In x l → 0 < x) → ((x : ℕ) → In x m → 0 < x)
-    → chainStands p h a l → chainStands p h a m → l ≡ m
-unfolding chainStands In
-stands-same p h a [] [] u v c d = refl
-stands-same p h a [] (y ∷ m) u v c d = absurd (omega (arith, v y (inl refl), c, d .0))
-stands-same p h a (x ∷ l) [] u v c d = absurd (omega (arith, u x (inl refl), d, c .0))
-stands-same p h a (x ∷ l) (y ∷ m) u v c d =
-    let e : x ≡ y = sym (c .0) ∙ d .0 in
-    let r : l ≡ m = stands-same p h (load p h x) l m (λ z i. u z (inr i)) (λ z i. v z (inr i)) (c .1)
-    (subst (λ (z : ℕ). chainStands p h (load p h z) m) (sym e) (d .1)) in
-    rw (e, r)
-
--- the walk of whole cells along the links meets the chain that stands, where it may go far enough
-pub chainFrom-stands : (k : ℕ) (p : Params) (h : List ℕ) (b s a : ℕ) (l : List ℕ) → 0 < start p b → length l ≤ k
-    → ((x : ℕ) → In x l → isCell p b s x ≡ true) → chainStands p h a l → chainFrom k p h b s a ≡ l
-unfolding chainFrom chainStands In
-chainFrom-stands zero p h b s a [] z f w c = refl
-chainFrom-stands zero p h b s a (x ∷ l) z f w c = absurd (not-suc-le-zero f)
-chainFrom-stands (suc k) p h b s a [] z f w c = rw (c, no-cell p b s z)
-chainFrom-stands (suc k) p h b s a (x ∷ l) z f w c =
-    let r : chainFrom k p h b s (load p h x) ≡ l = chainFrom-stands k p h b s (load p h x) l z (omega arith) (λ y i. w y (inr i)) (c .1) in
-    rw (c .0, w x (inl refl), r)
 
 -- the chain of a block with these cells is placed in a heap of the right length
 pub whole-placed : (p : Params) (h : List ℕ) (b s : ℕ) (l : List ℕ) → Bounds p → length h ≡ heapBytes p → b < p .blocks

@@ -15,9 +15,10 @@ use Rattle.model.specs.Params.{powerOfTwo}
 use Rattle.model.specs.SizeClasses.{fours, classWords, cellBytes, wordsIn, binOf, raised, shift, alignAllocation}
 use Rattle.model.specs.Calls.{goodRequest, tooBig}
 use Rattle.model.specs.Census.{censusParams}
-use Rattle.model.specs.Cases.{leastClass, classesRight, classes-hold}
-use Rattle.laws.specs.Below.{and-left, and-right, and-three, and-four, or-cases, allBelow-at, anyBelow-at, test}
-use Rattle.laws.specs.Good.{Good, each-power}
+use Rattle.model.specs.Cases.{leastClass, classesRight}
+use Rattle.model.proofs.Computed.{classes-hold}
+use Rattle.laws.proofs.Below.{and-left, and-right, and-three, and-four, or-cases, allBelow-at, anyBelow-at, test}
+use Rattle.laws.proofs.Good.{Good, each-power}
 
 -- ---- cells of a bin
 
@@ -106,10 +107,6 @@ binOf-words p q size h =
 pub binOf-zero : (p : Params) → binOf p 0 ≡ 1
 unfolding binOf wordsIn
 binOf-zero p = refl
-
-pub binOf-past : (p : Params) (size : ℕ) → 65536 < size → binOf p size ≡ 0
-unfolding binOf
-binOf-past p size h = rw (lt-ltb 65536 size h)
 
 -- what the table says of one count of words
 abbrev Least : Params → ℕ → ℕ → Type 0
@@ -262,10 +259,6 @@ module _ (region align offset : ℕ) (pos : 0 < align) where
   rest-low : rest < align
   unfolding rest
   rest-low = mod-lt (region + offset) pos
-
-  pub shift-low : shift region align offset < align
-  unfolding shift
-  shift-low = mod-lt (align - (region + offset) % align) pos
 
   -- by what is left of the region and the offset: nothing, or something
   shift-none : rest ≡ 0 → shift region align offset ≡ 0

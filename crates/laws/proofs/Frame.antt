@@ -14,9 +14,9 @@ use Rattle.model.specs.declared.Params.{Params}
 use Rattle.model.specs.Base.{if_then_else_, eachBelow}
 use Rattle.model.specs.Params.{start, blockAt, listWord}
 use Rattle.model.specs.Tables.{Words, setFirst, setLast, setNext, setPrev, setList}
-use Rattle.laws.specs.Tables.{lengths, lengths-setFirst, lengths-setLast, lengths-setNext, lengths-setPrev, lengths-setList}
+use Rattle.laws.proofs.Tables.{lengths, lengths-setFirst, lengths-setLast, lengths-setNext, lengths-setPrev, lengths-setList}
 use Rattle.model.specs.BlockList.{push, popHead, pop, Popped, popped, remove, removeBetween, relabel, link, append}
-use Rattle.laws.specs.BlockList.{pushOnly, pushAhead, popAt, popOnly, popAhead}
+use Rattle.laws.proofs.BlockList.{pushOnly, pushAhead, popAt, popOnly, popAhead}
 
 -- what list operations leave
 pub record LinksOnly (t t′ : Words) : Type 0 where
@@ -30,18 +30,6 @@ pub record LinksOnly (t t′ : Words) : Type 0 where
 
 pub links-refl : (t : Words) → LinksOnly t t
 links-refl t = record { phase = refl; bound = refl; released = refl; free = refl; size = refl; tls = refl; lengths = refl }
-
-pub links-trans : {t t′ t″ : Words} → LinksOnly t t′ → LinksOnly t′ t″ → LinksOnly t t″
-links-trans a b =
-    record {
-      phase = b .phase ∙ a .phase;
-      bound = b .bound ∙ a .bound;
-      released = b .released ∙ a .released;
-      free = b .free ∙ a .free;
-      size = b .size ∙ a .size;
-      tls = b .tls ∙ a .tls;
-      lengths = b .lengths ∙ a .lengths;
-    }
 
 -- one link or list word stored
 pub first-links : {t u : Words} (i v : ℕ) → LinksOnly t u → LinksOnly t (setFirst i v u)

@@ -11,7 +11,7 @@ use Rattle.model.specs.declared.Params.{Params}
 use Rattle.model.specs.Base.{allBelow, anyBelow}
 use lib.ListN.{length}
 use Rattle.model.specs.Params.{goodParams, Lent, fits, wordCount, powerOfTwo, lowerOk, heapEnd, heapBytes}
-use Rattle.laws.specs.Below.{and-left, and-right, and-first, and-second, and-three, and-four, and-both, or-cases, or-left, or-right, allBelow-at, anyBelow-at, anyBelow-from, any-miss, same-test}
+use Rattle.laws.proofs.Below.{and-left, and-right, and-first, and-second, and-three, and-four, and-both, or-cases, or-left, or-right, allBelow-at, anyBelow-at, anyBelow-from, any-miss, same-test}
 use lib.IntN.{natAbs}
 
 pub record Good (p : Params) : Type 0 where
@@ -53,10 +53,6 @@ min-cases : (p : Params) → min-part p ≡ true → (p .min ≡ 4) ⊎ (p .min 
 min-cases p e =
     ⊎-elim (λ h. inl (eqb-true _ _ h)) (λ h. inr (eqb-true _ _ h)) (or-cases (eqb (p .min) 4) (eqb (p .min) 8) e)
 
-min-from : (p : Params) → (p .min ≡ 4) ⊎ (p .min ≡ 8) → min-part p ≡ true
-min-from p h =
-    ⊎-elim (λ q. or-left (eqb (p .min) 8) (eq-eqb _ _ q)) (λ q. or-right (eqb (p .min) 4) (eq-eqb _ _ q)) h
-
 pub good : (p : Params) → goodParams p ≡ true → Good p
 unfolding goodParams
 good p e =
@@ -81,17 +77,6 @@ good p e =
       base-whole = eqb-true _ _ (base .1);
       end-low = leb-true _ _ (base .2);
     }
-
-pub good-from : (p : Params) → Good p → goodParams p ≡ true
-unfolding goodParams
-good-from p g =
-    and-both (and-both (and-both (and-both (and-both
-    (min-from p (g .min-is))
-    (and-both (and-both (g .max-power) (le-leb _ _ (g .min-max))) (le-leb _ _ (g .max-low))))
-    (and-both (g .lower-ok) (g .unified-zero)))
-    (and-both (and-both (g .bytes-power) (le-leb _ _ (g .bytes-from))) (le-leb _ _ (g .bytes-to))))
-    (and-both (le-leb _ _ (g .blocks-from)) (le-leb _ _ (g .blocks-to))))
-    (and-both (and-both (lt-ltb _ _ (g .base-pos)) (eq-eqb _ _ (g .base-whole))) (le-leb _ _ (g .end-low)))
 
 -- ---- powers of two
 
@@ -231,13 +216,3 @@ module _ (p : Params) (words states marks heap : ℕ) where
       unfolding wordCount heapBytes
       lengths-heap m =
           rw (eq-eqb words (2958 + 6 * p .blocks) e, eq-eqb states (p .blocks) f, eq-eqb marks (p .blocks * p .bytes / 64) m)
-
--- with good parameters they are `fits`
-pub fits-lengths : (p : Params) → goodParams p ≡ true → (l : Lent) →
-    fits p l ≡ (eqb (length (l .words)) (wordCount p) && eqb (length (l .states)) (p .blocks) && eqb (length (l .marks)) (heapBytes p / 64) && eqb (length (l .heap)) (heapBytes p))
-unfolding fits
-fits-lengths p e l = rw e
-
-pub fits-not : (p : Params) → goodParams p ≡ false → (l : Lent) → fits p l ≡ false
-unfolding fits
-fits-not p e l = rw e

@@ -12,9 +12,9 @@ use Rattle.model.specs.Params.{goodParams, Lent, fits, wordCount, heapBytes}
 use Rattle.model.specs.Tables.{Words, Tables, tablesOf}
 use Rattle.model.specs.Global.{freshTables}
 use Rattle.model.specs.Calls.{Reply, answered, refusalNumber, Call, step, Result, tablesIn, lentOf, resultFrom, badSetup, call, setUp}
-use Rattle.laws.specs.Base.{if-true, if-false}
-use Rattle.laws.specs.Below.{and-both, and-five}
-use Rattle.laws.specs.Tables.{Sized, view-flat, length-flat}
+use Rattle.laws.proofs.Base.{if-true, if-false}
+use Rattle.laws.proofs.Below.{and-both, and-five}
+use Rattle.laws.proofs.Tables.{Sized, view-flat, length-flat}
 
 -- what `fits` says of the parameters and the heap
 pub fits-parts : (p : Params) (l : Lent) → fits p l ≡ true → (goodParams p ≡ true) × (length (l .heap) ≡ heapBytes p)

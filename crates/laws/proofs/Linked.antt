@@ -16,9 +16,9 @@ use Rattle.model.specs.Params.{blockAt, isStart, start, listWord}
 use Rattle.model.specs.Tables.{Tables}
 use Rattle.model.specs.BlockList.{walk, blocksOn}
 use Rattle.model.specs.Sound.{stateOf, listNamed, onListNamed, linkedFrom, linked}
-use Rattle.laws.specs.Below.{true-not-false, and-left, and-right, and-three, and-both, or-cases, test}
-use Rattle.laws.specs.Params.{Bounds, blockAt-isStart, start-blockAt}
-use Rattle.laws.specs.Pigeon.{sum-same, sum-swap, sum-one, sum-zero, flag-one, flag-none, Distinct, Under, members-count}
+use Rattle.laws.proofs.Below.{true-not-false, and-left, and-right, and-three, and-both, or-cases, test}
+use Rattle.laws.proofs.Params.{Bounds, blockAt-isStart, start-blockAt}
+use Rattle.laws.proofs.Pigeon.{sum-same, sum-swap, sum-one, sum-zero, flag-one, flag-none, Distinct, Under, members-count}
 
 -- ---- one block of a walk
 

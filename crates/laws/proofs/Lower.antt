@@ -11,7 +11,7 @@ use mir.Syntax.{w64}
 use mir.Val.{ofZ}
 use borrow.Author.Tests.{ltb-true, ltb-false, eq-eqb, ne-eqb, le-leb, lt-leb}
 use Rattle.model.specs.Params.{lowerOk}
-use Rattle.laws.specs.Below.{true-not-false, and-second}
+use Rattle.laws.proofs.Below.{true-not-false, and-second}
 
 pub lower-under : (l : ℤ) → ltZ l (negsuc 63) ≡ true → lowerOk l ≡ false
 unfolding lowerOk

@@ -15,9 +15,9 @@ use Rattle.model.specs.declared.Params.{Params}
 use Rattle.model.specs.Base.{allBelow}
 use Rattle.model.specs.Params.{inHeap, heapBytes}
 use Rattle.model.specs.Memory.{bitOf, setBit, markIndex, marked, setMark, cleared}
-use Rattle.laws.specs.Base.{all-below, and-left, and-right, bool-cases, not-both}
-use Rattle.laws.specs.Params.{Bounds, mod-through, inHeap-low, inHeap-high}
-use Rattle.laws.specs.Memory.{Bytes, getD-zeros, bytes-zeros}
+use Rattle.laws.proofs.Base.{all-below, and-left, and-right, bool-cases, not-both}
+use Rattle.laws.proofs.Params.{Bounds, mod-through, inHeap-low, inHeap-high}
+use Rattle.laws.proofs.Memory.{Bytes, getD-zeros, bytes-zeros}
 
 -- ---- one bit of a byte
 
@@ -99,10 +99,6 @@ pub marked-inside : (p : Params) (ms : List ℕ) (a : ℕ) {i : ℕ} {t : Bool} 
     → t ≡ bitOf (getD ms (i / 8 / 8) 0) (i / 8 % 8) → t ≡ marked p ms a
 unfolding marked markIndex
 marked-inside p ms a e o b = rw (e, ← o) b
-
-pub marked-in : (p : Params) (ms : List ℕ) (a : ℕ) → marked p ms a ≡ true → inHeap p a ≡ true
-unfolding marked
-marked-in p ms a e = and-left (inHeap p a) (bitOf (getD ms (markIndex p a / 8) 0) (markIndex p a % 8)) e
 
 pub marked-cleared : (p : Params) (ms : List ℕ) (a : ℕ) → marked p (cleared ms) a ≡ false
 unfolding marked cleared

@@ -98,10 +98,6 @@ getD-zeros (suc n) (suc i) = getD-zeros n i
 abbrev pub Apart : ℕ → ℕ → ℕ → ℕ → Type 0
 Apart i n j m = (i + n ≤ j) ⊎ (j + m ≤ i)
 
-pub apart-sym : (i n j m : ℕ) → Apart i n j m → Apart j m i n
-apart-sym i n j m (inl a) = inr a
-apart-sym i n j m (inr a) = inl a
-
 -- parts of ranges that do not meet do not meet
 pub apart-in : (i n j m i′ n′ j′ m′ : ℕ) → Apart i n j m → i ≤ i′ → i′ + n′ ≤ i + n → j ≤ j′ → j′ + m′ ≤ j + m → Apart i′ n′ j′ m′
 apart-in i n j m i′ n′ j′ m′ (inl a) b c d e = inl (omega arith)
@@ -116,14 +112,8 @@ apart-places base a n b m la lb (inr x) = inr (omega arith)
 abbrev pub Same : List ℕ → List ℕ → ℕ → ℕ → Type 0
 Same h h′ i n = (k : ℕ) → i ≤ k → k < i + n → getD h k 0 ≡ getD h′ k 0
 
-pub same-sym : (h h′ : List ℕ) (i n : ℕ) → Same h h′ i n → Same h′ h i n
-same-sym h h′ i n s k lo hi = sym (s k lo hi)
-
 pub same-trans : (h h′ h″ : List ℕ) (i n : ℕ) → Same h h′ i n → Same h′ h″ i n → Same h h″ i n
 same-trans h h′ h″ i n s t k lo hi = s k lo hi ∙ t k lo hi
-
-pub same-in : (h h′ : List ℕ) (i n i′ n′ : ℕ) → i ≤ i′ → i′ + n′ ≤ i + n → Same h h′ i n → Same h h′ i′ n′
-same-in h h′ i n i′ n′ a b s k lo hi = s k (omega arith) (omega arith)
 
 -- a write leaves a range that it does not meet
 pub same-overwrite : (i : ℕ) (vs h : List ℕ) (j m : ℕ) → Apart i (length vs) j m → Same h (overwrite i vs h) j m
@@ -287,30 +277,8 @@ zeros-end (suc k) o h l = absurd (not-suc-le-zero l)
 abbrev pub Bytes : List ℕ → Type 0
 Bytes h = (i : ℕ) → getD h i 0 < 256
 
-pub bytes-bytesOf : (n v : ℕ) → Bytes (bytesOf n v)
-unfolding bytesOf
-bytes-bytesOf zero v i = omega arith
-bytes-bytesOf (suc n) v zero = mod-lt v (omega arith)
-bytes-bytesOf (suc n) v (suc i) = bytes-bytesOf n (v / 256) i
-
 pub bytes-zeros : (n : ℕ) → Bytes (replicate n 0)
 bytes-zeros n i = rw getD-zeros (omega arith)
-
-pub bytes-overwrite : (i : ℕ) (vs h : List ℕ) → Bytes vs → Bytes h → Bytes (overwrite i vs h)
-unfolding overwrite
-bytes-overwrite i vs [] bv bh k = bh k
-bytes-overwrite zero [] (x ∷ h) bv bh k = bh k
-bytes-overwrite zero (v ∷ vs) (x ∷ h) bv bh zero = bv 0
-bytes-overwrite zero (v ∷ vs) (x ∷ h) bv bh (suc k) = bytes-overwrite zero vs h (λ j. bv (suc j)) (λ j. bh (suc j)) k
-bytes-overwrite (suc i) vs (x ∷ h) bv bh zero = bh 0
-bytes-overwrite (suc i) vs (x ∷ h) bv bh (suc k) = bytes-overwrite i vs h bv (λ j. bh (suc j)) k
-
-pub loadBytes-lt : (n : ℕ) (h : List ℕ) (i : ℕ) → Bytes h → loadBytes n h i < 256 ^ n
-unfolding loadBytes
-loadBytes-lt zero h i b = omega arith
-loadBytes-lt (suc n) h i b =
-    let r : loadBytes n h (i + 1) < 256 ^ n = loadBytes-lt n h (i + 1) b in
-    rw pow-suc (omega (arith, b i))
 
 -- ---- the heap, by addresses
 
@@ -335,18 +303,6 @@ module _ (p : Params) (h : List ℕ) (a : ℕ) where
       same-overwrite (a - p .base) (replicate n 0) h j m
       (subst (λ (k : ℕ). Apart (a - p .base) k j m) (sym (length-replicate n 0)) w)
 
-  pub bytes-store : (v : ℕ) → Bytes h → Bytes (store p h a v)
-  unfolding store
-  bytes-store v b = bytes-overwrite (a - p .base) (bytesOf 8 v) h (bytes-bytesOf 8 v) b
-
-  pub bytes-zeroed : (n : ℕ) → Bytes h → Bytes (zeroed p h a n)
-  unfolding zeroed
-  bytes-zeroed n b = bytes-overwrite (a - p .base) (replicate n 0) h (bytes-zeros n) b
-
-  pub load-lt : Bytes h → load p h a < 2 ^ 64
-  unfolding load
-  load-lt b = loadBytes-lt 8 h (a - p .base) b
-
   pub load-store : (v : ℕ) → (a - p .base) + 8 ≤ length h → v < 2 ^ 64 → load p (store p h a v) a ≡ v
   unfolding load store
   load-store v f lt = loadBytes-overwrite 8 v h (a - p .base) lt f
@@ -359,14 +315,3 @@ module _ (p : Params) (h : List ℕ) (a : ℕ) where
 pub load-same : (p : Params) (h h′ : List ℕ) (a : ℕ) → Same h h′ (a - p .base) 8 → load p h a ≡ load p h′ a
 unfolding load
 load-same p h h′ a s = loadBytes-same 8 h h′ (a - p .base) s
-
--- a word read past a write elsewhere
-pub load-store-apart : (p : Params) (h : List ℕ) (a v b : ℕ) → p .base ≤ a → p .base ≤ b → Apart a 8 b 8
-    → load p (store p h a v) b ≡ load p h b
-load-store-apart p h a v b la lb w =
-    sym (load-same p h (store p h a v) b (same-store p h a v (b - p .base) 8 (apart-places (p .base) a 8 b 8 la lb w)))
-
-pub load-zeroed-apart : (p : Params) (h : List ℕ) (a n b : ℕ) → p .base ≤ a → p .base ≤ b → Apart a n b 8
-    → load p (zeroed p h a n) b ≡ load p h b
-load-zeroed-apart p h a n b la lb w =
-    sym (load-same p h (zeroed p h a n) b (same-zeroed p h a n (b - p .base) 8 (apart-places (p .base) a n b 8 la lb w)))

@@ -13,8 +13,8 @@ use Rattle.model.specs.declared.Params.{Params}
 use Rattle.model.specs.Base.{allBelow}
 use Rattle.model.specs.Params.{powerOfTwo, lowerOk, biased, heapBytes, heapEnd, goodParams, start, blockAt, inHeap, isStart, listWord}
 use Rattle.model.specs.Block.{simple}
-use Rattle.laws.specs.Below.{true-not-false, and-left, and-right, and-three, and-both, and-first, and-second, or-cases}
-use Rattle.laws.specs.Good.{Good, good, each-power}
+use Rattle.laws.proofs.Below.{true-not-false, and-left, and-right, and-three, and-both, and-first, and-second, or-cases}
+use Rattle.laws.proofs.Good.{Good, good, each-power}
 
 -- a power of two from 4,096 on is whole pages: all the powers, by one computed test
 whole-pages : ℕ → Bool
@@ -120,11 +120,6 @@ bounds p g =
 
 pub good-bounds : (p : Params) → goodParams p ≡ true → Bounds p
 good-bounds p e = bounds p (good p e)
-
--- where the simple sweep is chosen, L is 0
-pub simple-lower : (p : Params) → Bounds p → simple p ≡ true → biased (p .lower) ≡ 64
-unfolding simple
-simple-lower p g e = g .lower-unified (and-three (not (p .offsets)) (eqb (p .min) (p .max)) (p .unified) e .2)
 
 -- ---- where blocks stand: the cases of each test
 

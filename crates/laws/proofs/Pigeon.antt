@@ -13,7 +13,7 @@ use lib.Dec.{eqb}
 use lib.ListN.{length}
 use borrow.Author.Tests.{eqb-true, eq-eqb, ne-eqb}
 use Rattle.model.specs.Base.{member, sumBelow, flag}
-use Rattle.laws.specs.Below.{test}
+use Rattle.laws.proofs.Below.{test}
 
 -- ---- sums
 

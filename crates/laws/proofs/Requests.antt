@@ -13,7 +13,7 @@ use Rattle.model.specs.declared.Params.{Params}
 use Rattle.model.specs.Params.{powerOfTwo}
 use Rattle.model.specs.SizeClasses.{wordsIn, highestBit, binInOctave, binOf, raised, shift, alignAllocation}
 use Rattle.model.specs.Calls.{goodRequest, tooBig}
-use Rattle.laws.specs.Below.{test}
+use Rattle.laws.proofs.Below.{test}
 
 -- ---- bins
 

@@ -13,7 +13,7 @@ use lib.Seq.{set-out, set-getD, getD-take, getD-drop, getD-set-same, take-set-le
 use borrow.Author.Tests.{lt-ltb, le-ltb, ltb-true, ltb-false}
 use Rattle.model.specs.Base.{if_then_else_}
 use Rattle.model.specs.Tables.{Words, part, blocksIn, blockTable, view, flat, putIn, putFirst, putLast, putBound, putReleased, putNext, putPrev, putFree, putSize, putList, putTls, putPhase, setFirst, setLast, setBound, setReleased, setNext, setPrev, setFree, setSize, setList, setTls, setPhase}
-use Rattle.laws.specs.Memory.{getD-zeros}
+use Rattle.laws.proofs.Memory.{getD-zeros}
 
 -- the two cases of a test
 pub by-lt : {P : Type 0} (i k : ℕ) → (i < k → P) → (k ≤ i → P) → P

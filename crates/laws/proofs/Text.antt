@@ -15,15 +15,11 @@ use lib.Seq.{drop-cons, drop-drop}
 use Rattle.model.specs.Base.{if_then_else_, allBelow}
 use Rattle.model.specs.Memory.{overwrite}
 use Rattle.model.specs.Census.{newline, before, pieces, dropBlankEnd, isDigit}
-use Rattle.laws.specs.Below.{allBelow-at, allBelow-from, same-test, and-both, and-left, and-right, test}
-use Rattle.laws.specs.Memory.{length-overwrite, overwrite-out, overwrite-nil, overwrite-set}
+use Rattle.laws.proofs.Below.{allBelow-at, allBelow-from, same-test, and-both, and-left, and-right, test}
+use Rattle.laws.proofs.Memory.{length-overwrite, overwrite-out, overwrite-nil, overwrite-set}
+use Rattle.model.specs.Text.{until, pieceEnd, linesFrom, placeAfter, Printed}
 
 -- ---- pieces
-
--- how many bytes stand before the first separator, or before the end
-unfoldable pub until : ℕ → List ℕ → ℕ
-until sep [] = 0
-until sep (c ∷ cs) = if eqb c sep then 0 else suc (until sep cs)
 
 pub until-le : (sep : ℕ) (cs : List ℕ) → until sep cs ≤ length cs
 unfolding until
@@ -56,9 +52,6 @@ pieces-step sep (c ∷ cs) = go (eqb c sep) (pieces-step sep cs)
     go false e = rw (e, ltb-suc (until sep cs) (length cs))
 
 -- ---- pieces by places: the first byte of a piece, and the place behind its last
-
-unfoldable pub pieceEnd : ℕ → List ℕ → ℕ → ℕ
-pieceEnd sep s at = at + until sep (drop at s)
 
 module _ (sep : ℕ) (s : List ℕ) (at : ℕ) where
   pub end-out : length s ≤ at → at ≡ pieceEnd sep s at
@@ -124,9 +117,6 @@ module _ (sep : ℕ) (s : List ℕ) (at : ℕ) where
   more-end l = rw (le-ltb at (length s) l)
 
 -- ---- the lines of a trace from a place on
-
-unfoldable pub linesFrom : List ℕ → ℕ → List (List ℕ)
-linesFrom s at = dropBlankEnd (pieces newline (drop at s))
 
 blank-end-cons : (x : List ℕ) (sep : ℕ) (cs : List ℕ) → dropBlankEnd (x ∷ pieces sep cs) ≡ x ∷ dropBlankEnd (pieces sep cs)
 unfolding dropBlankEnd
@@ -201,18 +191,9 @@ overwrite-append (suc i) xs ys (x ∷ h) =
     let e : suc i + length xs ≡ suc (i + length xs) = omega arith in
     rw e (ap (λ (k : List ℕ). x ∷ k) (overwrite-append i xs ys h))
 
--- the place behind n bytes written at a place: it stops at the end
-unfoldable pub placeAfter : ℕ → ℕ → ℕ → ℕ
-placeAfter len at n = max at (min (at + n) len)
-
 pub place-add : (len at n m : ℕ) → placeAfter len (placeAfter len at n) m ≡ placeAfter len at (n + m)
 unfolding placeAfter
 place-add len at n m = omega arith
-
--- what it means that a text was printed: the buffer before and after, the place before and after
-pub record Printed (h h′ : List ℕ) (at at′ : ℕ) (text : List ℕ) : Type 0 where
-  pub bytes : h′ ≡ overwrite at text h
-  pub place : at′ ≡ placeAfter (length h) at (length text)
 
 pub printed-nil : (h : List ℕ) (at : ℕ) → Printed h h at at []
 unfolding placeAfter

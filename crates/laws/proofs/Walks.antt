@@ -19,8 +19,8 @@ use Rattle.model.specs.Block.{Unallocated, Unmarked, sweptWords, clearBlock}
 use Rattle.model.specs.Events.{Event, released}
 use Rattle.model.specs.FreeListAllocator.{findFreeBlockWith, Found, found, sweepOf, andThen, recycleLocalBlocks, acquireAbandoned, Search, inFound, acquireFresh, findBlock}
 use Rattle.model.specs.Global.{abandonBin, abandonBlocks, Freed, releaseFrom, releaseBlocks, appendTo, releaseBin, sweepLaterBin}
-use Rattle.laws.specs.Base.{if-cases, bool-cases}
-use Rattle.laws.specs.Frame.{each-keeps}
+use Rattle.laws.proofs.Base.{if-cases, bool-cases}
+use Rattle.laws.proofs.Frame.{each-keeps}
 
 -- ---- list numbers
 

@@ -9,11 +9,13 @@ use lib.Dec.{ltb}
 use lib.ListN.{length, take}
 use borrow.Author.Tests.{ltb-true, ltb-false, lt-ltb, le-ltb}
 use Rattle.model.specs.Census.{newline, unread}
-use Rattle.laws.specs.Below.{test}
-use Rattle.laws.specs.Text.{pieceEnd, linesFrom, lines-end}
+use Rattle.laws.proofs.Below.{test}
+use Rattle.model.specs.Text.{pieceEnd, linesFrom}
+use Rattle.laws.proofs.Text.{lines-end}
 use Rattle.listing.specs.declared.NextLine.{NextLine}
 use Rattle.listing.specs.declared.NextLine.the-variants.{Line, End}
-use Rattle.listing.specs.Lines.{nextLine, next-more, next-last, next-step, next-over}
+use Rattle.listing.specs.Lines.{nextLine}
+use Rattle.listing.proofs.LinesLaws.{next-more, next-last, next-step, next-over}
 
 -- where something follows, a line begins
 lines-some : (s : List ℕ) (at : ℕ) → at < length s → 0 < length (linesFrom s at)

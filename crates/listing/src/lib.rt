@@ -2,10 +2,10 @@
 // model's Census.
 use model::Offer;
 
+mod line_words;
 pub mod lines;
 mod numbers;
 pub mod print;
-mod words;
 
 // What a word says: a number, or nothing that is one.
 pub enum Number {

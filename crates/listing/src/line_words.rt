@@ -3,7 +3,7 @@ ghost use mathlib.Core.Path.{_≡_};
 ghost use mathlib.Core.List.{[]};
 ghost use lib.ListN.{length, getD};
 ghost use Rattle.model.specs.Census.{pieces, space};
-ghost use Rattle.laws.specs.Text.{pieceEnd};
+ghost use Rattle.model.specs.Text.{pieceEnd};
 ghost use Rattle.listing.specs.Words.{WordStart};
 ghost use Rattle.listing.specs.Line.{letterOf};
 

@@ -3,15 +3,15 @@ use crate::Line;
 use crate::NextLine;
 use crate::Number;
 use crate::Offered;
+use crate::line_words;
 use crate::numbers;
-use crate::words;
 use model::Block;
 use model::Offer;
 ghost use mathlib.Core.Path.{_≡_};
 ghost use mathlib.Core.List.{[]};
 ghost use lib.Dec.{ltb};
 ghost use lib.ListN.{length, getD, take};
-ghost use Rattle.laws.specs.Text.{linesFrom};
+ghost use Rattle.model.specs.Text.{linesFrom};
 ghost use Rattle.model.specs.Calls.{bind, destroy, release, prepare, sharedRelease};
 ghost use Rattle.model.specs.Census.{pieces, space, lineOf, unread};
 ghost use Rattle.listing.specs.Number.{numberOf};
@@ -36,7 +36,7 @@ pub fn next_line(s: &[u8], at: usize) -> NextLine
     if len <= at {
         return NextLine::End;
     }
-    let to = words::piece_end(s, 10, at);
+    let to = line_words::piece_end(s, 10, at);
     if to < len {
         return NextLine::Line {
             from: at,
@@ -85,14 +85,14 @@ pub fn unread(s: &[u8]) -> bool
 fn number_at(s: &[u8], k: usize) -> Number
     ensures { λ r. ⌜ r ≡ numberOf (getD (wordsOf (now (s .entry))) k []) ⌝ }
 {
-    numbers::parse(words::word(s, k))
+    numbers::parse(line_words::word(s, k))
 }
 
 // The number of a line of two words.
 fn one_number(s: &[u8]) -> Number
     ensures { λ r. ⌜ r ≡ oneNumber (wordsOf (now (s .entry))) ⌝ }
 {
-    if words::count(s) == 2 {
+    if line_words::count(s) == 2 {
         return number_at(s, 1);
     }
     Number::None
@@ -128,7 +128,7 @@ fn ask_release(s: &[u8]) -> Line
 fn ask_mark(s: &[u8]) -> Line
     ensures { λ r. ⌜ lineFor r ≡ markAsked (wordsOf (now (s .entry))) ⌝ }
 {
-    if words::count(s) != 3 {
+    if line_words::count(s) != 3 {
         return Line::Bad;
     }
     let Number::Value(place) = number_at(s, 1) else {
@@ -143,7 +143,7 @@ fn ask_mark(s: &[u8]) -> Line
 fn ask_prepare(s: &[u8]) -> Line
     ensures { λ r. ⌜ lineFor r ≡ asked 1 (wordsOf (now (s .entry))) prepare ⌝ }
 {
-    if words::count(s) == 1 {
+    if line_words::count(s) == 1 {
         return Line::Prepare;
     }
     Line::Bad
@@ -152,7 +152,7 @@ fn ask_prepare(s: &[u8]) -> Line
 fn ask_shared(s: &[u8]) -> Line
     ensures { λ r. ⌜ lineFor r ≡ asked 1 (wordsOf (now (s .entry))) sharedRelease ⌝ }
 {
-    if words::count(s) == 1 {
+    if line_words::count(s) == 1 {
         return Line::Shared;
     }
     Line::Bad
@@ -162,7 +162,7 @@ fn ask_shared(s: &[u8]) -> Line
 fn offer(w: &[u8]) -> Offered
     ensures { λ r. ⌜ r ≡ offered (now (w .entry)) ⌝ }
 {
-    if words::letter(w) == 45 {
+    if line_words::letter(w) == 45 {
         return Offered::Offer(Offer::Nothing);
     }
     let Number::Value(b) = numbers::parse(w) else {
@@ -174,7 +174,7 @@ fn offer(w: &[u8]) -> Offered
 fn ask_alloc(s: &[u8]) -> Line
     ensures { λ r. ⌜ lineFor r ≡ allocAsked (wordsOf (now (s .entry))) ⌝ }
 {
-    if words::count(s) != 6 {
+    if line_words::count(s) != 6 {
         return Line::Bad;
     }
     let Number::Value(holder) = number_at(s, 1) else {
@@ -189,7 +189,7 @@ fn ask_alloc(s: &[u8]) -> Line
     let Number::Value(offset) = number_at(s, 4) else {
         return Line::Bad;
     };
-    let Offered::Offer(offer) = offer(words::word(s, 5)) else {
+    let Offered::Offer(offer) = offer(line_words::word(s, 5)) else {
         return Line::Bad;
     };
     Line::Alloc {
@@ -205,7 +205,7 @@ fn ask_alloc(s: &[u8]) -> Line
 pub fn parse(s: &[u8]) -> Line
     ensures { λ r. ⌜ lineFor r ≡ lineOf (pieces space (now (s .entry))) ⌝ }
 {
-    match words::letter(words::word(s, 0)) {
+    match line_words::letter(line_words::word(s, 0)) {
         98 => ask_bind(s),
         100 => ask_destroy(s),
         97 => ask_alloc(s),

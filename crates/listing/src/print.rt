@@ -5,7 +5,7 @@ ghost use mathlib.Core.Path.{_≡_};
 ghost use Prim.Native.Nat.{_+_, _<_, min};
 ghost use lib.ListN.{getD};
 ghost use Rattle.model.specs.Census.{digits, decimal, spaced, section, letter};
-ghost use Rattle.laws.specs.Text.{Printed};
+ghost use Rattle.model.specs.Text.{Printed};
 ghost use Rattle.listing.specs.Print.{refusedRows};
 
 fn byte(out: &mut [u8], at: usize, b: u8) -> usize

@@ -1,27 +1,23 @@
 -- "Marked for proof" and "Limits": one computed table and one theorem. And 01's example trace, computed on the machine.
 use Prim.Native.Nat.{ℕ, suc, _-_, _*_}
-use mathlib.Core.Path.{_≡_, refl}
 use mathlib.Core.Bool.{Bool, true, false, _&&_, _||_}
-use mathlib.Core.List.{List, [], _∷_, headD, flatten, flatMap}
-use lib.Count.{leadingZeros}
+use mathlib.Core.List.{List, [], _∷_}
 use lib.Dec.{eqb, ltb, leb}
 use lib.IntN.{pos}
 use lib.ListN.{replicate}
 use Rattle.model.specs.declared.Params.{Params}
 use Rattle.model.specs.declared.Offer.the-variants.{Fresh}
-use Rattle.model.specs.Base.{allBelow, anyBelow, member, filter, eachBelow, flag}
-use Rattle.model.specs.Params.{Lent, powerOfTwo, lowerOk, biased, plusLower, minusLower, heapBytes, heapEnd, goodParams, wordCount, fits, start, blockAt, inHeap, isStart, listOf, listWord, localSets, available, unswept, consumed}
-use Rattle.model.specs.Memory.{loadBytes, bytesOf, overwrite, load, store, zeroed, bitOf, setBit, markIndex, marked, setMark, cleared}
-use Rattle.model.specs.Tables.{Words, view, flat, setFirst, setLast, setBound, setReleased, setNext, setPrev, setFree, setSize, setList, setTls, setPhase, withReleased}
-use Rattle.model.specs.SizeClasses.{fours, classWords, cellBytes, wordsIn, highestBit, binInOctave, binOf, raised, shift, alignAllocation}
-use Rattle.model.specs.BlockList.{push, popHead, pop, removeBetween, remove, relabel, link, append, walk, blocksOn}
-use Rattle.model.specs.Block.{cellCount, isCell, cellsDown, linkAll, initChain, initBlock, simple, keeps, sweepChain, sweptWords, clearBlock, chainFrom, freeChain}
-use Rattle.model.specs.Events.{eventHeap, eventsHeap, isSweep, isRelease, sweeps, releases}
-use Rattle.model.specs.FreeListAllocator.{findFreeBlockWith, recycleLocalBlocks, acquireAbandoned, acquireFresh, findBlock}
-use Rattle.model.specs.Global.{freshWords, freshTables, isHolder, isBound, bindHolder, abandonBin, abandonBlocks, destroyHolder, unmarkedState, prepared, markPlace, releaseFrom, releaseBlocks, appendTo, releaseBin, releaseHolder, sweepLaterBin, sweepLater, hasReleased, allReleased, partReleased}
-use Rattle.model.specs.Sound.{stateOf, stateKnown, blockClear, listNamed, binNamed, setNamed, onListNamed, sizeOk, linkOk, tlsOk, blockSound, linkedFrom, linked, ownerEmpty, unboundEmpty, inGcEmpty, phaseKnown, flagsKnown, releasedFew, releasedSome, releasedEmpty, sound}
-use Rattle.model.specs.Calls.{Reply, bind, alloc, refusalNumber, goodRequest, tooBig, goodOffer, goodObject, takePlan, planAlloc, mayRelease, releasePlan, planSound, plan, takeCell, finish, step, call, setUp}
-use Rattle.model.specs.Census.{before, pieces, dropBlankEnd, linesOf, isDigit, valueOf, isNumber, isWord, numbersTo, isLine, arg, isAlloc, offerOf, lineOf, censusParams, censusLent, lineResult, runLines, digits, decimal, spaced, section, refusedRow, upTo, occupied, letter, blockRow, freeRows, listing, census}
+use Rattle.model.specs.Base.{allBelow}
+use Rattle.model.specs.Params.{Lent, start}
+use Rattle.model.specs.Memory.{setMark}
+use Rattle.model.specs.Tables.{Words}
+use Rattle.model.specs.SizeClasses.{cellBytes, binOf, raised, shift}
+use Rattle.model.specs.BlockList.{push}
+use Rattle.model.specs.Block.{initChain, sweepChain}
+use Rattle.model.specs.Events.{releases}
+use Rattle.model.specs.Global.{freshWords, releaseFrom}
+use Rattle.model.specs.Calls.{bind, alloc, call, setUp}
+use Rattle.model.specs.Census.{before, censusParams, censusLent}
 
 -- what the definitions give, and what 01 says
 pub record Case : Type 0 where
@@ -97,16 +93,3 @@ same (x ∷ xs) (y ∷ ys) = eqb x y && same xs ys
 unfoldable pub allRight : List Case → Bool
 allRight [] = true
 allRight (c ∷ cs) = same (c .got) (c .want) && allRight cs
-
-pub cases-hold : allRight cases ≡ true
-unfolding cases allRight same firstAlloc leadingZeros allBelow anyBelow member filter eachBelow flag powerOfTwo lowerOk biased plusLower minusLower heapBytes heapEnd goodParams wordCount fits start blockAt inHeap isStart listOf listWord localSets available unswept consumed loadBytes bytesOf overwrite load store zeroed bitOf setBit markIndex marked setMark cleared view flat setFirst setLast setBound setReleased setNext setPrev setFree setSize setList setTls setPhase withReleased fours classWords cellBytes wordsIn highestBit binInOctave binOf raised shift alignAllocation push popHead pop headD removeBetween remove relabel link append walk blocksOn cellCount isCell cellsDown linkAll initChain initBlock simple keeps sweepChain sweptWords clearBlock chainFrom freeChain eventHeap eventsHeap isSweep isRelease sweeps releases findFreeBlockWith recycleLocalBlocks acquireAbandoned acquireFresh findBlock freshWords freshTables isHolder isBound bindHolder abandonBin abandonBlocks destroyHolder unmarkedState prepared markPlace releaseFrom releaseBlocks appendTo releaseBin releaseHolder sweepLaterBin sweepLater hasReleased allReleased partReleased stateOf stateKnown blockClear listNamed binNamed setNamed onListNamed sizeOk linkOk tlsOk blockSound linkedFrom linked ownerEmpty unboundEmpty inGcEmpty phaseKnown flagsKnown releasedFew releasedSome releasedEmpty sound refusalNumber goodRequest tooBig goodOffer goodObject takePlan planAlloc mayRelease releasePlan planSound plan takeCell finish step call setUp before pieces dropBlankEnd linesOf isDigit valueOf isNumber isWord numbersTo isLine arg isAlloc offerOf lineOf censusParams censusLent lineResult runLines digits decimal spaced section refusedRow upTo occupied letter blockRow freeRows flatten flatMap listing census
-cases-hold = refl
-
--- the whole rule of the classes, once over all counts of words
-pub classes-hold : classesRight ≡ true
-unfolding classesRight leastClass allBelow binOf cellBytes classWords fours wordsIn highestBit binInOctave leadingZeros
-classes-hold = refl
-
-pub example-holds : same (census exampleTrace) exampleListing ≡ true
-unfolding same exampleTrace exampleListing leadingZeros allBelow anyBelow member filter eachBelow flag powerOfTwo lowerOk biased plusLower minusLower heapBytes heapEnd goodParams wordCount fits start blockAt inHeap isStart listOf listWord localSets available unswept consumed loadBytes bytesOf overwrite load store zeroed bitOf setBit markIndex marked setMark cleared view flat setFirst setLast setBound setReleased setNext setPrev setFree setSize setList setTls setPhase withReleased fours classWords cellBytes wordsIn highestBit binInOctave binOf raised shift alignAllocation push popHead pop headD removeBetween remove relabel link append walk blocksOn cellCount isCell cellsDown linkAll initChain initBlock simple keeps sweepChain sweptWords clearBlock chainFrom freeChain eventHeap eventsHeap isSweep isRelease sweeps releases findFreeBlockWith recycleLocalBlocks acquireAbandoned acquireFresh findBlock freshWords freshTables isHolder isBound bindHolder abandonBin abandonBlocks destroyHolder unmarkedState prepared markPlace releaseFrom releaseBlocks appendTo releaseBin releaseHolder sweepLaterBin sweepLater hasReleased allReleased partReleased stateOf stateKnown blockClear listNamed binNamed setNamed onListNamed sizeOk linkOk tlsOk blockSound linkedFrom linked ownerEmpty unboundEmpty inGcEmpty phaseKnown flagsKnown releasedFew releasedSome releasedEmpty sound refusalNumber goodRequest tooBig goodOffer goodObject takePlan planAlloc mayRelease releasePlan planSound plan takeCell finish step call setUp before pieces dropBlankEnd linesOf isDigit valueOf isNumber isWord numbersTo isLine arg isAlloc offerOf lineOf censusParams censusLent lineResult runLines digits decimal spaced section refusedRow upTo occupied letter blockRow freeRows flatten flatMap listing census
-example-holds = refl

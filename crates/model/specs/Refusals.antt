@@ -3,7 +3,7 @@
 -- state bytes before and after.
 --
 -- Both are about `call` (Calls.antt), for all parameters, buffers and calls: that buffers fit and that tables are sound is
--- tested by the call itself and is no premise. `RefusalKeeps` and `ReleasedCounts` are proved in the crate soundness.
+-- tested by the call itself and is no premise. `RefusalKeeps`, `ReleasedCounts` and `NoBadTables` are proved in the crate soundness.
 use Prim.Native.Nat.{ℕ}
 use mathlib.Core.Path.{_≡_}
 use mathlib.Core.Logic.{_≢_, _⊎_}
@@ -12,15 +12,16 @@ use mathlib.Core.List.{List, [], _∷_}
 use lib.Dec.{eqb}
 use lib.ListN.{getD}
 use Rattle.model.specs.declared.Params.{Params}
-use Rattle.model.specs.declared.Refusal.the-variants.{BadLink, Exhausted}
-use Rattle.model.specs.Base.{flag, sumBelow}
+use Rattle.model.specs.declared.Refusal.the-variants.{BadTables, BadLink, Exhausted}
+use Rattle.model.specs.Base.{flag, sumBelow, In}
 use Rattle.model.specs.Params.{Lent, listWord, localSets, abandoned, available, unswept, consumed}
 use Rattle.model.specs.Memory.{load}
 use Rattle.model.specs.Tables.{Words, view}
 use Rattle.model.specs.SizeClasses.{binOf, raised}
 use Rattle.model.specs.Block.{Unallocated, sweepChain}
 use Rattle.model.specs.Sound.{linkOk}
-use Rattle.model.specs.Calls.{refusalNumber, Call, bind, destroy, alloc, prepare, mark, release, sharedRelease, Result, call, setUp, badSetup}
+use Rattle.model.specs.Calls.{refusalNumber, answered, Call, bind, destroy, alloc, prepare, mark, release, sharedRelease, Result, call, setUp, badSetup}
+use Rattle.model.specs.Runs.{Turn, begun, Seen, trace}
 
 -- the block b names the list l
 abbrev pub OnList : Words → ℕ → ℕ → Type 0
@@ -142,3 +143,11 @@ CountsReleased p l c =
 
 unfoldable pub ReleasedCounts : Type 0
 ReleasedCounts = (p : Params) (l : Lent) → ((h : ℕ) → CountsReleased p l (release h)) × CountsReleased p l sharedRelease
+
+-- ---- tables that set-up made stay sound
+
+-- After a set-up that was answered, no call of a run is refused BadTables, whatever is called and whatever is written into the heap
+unfoldable pub NoBadTables : Type 0
+NoBadTables =
+    (p : Params) (l : Lent) (us : List Turn) → setUp p l .reply ≡ answered []
+    → (x : Seen) → In x (trace p (begun p l) us) → x .reply .number ≢ refusalNumber BadTables

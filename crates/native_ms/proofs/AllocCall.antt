@@ -20,9 +20,9 @@ use Rattle.model.specs.FreeListAllocator.{findBlock}
 use Rattle.model.specs.Global.{isBound}
 use Rattle.model.specs.Sound.{stateOf}
 use Rattle.model.specs.Calls.{Reply, refused, Plan, refuses, goodRequest, tooBig, goodOffer, takePlan, planAlloc, planSound, plan, step, alloc, call}
-use Rattle.laws.specs.Params.{good-bounds}
-use Rattle.laws.specs.Tables.{words-flat, sized-view}
-use Rattle.laws.specs.Classes.{chosen, request, fits-raised}
+use Rattle.laws.proofs.Params.{good-bounds}
+use Rattle.laws.proofs.Tables.{words-flat, sized-view}
+use Rattle.laws.proofs.Classes.{chosen, request, fits-raised}
 use Rattle.native_ms.specs.declared.allocator.Raised.{Raised}
 use Rattle.native_ms.specs.declared.allocator.Raised.the-variants as Raise
 use Rattle.native_ms.specs.Raised.{raisedTo}

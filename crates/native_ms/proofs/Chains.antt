@@ -15,9 +15,9 @@ use Rattle.model.specs.Memory.{load, store, zeroed}
 use Rattle.model.specs.Tables.{Words, setNext, setPrev, setFree, setSize, setList, setTls}
 use Rattle.model.specs.Sound.{linkOk}
 use Rattle.model.specs.Block.{simple, cellCount, cellsDown, linkAll, keeps, initChain, initBlock, sweepChain, sweptWords, clearBlock}
-use Rattle.laws.specs.Params.{Bounds, good-bounds, start-out, start-end}
-use Rattle.laws.specs.Memory.{length-store}
-use Rattle.laws.specs.Cells.{cellsDown-kept, cellsDown-freed, tri}
+use Rattle.laws.proofs.Params.{Bounds, good-bounds, start-out, start-end}
+use Rattle.laws.proofs.Memory.{length-store}
+use Rattle.laws.proofs.Cells.{cellsDown-kept, cellsDown-freed, tri}
 use Rattle.native_ms.specs.Block.{keptBy, Room, Linked, SweptBy, Swept, Initialised, Cleared, took, takeFree}
 use Rattle.native_ms.specs.declared.block.Taken.the-variants.{BadLink, Cell}
 

@@ -25,8 +25,8 @@ use Rattle.model.specs.Sound.{linkOk}
 use Rattle.model.specs.Events.{Event, initialised, eventHeap, eventsHeap, isSweep, sweeps}
 use Rattle.model.specs.FreeListAllocator.{Found, andThen, Search, inFound, findFreeBlockWith, recycleLocalBlocks, acquireAbandoned, acquireFresh, findBlock}
 use Rattle.model.specs.Calls.{answered, refused, says, takes, takePlan, takeCell, finish, Step}
-use Rattle.laws.specs.Base.{filter-append}
-use Rattle.laws.specs.Params.{good-bounds}
+use Rattle.laws.proofs.Base.{filter-append}
+use Rattle.laws.proofs.Params.{good-bounds}
 use Rattle.native_ms.specs.Block.{Initialised, TakenOut, took, takeFree}
 use Rattle.native_ms.specs.declared.block.Taken.{Taken}
 use Rattle.native_ms.specs.declared.block.Taken.the-variants.{BadLink, Cell}

@@ -21,11 +21,11 @@ use Rattle.model.specs.BlockList.{push, pop}
 use Rattle.model.specs.Block.{Unallocated, cellCount, isCell, cellsDown, initChain, initBlock, sweepChain, sweptWords}
 use Rattle.model.specs.FreeListAllocator.{Found, acquireFresh, findBlock}
 use Rattle.model.specs.Sound.{stateOf, stateKnown, blockClear, onListNamed, sizeOk, linkOk, tlsOk, blockSound, linked, unboundEmpty, inGcEmpty, phaseKnown, flagsKnown, releasedFew, releasedSome, releasedEmpty, sound}
-use Rattle.laws.specs.Below.{and-left, and-right, or-cases, and-four, allBelow-at, test}
-use Rattle.laws.specs.Params.{Bounds, start-out, start-end}
-use Rattle.laws.specs.Cells.{Free, in-cellsDown}
-use Rattle.laws.specs.Frame.{links-refl, push-links, pop-links}
-use Rattle.laws.specs.Walks.{plain-steps, find-keeps}
+use Rattle.laws.proofs.Below.{and-left, and-right, or-cases, and-four, allBelow-at, test}
+use Rattle.laws.proofs.Params.{Bounds, start-out, start-end}
+use Rattle.laws.proofs.Cells.{Free, in-cellsDown}
+use Rattle.laws.proofs.Frame.{links-refl, push-links, pop-links}
+use Rattle.laws.proofs.Walks.{plain-steps, find-keeps}
 
 abbrev Small : List ℕ → Type 0
 Small l = (b : ℕ) → getD l b 0 < 2 ^ 47

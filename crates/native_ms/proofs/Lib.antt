@@ -1,3 +1,9 @@
+pub mod RaisedLaws
+pub mod CountedLaws
+pub mod RecordsLaws
+pub mod SoundWalkLaws
+pub mod SoundLaws
+pub mod SoundTests
 pub mod Records
 pub mod Lower
 pub mod Chains

@@ -8,7 +8,7 @@ use native.Mathlib.Numerals.{add-one}
 use native.Mathlib.Omega.{arith}
 use lib.Dec.{eqb}
 use lib.ListN.{length, getD, set, length-append}
-use Rattle.laws.specs.Base.{filter-append}
+use Rattle.laws.proofs.Base.{filter-append}
 use borrow.Author.Tests.{eq-eqb, ne-eqb}
 use mir.Syntax.{w64}
 use mir.Val.{Fits}
@@ -20,8 +20,8 @@ use Rattle.model.specs.BlockList.{remove, append}
 use Rattle.model.specs.Block.{Unallocated, Unmarked, clearBlock}
 use Rattle.model.specs.Events.{Event, released, eventHeap, eventsHeap, isRelease, releases}
 use Rattle.model.specs.Global.{Freed, freed, afterRelease, releaseFrom, releaseBlocks, appendTo, releaseBin, releaseHolder, abandonBlocks, sweepLaterBin, sweepLater}
-use Rattle.laws.specs.Params.{good-bounds}
-use Rattle.laws.specs.Walks.{releasedOne, from-keeps, blocks-keep-any, bins-keep-any, later-keeps-any}
+use Rattle.laws.proofs.Params.{good-bounds}
+use Rattle.laws.proofs.Walks.{releasedOne, from-keeps, blocks-keep-any, bins-keep-any, later-keeps-any}
 use Rattle.native_ms.specs.Released.{Out, out, total, attemptRelease, releasedBins}
 
 -- n more

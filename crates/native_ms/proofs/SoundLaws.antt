@@ -1,4 +1,4 @@
--- The code's soundness is 01's: `sound-walk`. The lists' part is the counting of laws/specs/Linked.antt. Assumes nothing.
+-- The code's soundness is 01's: `sound-walk`. The lists' part is the counting of laws/proofs/Linked.antt. Assumes nothing.
 use Prim.Native.Nat.{ℕ, zero, suc, _+_, _-_, _<_, _≤_}
 use mathlib.Core.Path.{_≡_, refl, sym, ap, _∙_, subst}
 use mathlib.Core.Bool.{Bool, true, false, not, _&&_, _||_}
@@ -17,13 +17,14 @@ use Rattle.model.specs.Tables.{Words, Tables, tablesOf}
 use Rattle.model.specs.BlockList.{walk, blocksOn}
 use Rattle.model.specs.Global.{isBound, hasReleased}
 use Rattle.model.specs.Sound.{stateOf, stateKnown, onListNamed, sizeOk, linkOk, tlsOk, blockSound, linkedFrom, linked, ownerEmpty, unboundEmpty, inGcEmpty, phaseKnown, flagsKnown, releasedFew, releasedSome, releasedEmpty, sound}
-use Rattle.laws.specs.Below.{true-not-false, and-left, and-right, and-three, and-four, and-both, test, same-test, allBelow-at, allBelow-from}
-use Rattle.laws.specs.Params.{Bounds, good-bounds}
-use Rattle.laws.specs.Linked.{linked-end, linked-long, linked-on, walk-end, walk-on, met-count, on-occupied}
-use Rattle.laws.specs.Pigeon.{sum-same, sum-squeeze, sum-not, flag-one, flag-yes, flag-le}
+use Rattle.laws.proofs.Below.{true-not-false, and-left, and-right, and-three, and-four, and-both, test, same-test, allBelow-at, allBelow-from}
+use Rattle.laws.proofs.Params.{Bounds, good-bounds}
+use Rattle.laws.proofs.Linked.{linked-end, linked-long, linked-on, walk-end, walk-on, met-count, on-occupied}
+use Rattle.laws.proofs.Pigeon.{sum-same, sum-squeeze, sum-not, flag-one, flag-yes, flag-le}
 use Rattle.native_ms.specs.declared.sound.Walked.{Walked}
 use Rattle.native_ms.specs.declared.sound.Walked.the-variants.{Bad, Left}
-use Rattle.native_ms.specs.SoundWalk.{namesList, blockFits, unused, standsOn, closed, passFrom, passes, leaves, listsFull, holderFits, partFits, soundWalk}
+use Rattle.native_ms.specs.SoundWalk.{namesList, blockFits, unused, standsOn, closed, passFrom, passes, holderFits, partFits}
+use Rattle.native_ms.proofs.SoundWalkLaws.{leaves, listsFull, soundWalk}
 
 -- ---- one walk
 

@@ -18,16 +18,16 @@ use Rattle.model.specs.Params.{goodParams, powerOfTwo, isStart, blockAt, start,
 use Rattle.model.specs.Tables.{Words, view, blocksIn, blockTable}
 use Rattle.model.specs.SizeClasses.{classWords, cellBytes}
 use Rattle.model.specs.Census.{censusParams}
-use Rattle.laws.specs.Classes.{cellBytes-most}
+use Rattle.laws.proofs.Classes.{cellBytes-most}
 use Rattle.model.specs.Sound.{blockClear, ownerEmpty}
-use Rattle.laws.specs.Below.{same-test, and-both, and-left, and-right, allBelow-at, allBelow-from}
-use Rattle.laws.specs.Good.{each-power}
-use Rattle.laws.specs.Params.{good-bounds, start-in, blockAt-from, blockAt-isStart, start-blockAt, isStart-start, isStart-out, inHeap-under}
-use Rattle.laws.specs.Tables.{getD-part, by-lt}
+use Rattle.laws.proofs.Below.{same-test, and-both, and-left, and-right, allBelow-at, allBelow-from}
+use Rattle.laws.proofs.Good.{each-power}
+use Rattle.laws.proofs.Params.{good-bounds, start-in, blockAt-from, blockAt-isStart, start-blockAt, isStart-start, isStart-out, inHeap-under}
+use Rattle.laws.proofs.Tables.{getD-part, by-lt}
 use Rattle.native_ms.specs.declared.sound.Walked.{Walked}
 use Rattle.native_ms.specs.declared.sound.Walked.the-variants.{Bad, Left}
 use Rattle.native_ms.specs.SoundWalk.{passFrom, passes, onLeft}
-use Rattle.native_ms.specs.SoundTests.{closed-here, pass-closed, passes-step, passes-end, emptyAt, owner-lists}
+use Rattle.native_ms.proofs.SoundTests.{closed-here, pass-closed, passes-step, passes-end, emptyAt, owner-lists}
 use Rattle.native_ms.specs.SoundLent.{Starts, Firsts, zeroAt}
 
 -- ---- a union of words is 0 if each is

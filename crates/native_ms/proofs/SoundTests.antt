@@ -17,11 +17,12 @@ use Rattle.model.specs.SizeClasses.{cellBytes}
 use Rattle.model.specs.Block.{isCell}
 use Rattle.model.specs.Global.{isHolder, isBound, hasReleased, allReleased}
 use Rattle.model.specs.Sound.{blockClear, listNamed, binNamed, setNamed, sizeOk, linkOk, tlsOk, ownerEmpty, inGcEmpty, phaseKnown, releasedSome}
-use Rattle.laws.specs.Below.{and-second, same-test}
-use Rattle.laws.specs.Pigeon.{sum-end, sum-step, flag-one, flag-none}
+use Rattle.laws.proofs.Below.{and-second, same-test}
+use Rattle.laws.proofs.Pigeon.{sum-end, sum-step, flag-one, flag-none}
 use Rattle.native_ms.specs.declared.sound.Walked.{Walked}
 use Rattle.native_ms.specs.declared.sound.Walked.the-variants.{Bad, Left}
-use Rattle.native_ms.specs.SoundWalk.{inUse, namesList, blockFits, unused, unusedIfFit, standsOn, closed, passFrom, passes, listsFull, holderFits, partFits, soundWalk}
+use Rattle.native_ms.specs.SoundWalk.{inUse, namesList, blockFits, unused, unusedIfFit, standsOn, closed, passFrom, passes, holderFits, partFits}
+use Rattle.native_ms.proofs.SoundWalkLaws.{listsFull, soundWalk}
 
 -- ---- small ones
 
@@ -343,14 +344,6 @@ module _ (w : Words) (owner : ℕ) where
   pub owner-lists : allBelow 147 emptyAt ≡ ownerEmpty w owner
   unfolding ownerEmpty emptyAt
   owner-lists = refl
-
-  pub list-some : (i : ℕ) {f : ℕ} → f ≡ getD (w .first) (49 * owner + i) 0 → (f ≡ 0 → ⊥) → emptyAt i ≡ false
-  unfolding emptyAt listOf
-  list-some i {f} e n = rw (← e) (ne-eqb f 0 n)
-
-  pub list-none : (i : ℕ) {f : ℕ} → f ≡ getD (w .first) (49 * owner + i) 0 → f ≡ 0 → emptyAt i ≡ true
-  unfolding emptyAt listOf
-  list-none i {f} e z = rw (← e) (eq-eqb f 0 z)
 
 module _ (w : Words) (i : ℕ) {x : ℕ} (ex : x ≡ getD (w .bound) i 0) where
   pub holder-flag : 1 < x → false ≡ holderFits w i

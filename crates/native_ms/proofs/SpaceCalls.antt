@@ -22,10 +22,10 @@ use Rattle.model.specs.BlockList.{append}
 use Rattle.model.specs.Global.{freshWords, freshTables, isHolder, isBound, hasReleased, bindHolder, destroyHolder, abandonBin, abandonBlocks, unmarkedState, prepared, markPlace, Freed, releaseHolder, sweepLater, allReleased, partReleased}
 use Rattle.model.specs.Sound.{stateOf}
 use Rattle.model.specs.Calls.{answered, refused, Call, bind, destroy, prepare, mark, release, sharedRelease, says, changes, goodObject, mayRelease, releasePlan, planSound, setUp}
-use Rattle.laws.specs.Below.{and-left, and-right, or-left}
-use Rattle.laws.specs.Base.{if-true, if-false}
-use Rattle.laws.specs.Params.{good-bounds, start-in, block-small}
-use Rattle.laws.specs.Tables.{flat-view}
+use Rattle.laws.proofs.Below.{and-left, and-right, or-left}
+use Rattle.laws.proofs.Base.{if-true, if-false}
+use Rattle.laws.proofs.Params.{good-bounds, start-in, block-small}
+use Rattle.laws.proofs.Tables.{flat-view}
 use Rattle.model.specs.Promise.{lend, Promised, SetUpPromised}
 use Rattle.native_ms.specs.Released.{Out, out, total}
 use Rattle.native_ms.specs.Space.{lengthsFit, inBlock, collected}

@@ -16,7 +16,7 @@ use Rattle.model.specs.SizeClasses.{alignAllocation}
 use Rattle.model.specs.Events.{Event, taken, eventHeap, sweeps}
 use Rattle.model.specs.Sound.{linkOk}
 use Rattle.model.specs.Calls.{answered, refused, takeCell}
-use Rattle.laws.specs.Base.{bool-cases}
+use Rattle.laws.proofs.Base.{bool-cases}
 use Rattle.native_ms.specs.Block.{TakenOut, took, takeFree}
 use Rattle.native_ms.specs.declared.block.Taken.{Taken}
 use Rattle.native_ms.specs.declared.block.Taken.the-variants.{BadLink, Cell}

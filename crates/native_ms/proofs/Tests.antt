@@ -17,14 +17,14 @@ use Rattle.model.specs.Tables.{Words, Tables, tablesOf, view, flat}
 use Rattle.model.specs.Events.{Event, eventsHeap}
 use Rattle.model.specs.Sound.{sound}
 use Rattle.model.specs.Calls.{answered, refused, Call, says, Plan, refuses, changes, planSound, plan, finish, step, call}
-use Rattle.laws.specs.Below.{and-left, and-right, or-left, or-right, or-neither}
-use Rattle.laws.specs.Base.{if-true, if-false}
-use Rattle.laws.specs.Tables.{words-flat, flat-view}
+use Rattle.laws.proofs.Below.{and-left, and-right, or-left, or-right, or-neither}
+use Rattle.laws.proofs.Base.{if-true, if-false}
+use Rattle.laws.proofs.Tables.{words-flat, flat-view}
 use Rattle.native_ms.specs.declared.global.Tested.{Tested}
 use Rattle.native_ms.specs.declared.global.Tested.the-variants.{Passed, Refused}
 use Rattle.model.specs.Promise.{lend, Promised}
 use Rattle.native_ms.specs.Space.{lengthsFit}
-use Rattle.native_ms.specs.SoundLaws.{sound-walk}
+use Rattle.native_ms.proofs.SoundLaws.{sound-walk}
 use Rattle.native_ms.specs.Checked.{refusedIf, andThen, lentTests, phaseTest}
 
 -- ---- lengths

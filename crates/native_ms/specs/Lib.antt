@@ -3,8 +3,6 @@ pub mod Block
 pub mod Counted
 pub mod Records
 pub mod SoundWalk
-pub mod SoundLaws
-pub mod SoundTests
 pub mod Closing
 pub mod Ending
 pub mod Checked

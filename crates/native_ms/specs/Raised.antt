@@ -1,16 +1,12 @@
 -- The raised size as the code answers it: what it is where a block holds it, and else that it is too big. And the shifted
 -- address: what it is in the ranges of a request, and else that it is off.
-use Prim.Native.Nat.{ℕ, _^_, _<_, _≤_}
-use mathlib.Core.Path.{_≡_}
-use mathlib.Core.Bool.{true, _&&_}
+use Prim.Native.Nat.{ℕ, _^_}
+use mathlib.Core.Bool.{_&&_}
 use lib.Dec.{ltb, leb}
-use borrow.Author.Tests.{le-leb, lt-leb, lt-ltb, le-ltb}
-use Rattle.model.specs.declared.Address.{Address}
 use Rattle.model.specs.declared.Params.{Params}
 use Rattle.model.specs.Base.{if_then_else_}
 use Rattle.model.specs.SizeClasses.{raised, alignAllocation}
 use Rattle.model.specs.Calls.{tooBig}
-use Rattle.laws.specs.Requests.{not-too-big}
 use Rattle.native_ms.specs.declared.allocator.Raised.{Raised}
 use Rattle.native_ms.specs.declared.allocator.Raised.the-variants.{Fits, TooBig}
 use Rattle.native_ms.specs.declared.allocator.Shifted.{Shifted}
@@ -19,41 +15,8 @@ use Rattle.native_ms.specs.declared.allocator.Shifted.the-variants.{At, 
 unfoldable pub raisedTo : Params → ℕ → ℕ → Raised
 raisedTo p size align = if tooBig p size align then TooBig else Fits (raised p size align)
 
-module _ (p : Params) (size align : ℕ) where
-  pub raised-past : tooBig p size align ≡ true → TooBig ≡ raisedTo p size align
-  unfolding raisedTo
-  raised-past e = rw e
-
-  pub raised-in : {r : ℕ} → r ≡ raised p size align → r ≤ p .bytes → Fits r ≡ raisedTo p size align
-  unfolding raisedTo
-  raised-in e h = rw (not-too-big p size align e h, e)
-
 unfoldable pub shiftedTo : ℕ → ℕ → ℕ → Shifted
 shiftedTo region align offset =
     if leb 1 align && leb align 64 && ltb region (2 ^ 47) && leb offset 65536
     then At (record { 0 = alignAllocation region align offset })
     else Off
-
-module _ (region align offset : ℕ) where
-  pub shifted-none : align < 1 → Off ≡ shiftedTo region align offset
-  unfolding shiftedTo
-  shifted-none h = rw (lt-leb 1 align h)
-
-  module _ (a : 1 ≤ align) where
-    pub shifted-wide : 64 < align → Off ≡ shiftedTo region align offset
-    unfolding shiftedTo
-    shifted-wide h = rw (le-leb 1 align a, lt-leb align 64 h)
-
-    module _ (b : align ≤ 64) where
-      pub shifted-far : 2 ^ 47 ≤ region → Off ≡ shiftedTo region align offset
-      unfolding shiftedTo
-      shifted-far h = rw (le-leb 1 align a, le-leb align 64 b, le-ltb region (2 ^ 47) h)
-
-      module _ (c : region < 2 ^ 47) where
-        pub shifted-off : 65536 < offset → Off ≡ shiftedTo region align offset
-        unfolding shiftedTo
-        shifted-off h = rw (le-leb 1 align a, le-leb align 64 b, lt-ltb region (2 ^ 47) c, lt-leb offset 65536 h)
-
-        pub shifted-at : {r : Address} → offset ≤ 65536 → r .0 ≡ alignAllocation region align offset → At r ≡ shiftedTo region align offset
-        unfolding shiftedTo
-        shifted-at h e = rw (le-leb 1 align a, le-leb align 64 b, lt-ltb region (2 ^ 47) c, le-leb offset 65536 h, ← e)

@@ -1,16 +1,16 @@
 -- Soundness as the code tests it: each block by itself; each list walked once, the walks sharing the count of blocks, so that
 -- all lists together take as many steps as there are lists and blocks; each holder, each part. `SoundLaws` says that this is 01's soundness.
 use Prim.Native.Nat.{ℕ, zero, suc}
-use mathlib.Core.Bool.{Bool, false, not, _&&_, _||_}
+use mathlib.Core.Bool.{Bool, not, _&&_, _||_}
 use mathlib.Core.List.{List}
 use lib.Dec.{eqb, leb}
 use lib.ListN.{getD}
 use Rattle.model.specs.declared.Params.{Params}
 use Rattle.model.specs.Base.{if_then_else_, allBelow, sumBelow, flag}
-use Rattle.model.specs.Params.{blockAt, isStart, listWord, localSets, lists, holders, parts}
+use Rattle.model.specs.Params.{blockAt, isStart, listWord, localSets, lists}
 use Rattle.model.specs.Tables.{Words}
 use Rattle.model.specs.Global.{isBound, hasReleased}
-use Rattle.model.specs.Sound.{blockClear, sizeOk, linkOk, tlsOk, ownerEmpty, inGcEmpty, phaseKnown, releasedSome}
+use Rattle.model.specs.Sound.{blockClear, sizeOk, linkOk, tlsOk, ownerEmpty}
 use Rattle.native_ms.specs.declared.sound.Walked.{Walked}
 use Rattle.native_ms.specs.declared.sound.Walked.the-variants.{Bad, Left}
 
@@ -63,14 +63,6 @@ unfoldable pub passes : ℕ → Params → Words → List ℕ → ℕ → Walked
 passes zero p w s left = Left left
 passes (suc j) p w s left = onLeft (passFrom left p w s j 0 (getD (w .first) j 0)) (λ x. passes j p w s x)
 
-abbrev pub leaves : ℕ → Walked → Bool
-leaves n Bad = false
-leaves n (Left x) = eqb x n
-
--- the blocks not met are the Unallocated ones, by their number
-unfoldable pub listsFull : Params → Words → List ℕ → Bool
-listsFull p w s = leaves (unused p s) (passes lists p w s (p .blocks))
-
 -- ---- a holder, a part
 
 unfoldable pub holderFits : Words → ℕ → Bool
@@ -82,8 +74,3 @@ unfoldable pub partFits : Words → ℕ → Bool
 partFits w part =
     leb (getD (w .released) part 0) 1
     && (not (hasReleased w part) || (eqb (w .phase) 2 && (eqb part 0 || isBound w part)))
-
-unfoldable pub soundWalk : Params → Words → List ℕ → Bool
-soundWalk p w s =
-    phaseKnown w && allBelow parts (partFits w) && releasedSome w && allBelow holders (holderFits w) && inGcEmpty w
-    && allBelow (p .blocks) (blockFits p w s) && listsFull p w s

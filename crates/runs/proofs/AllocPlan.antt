@@ -24,20 +24,20 @@ use Rattle.model.specs.FreeListAllocator.{Found, Search, inFound, acquireFresh,
 use Rattle.model.specs.Calls.{alloc, goodOffer, takePlan}
 use Rattle.model.specs.Sound.{stateOf, sound, sizeOk, binNamed, listNamed}
 use Rattle.model.specs.Runs.{Book, bookEvent, bookEvents, bookAnswer, takerOf, entered, frees, hits}
-use Rattle.laws.specs.Base.{and-left, and-right, not-both}
-use Rattle.laws.specs.Params.{Bounds, some-start, blockAt-start}
-use Rattle.laws.specs.Classes.{cellBytes-least, cellBytes-words}
-use Rattle.laws.specs.Tables.{sized-same, kept-lengths, lengths}
-use Rattle.laws.specs.Memory as Mem
-use Rattle.laws.specs.Cells.{chainStands}
-use Rattle.laws.specs.Frame.{LinksOnly, links-refl, push-links, push-list, push-first}
-use Rattle.laws.specs.Walks.{find-keeps}
-use Rattle.soundness.specs.SoundLists.{sound-parts, block-parts, sound-lists}
-use Rattle.runs.specs.Links.{Occupied}
-use Rattle.runs.specs.Inv.{was-held, init-core, init-bytes}
-use Rattle.runs.specs.Steps.{shadowEvent, shadowEvents, isTaken, EventOk, EventsOk, no-events, events-behind, behind, same-bytes}
-use Rattle.runs.specs.Search.{Settled, wordBin, available-settled, unswept-unsettled, Searching, Ready, Going, Gone, steps}
-use Rattle.runs.specs.Plans.{refusal-some, bookFor, Inv, EndOk, Planned, Serves, set-steady}
+use Rattle.laws.proofs.Base.{and-left, and-right, not-both}
+use Rattle.laws.proofs.Params.{Bounds, some-start, blockAt-start}
+use Rattle.laws.proofs.Classes.{cellBytes-least, cellBytes-words}
+use Rattle.laws.proofs.Tables.{sized-same, kept-lengths, lengths}
+use Rattle.laws.proofs.Memory as Mem
+use Rattle.laws.proofs.Cells.{chainStands}
+use Rattle.laws.proofs.Frame.{LinksOnly, links-refl, push-links, push-list, push-first}
+use Rattle.laws.proofs.Walks.{find-keeps}
+use Rattle.soundness.proofs.SoundLists.{sound-parts, block-parts, sound-lists}
+use Rattle.runs.proofs.Links.{Occupied}
+use Rattle.runs.proofs.Inv.{was-held, init-core, init-bytes}
+use Rattle.runs.proofs.Steps.{shadowEvent, shadowEvents, isTaken, EventOk, EventsOk, no-events, events-behind, behind, same-bytes}
+use Rattle.runs.proofs.Search.{Settled, wordBin, available-settled, unswept-unsettled, Searching, Ready, Going, Gone, steps}
+use Rattle.runs.proofs.Plans.{refusal-some, bookFor, Inv, EndOk, Planned, Serves, set-steady}
 
 module _ (p : Params) (B : Bounds p) (t : Tables) (h : List ℕ) (sh : List (List ℕ)) (bk : Book) (I : Inv p B t h sh bk)
     (good : sound p t ≡ true) (running : t .words .phase ≡ 0) (hd : ℕ) (lo : 1 ≤ hd) (hi : hd ≤ 8)

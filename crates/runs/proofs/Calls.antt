@@ -19,14 +19,14 @@ use Rattle.model.specs.Global.{isHolder, isBound, hasReleased}
 use Rattle.model.specs.Sound.{sound}
 use Rattle.model.specs.Calls.{Call, bind, destroy, alloc, prepare, mark, release, sharedRelease, End, says, takes, Plan, refuses, goodObject, mayRelease, planAlloc, planSound, plan, finish, step}
 use Rattle.model.specs.Runs.{Book, bookEvents, takerOf}
-use Rattle.laws.specs.Base.{and-left, and-right, if-cases, or-none-left}
-use Rattle.laws.specs.Params.{Bounds, good-bounds}
-use Rattle.laws.specs.Good.{Good, good}
-use Rattle.laws.specs.Classes.{Chosen, chosen, cell-in-block, request, fits-raised, object-in-cell}
-use Rattle.runs.specs.Steps.{shadowEvents, EventsOk}
-use Rattle.runs.specs.Plans.{bookFor, Serves, Inv, Taking, EndOk, Planned, refuses-planned, bind-planned, destroy-planned, prepare-planned, mark-planned, release-planned, shared-planned}
-use Rattle.runs.specs.AllocPlan.{alloc-planned}
-use Rattle.runs.specs.Finish.{ShadowStep, shadowFinish, StepOk, said-ok, taken-step, step-is, shadow-is, taken-ok}
+use Rattle.laws.proofs.Base.{and-left, and-right, if-cases, or-none-left}
+use Rattle.laws.proofs.Params.{Bounds, good-bounds}
+use Rattle.laws.proofs.Good.{Good, good}
+use Rattle.laws.proofs.Classes.{Chosen, chosen, cell-in-block, request, fits-raised, object-in-cell}
+use Rattle.runs.proofs.Steps.{shadowEvents, EventsOk}
+use Rattle.runs.proofs.Plans.{bookFor, Serves, Inv, Taking, EndOk, Planned, refuses-planned, bind-planned, destroy-planned, prepare-planned, mark-planned, release-planned, shared-planned}
+use Rattle.runs.proofs.AllocPlan.{alloc-planned}
+use Rattle.runs.proofs.Finish.{ShadowStep, shadowFinish, StepOk, said-ok, taken-step, step-is, shadow-is, taken-ok}
 
 -- what a call's step is by the shadow
 unfoldable pub shadowStep : Params → Tables → List (List ℕ) → Call → ShadowStep

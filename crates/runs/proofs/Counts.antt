@@ -17,8 +17,8 @@ use Rattle.model.specs.Global.{isHolder, isBound, hasReleased}
 use Rattle.model.specs.Sound.{linkOk, sound}
 use Rattle.model.specs.Calls.{refused, Call, bind, destroy, alloc, prepare, mark, release, sharedRelease, End, Plan, refuses, goodRequest, tooBig, goodOffer, takePlan, planAlloc, mayRelease, releasePlan, planSound, plan, Step, takeCell, finish, step}
 use Rattle.model.specs.Runs.{Counted}
-use Rattle.laws.specs.Base.{if-cases, not-both}
-use Rattle.runs.specs.Plans.{refusal-some}
+use Rattle.laws.proofs.Base.{if-cases, not-both}
+use Rattle.runs.proofs.Plans.{refusal-some}
 
 -- the cell taken is no sweep
 sweeps-taken : (es : List Event) (a s : ℕ) → sweeps (es ++ (taken a s ∷ [])) ≡ sweeps es

@@ -17,17 +17,17 @@ use Rattle.model.specs.Events.{sweeps, releases}
 use Rattle.model.specs.Global.{freshWords, freshTables}
 use Rattle.model.specs.Calls.{Call, Step, step, Result, lentOf, resultFrom, setUp, pages}
 use Rattle.model.specs.Runs.{Cell, Book, bookAfter, Write, written, Turn, State, foundBy, stepOf, resultOf, bookOf, turned, emptyBook, begun, covers, Holds, HoldersWrite, Seen, seen, trace, TurnKeeps, RunKeeps, Demand3}
-use Rattle.laws.specs.Params.{Bounds}
-use Rattle.laws.specs.Tables.{part-zeros, Sized, sized-view}
-use Rattle.laws.specs.Memory as Mem
-use Rattle.laws.specs.Marks.{marked-cleared}
-use Rattle.laws.specs.Cells.{Whole, whole-from, whole-apart, whole-blockAt, stands-frame, chainStands}
-use Rattle.laws.specs.Lent.{fits-parts, answered-fits, set-up-is, lent-tables, call-is}
-use Rattle.runs.specs.Inv.{Held, Core}
-use Rattle.runs.specs.Plans.{Inv}
-use Rattle.runs.specs.Finish.{ShadowStep, StepOk, held-apart}
-use Rattle.runs.specs.Calls.{B, shadowStep, step-ok}
-use Rattle.runs.specs.Counts.{counts}
+use Rattle.laws.proofs.Params.{Bounds}
+use Rattle.laws.proofs.Tables.{part-zeros, Sized, sized-view}
+use Rattle.laws.proofs.Memory as Mem
+use Rattle.laws.proofs.Marks.{marked-cleared}
+use Rattle.laws.proofs.Cells.{Whole, whole-from, whole-apart, whole-blockAt, stands-frame, chainStands}
+use Rattle.laws.proofs.Lent.{fits-parts, answered-fits, set-up-is, lent-tables, call-is}
+use Rattle.runs.proofs.Inv.{Held, Core}
+use Rattle.runs.proofs.Plans.{Inv}
+use Rattle.runs.proofs.Finish.{ShadowStep, StepOk, held-apart}
+use Rattle.runs.proofs.Calls.{B, shadowStep, step-ok}
+use Rattle.runs.proofs.Counts.{counts}
 
 -- ---- what holders write
 

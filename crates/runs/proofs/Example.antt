@@ -27,8 +27,8 @@ use Rattle.model.specs.Calls.{answered, Call, bind, alloc, prepare, mark, relea
 use Rattle.model.specs.Census.{censusParams}
 use Rattle.model.specs.Runs.{Cell, frees, entered, bookEvent, bookEvents, bookAnswer, takerOf, bookAfter, Write, written, Turn, State, foundBy, stepOf, resultOf, bookOf, turned, begun, covers, Holds, HoldersWrite, staysHeld, byteAt, RunKeeps, Demand3}
 use Rattle.model.specs.Port.{PortRun, turnsOf, portBegun, PortKeeps, ran, Demand3OfThePort}
-use Rattle.runs.specs.Demand3.{demand3}
-use Rattle.runs.specs.Port.{ran-chain, ran-turns, demand3-of-the-port}
+use Rattle.runs.proofs.Demand3.{demand3}
+use Rattle.runs.proofs.Port.{ran-chain, ran-turns, demand3-of-the-port}
 
 -- ---- the run
 

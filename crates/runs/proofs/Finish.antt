@@ -20,15 +20,15 @@ use Rattle.model.specs.Events.{Event, initialised, swept, released, taken, even
 use Rattle.model.specs.Sound.{linkOk}
 use Rattle.model.specs.Calls.{Reply, answered, Call, bind, destroy, alloc, prepare, mark, release, sharedRelease, End, says, takes, Step, takeCell, finish}
 use Rattle.model.specs.Runs.{Cell, Book, frees, entered, bookEvent, bookEvents, bookAnswer, bookAfter, takerOf, covers, Apart, Zeroed, Served, Unchanged, LostExactly, byteAt, hits}
-use Rattle.laws.specs.Base.{or-right, if-true, not-both, in-append, in-append-right}
-use Rattle.laws.specs.Params.{Bounds}
-use Rattle.laws.specs.Tables.{sized-same, kept-lengths}
-use Rattle.laws.specs.Memory as Mem
-use Rattle.laws.specs.Cells.{Whole, whole-isCell, whole-from, whole-to, whole-apart, whole-blockAt}
-use Rattle.runs.specs.Inv.{Held, Core, whole-eight, first-whole, first-head, first-link, rest-cell, take-bytes, take-core}
-use Rattle.runs.specs.Steps.{shadowEvents, EventsOk, none-taken, events-lost, events-unchanged, book-append, same-bytes}
-use Rattle.runs.specs.Search.{Settled}
-use Rattle.runs.specs.Plans.{bookFor, Serves, Inv}
+use Rattle.laws.proofs.Base.{or-right, if-true, not-both, in-append, in-append-right}
+use Rattle.laws.proofs.Params.{Bounds}
+use Rattle.laws.proofs.Tables.{sized-same, kept-lengths}
+use Rattle.laws.proofs.Memory as Mem
+use Rattle.laws.proofs.Cells.{Whole, whole-isCell, whole-from, whole-to, whole-apart, whole-blockAt}
+use Rattle.runs.proofs.Inv.{Held, Core, whole-eight, first-whole, first-head, first-link, rest-cell, take-bytes, take-core}
+use Rattle.runs.proofs.Steps.{shadowEvents, EventsOk, none-taken, events-lost, events-unchanged, book-append, same-bytes}
+use Rattle.runs.proofs.Search.{Settled}
+use Rattle.runs.proofs.Plans.{bookFor, Serves, Inv}
 
 -- ---- a step over the shadow
 

@@ -22,10 +22,10 @@ use Rattle.model.specs.SizeClasses.{wordsIn}
 use Rattle.model.specs.Block.{linkAll, keeps, simple, sweepChain, initChain, cellCount, Marked}
 use Rattle.model.specs.Events.{Event, initialised, swept, released}
 use Rattle.model.specs.Runs.{Cell, Book, frees, entered, bookEvent, unmarked, hits}
-use Rattle.laws.specs.Base.{in-filter, pairwise-filter, in-member, member-in, same-test, any-same, not-both, below-none-any, and-right}
-use Rattle.laws.specs.Params.{Bounds, start-in}
-use Rattle.laws.specs.Memory as Mem
-use Rattle.laws.specs.Cells.{Whole, whole-apart, whole-from, whole-block, whole-blockAt, Desc, in-chain, chain-in, desc-cellsDown, desc-less, chainStands, length-linkAll, same-linkAll, stands-frame, stands-linkAll, whole-placed}
+use Rattle.laws.proofs.Base.{in-filter, pairwise-filter, in-member, member-in, same-test, any-same, not-both, below-none-any, and-right}
+use Rattle.laws.proofs.Params.{Bounds, start-in}
+use Rattle.laws.proofs.Memory as Mem
+use Rattle.laws.proofs.Cells.{Whole, whole-apart, whole-from, whole-block, whole-blockAt, Desc, in-chain, chain-in, desc-cellsDown, desc-less, chainStands, length-linkAll, same-linkAll, stands-frame, stands-linkAll, whole-placed}
 
 -- a list's entry after a store, for any element
 pub set-cases : {A : Type 0} (l : List A) (i : ℕ) (v d : A) (j : ℕ) → i < length l

@@ -10,12 +10,12 @@ use Rattle.model.specs.declared.Params.{Params}
 use Rattle.model.specs.Params.{start, listWord}
 use Rattle.model.specs.Tables.{Words}
 use Rattle.model.specs.BlockList.{push, pop, popped}
-use Rattle.laws.specs.Params.{Bounds}
-use Rattle.laws.specs.Stores.{set-at, set-off}
-use Rattle.laws.specs.Tables.{Sized, sized-same}
-use Rattle.laws.specs.Frame.{links-refl, push-links, pop-links, push-list}
-use Rattle.soundness.specs.Lists.{Lists, Off, put, linksOf, on-list, lists-same, first-none, first-some}
-use Rattle.soundness.specs.Moves.{push-lists, pop-none, pop-at, pop-off, pop-lists, pop-words}
+use Rattle.laws.proofs.Params.{Bounds}
+use Rattle.laws.proofs.Stores.{set-at, set-off}
+use Rattle.laws.proofs.Tables.{Sized, sized-same}
+use Rattle.laws.proofs.Frame.{links-refl, push-links, pop-links, push-list}
+use Rattle.soundness.proofs.Lists.{Lists, Off, put, linksOf, on-list, lists-same, first-none, first-some}
+use Rattle.soundness.proofs.Moves.{push-lists, pop-none, pop-at, pop-off, pop-lists, pop-words}
 
 module _ (p : Params) (st : List ℕ) where
   -- b is an occupied block

@@ -25,17 +25,17 @@ use Rattle.model.specs.Global.{bindHolder, destroyHolder, abandonBin, abandonBl
 use Rattle.model.specs.Calls.{refusalNumber, Reply, refused, Call, bind, destroy, alloc, prepare, mark, release, sharedRelease, End, says, takes, Plan, refuses, changes, goodObject, mayRelease, releasePlan}
 use Rattle.model.specs.Sound.{stateOf}
 use Rattle.model.specs.Runs.{Cell, Book, aged, bookEvent, bookEvents, bookAnswer, takerOf, frees, entered, hits, unmarked}
-use Rattle.laws.specs.Base.{and-left, and-right, in-filter, if-false, if-cases, member-in, or-left, or-cases, bool-cases, not-both}
-use Rattle.laws.specs.Params.{Bounds, blockAt-within}
-use Rattle.laws.specs.Tables.{Sized, sized-same, kept-lengths}
-use Rattle.laws.specs.Memory as Mem
-use Rattle.laws.specs.Marks.{marked-cleared, length-setMark, length-cleared, bytes-setMark, bytes-cleared, marked-setMark}
-use Rattle.laws.specs.Frame.{LinksOnly, links-refl, append-links, remove-links, each-keeps, FirstsBut, link-list, append-first, append-none}
-use Rattle.laws.specs.Walks.{releasedOne, blocks-keep-any, bins-keep-any, later-keeps-any}
-use Rattle.soundness.specs.Owners.{unswept-numbered, abandon-links, abandon-framed, holder-framed, holder-empties, shared-framed}
-use Rattle.runs.specs.Inv.{Held, Placed, Core, set-cases, release-core, release-unmarked}
-use Rattle.runs.specs.Steps.{shadowEvent, shadowEvents, isTaken, EventOk, EventsOk, no-events, events-behind, behind}
-use Rattle.runs.specs.Search.{Settled, Idle, available-settled, consumed-settled, unswept-unsettled}
+use Rattle.laws.proofs.Base.{and-left, and-right, in-filter, if-false, if-cases, member-in, or-left, or-cases, bool-cases, not-both}
+use Rattle.laws.proofs.Params.{Bounds, blockAt-within}
+use Rattle.laws.proofs.Tables.{Sized, sized-same, kept-lengths}
+use Rattle.laws.proofs.Memory as Mem
+use Rattle.laws.proofs.Marks.{marked-cleared, length-setMark, length-cleared, bytes-setMark, bytes-cleared, marked-setMark}
+use Rattle.laws.proofs.Frame.{LinksOnly, links-refl, append-links, remove-links, each-keeps, FirstsBut, link-list, append-first, append-none}
+use Rattle.laws.proofs.Walks.{releasedOne, blocks-keep-any, bins-keep-any, later-keeps-any}
+use Rattle.soundness.proofs.Owners.{unswept-numbered, abandon-links, abandon-framed, holder-framed, holder-empties, shared-framed}
+use Rattle.runs.proofs.Inv.{Held, Placed, Core, set-cases, release-core, release-unmarked}
+use Rattle.runs.proofs.Steps.{shadowEvent, shadowEvents, isTaken, EventOk, EventsOk, no-events, events-behind, behind}
+use Rattle.runs.proofs.Search.{Settled, Idle, available-settled, consumed-settled, unswept-unsettled}
 
 -- no refusal has the number 0
 pub refusal-some : (r : Refusal) → eqb (refusalNumber r) 0 ≡ false

@@ -7,7 +7,7 @@ use Rattle.model.specs.declared.Params.{Params}
 use Rattle.model.specs.Calls.{Reply, answered, Result, setUp, pages}
 use Rattle.model.specs.Runs.{Turn, State, stepOf, resultOf, turned, emptyBook, begun, Seen, seen, trace, RunKeeps, Demand3}
 use Rattle.model.specs.Port.{Made, Chain, PortRun, turnsOf, portBegun, portTurned, portTrace, PortKeeps, ran, IsRun, Demand3OfThePort}
-use Rattle.runs.specs.Demand3.{demand3}
+use Rattle.runs.proofs.Demand3.{demand3}
 
 module _ (p : Params) where
   -- ---- the machine's own calls

@@ -20,15 +20,15 @@ use Rattle.model.specs.Block.{linkAll, sweepChain, sweptWords}
 use Rattle.model.specs.Events.{Event, eventHeap, eventsHeap}
 use Rattle.model.specs.FreeListAllocator.{sweepOf}
 use Rattle.model.specs.Runs.{Cell, Book, bookEvent, bookEvents, frees, entered, hits, unmarked}
-use Rattle.laws.specs.Base.{and-left}
-use Rattle.laws.specs.Tables.{Sized, sized-same, kept-lengths}
-use Rattle.laws.specs.Params.{Bounds, some-start, blockAt-start}
-use Rattle.laws.specs.Frame.{LinksOnly, links-refl, push-links, pop-links, FirstsBut, pop-firsts, push-first}
-use Rattle.laws.specs.Walks.{Files, Steps}
-use Rattle.soundness.specs.Owners.{available-numbered, unswept-numbered, consumed-numbered}
-use Rattle.runs.specs.Links.{Occupied, Linked, Loose, linked-same, loose-same, Pop, pop-cases, Pushed, push-pushed}
-use Rattle.runs.specs.Inv.{Core, was-held, sweep-core, sweep-bytes, sweep-frees}
-use Rattle.runs.specs.Steps.{shadowEvent, shadowEvents, isTaken, EventOk, EventsOk, events-behind, behind, same-bytes}
+use Rattle.laws.proofs.Base.{and-left}
+use Rattle.laws.proofs.Tables.{Sized, sized-same, kept-lengths}
+use Rattle.laws.proofs.Params.{Bounds, some-start, blockAt-start}
+use Rattle.laws.proofs.Frame.{LinksOnly, links-refl, push-links, pop-links, FirstsBut, pop-firsts, push-first}
+use Rattle.laws.proofs.Walks.{Files, Steps}
+use Rattle.soundness.proofs.Owners.{available-numbered, unswept-numbered, consumed-numbered}
+use Rattle.runs.proofs.Links.{Occupied, Linked, Loose, linked-same, loose-same, Pop, pop-cases, Pushed, push-pushed}
+use Rattle.runs.proofs.Inv.{Core, was-held, sweep-core, sweep-bytes, sweep-frees}
+use Rattle.runs.proofs.Steps.{shadowEvent, shadowEvents, isTaken, EventOk, EventsOk, events-behind, behind, same-bytes}
 
 -- ---- list words
 

@@ -11,11 +11,11 @@ use Rattle.model.specs.declared.Params.{Params}
 use Rattle.model.specs.Base.{In, any}
 use Rattle.model.specs.Events.{Event, initialised, swept, released, taken, eventHeap, eventsHeap}
 use Rattle.model.specs.Runs.{Cell, Book, frees, entered, bookEvent, bookEvents, unmarked, covers, staysHeld, Unchanged, byteAt, hits, LostExactly}
-use Rattle.laws.specs.Base.{filter-in, or-none-left, or-none-right, not-both}
-use Rattle.laws.specs.Params.{Bounds}
-use Rattle.laws.specs.Memory as Mem
-use Rattle.laws.specs.Cells.{whole-from}
-use Rattle.runs.specs.Inv.{Held}
+use Rattle.laws.proofs.Base.{filter-in, or-none-left, or-none-right, not-both}
+use Rattle.laws.proofs.Params.{Bounds}
+use Rattle.laws.proofs.Memory as Mem
+use Rattle.laws.proofs.Cells.{whole-from}
+use Rattle.runs.proofs.Inv.{Held}
 
 -- ---- the shadow
 
@@ -87,20 +87,10 @@ module _ (p : Params) (B : Bounds p) (hd : ℕ) where
   none-taken (e ∷ es) h bk o a s (inl q) = not-both true refl (ap isTaken q ∙ o .0)
   none-taken (e ∷ es) h bk o a s (inr m) = none-taken es (eventHeap p e h) (bookEvent p hd e bk) (o .2) a s m
 
-  pub heap-append : (es fs : List Event) (h : List ℕ) → eventsHeap p (es ++ fs) h ≡ eventsHeap p fs (eventsHeap p es h)
-  unfolding eventsHeap
-  heap-append [] fs h = refl
-  heap-append (e ∷ es) fs h = heap-append es fs (eventHeap p e h)
-
   pub book-append : (es fs : List Event) (bk : Book) → bookEvents p hd (es ++ fs) bk ≡ bookEvents p hd fs (bookEvents p hd es bk)
   unfolding bookEvents
   book-append [] fs bk = refl
   book-append (e ∷ es) fs bk = book-append es fs (bookEvent p hd e bk)
-
-  pub shadow-append : (es fs : List Event) (sh : List (List ℕ)) → shadowEvents (es ++ fs) sh ≡ shadowEvents fs (shadowEvents es sh)
-  unfolding shadowEvents
-  shadow-append [] fs sh = refl
-  shadow-append (e ∷ es) fs sh = shadow-append es fs (shadowEvent e sh)
 
   -- one event behind others
   pub events-behind : (es : List Event) (e : Event) (h : List ℕ) (bk : Book) → EventsOk es h bk → isTaken e ≡ false

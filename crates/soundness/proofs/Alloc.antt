@@ -26,19 +26,19 @@ use Rattle.model.specs.FreeListAllocator.{Found, Search, acquireFresh, findBloc
 use Rattle.model.specs.Global.{isHolder}
 use Rattle.model.specs.Sound.{stateOf, stateKnown, linkOk, blockClear}
 use Rattle.model.specs.Calls.{goodOffer}
-use Rattle.laws.specs.Base.{and-left, and-right, or-right}
-use Rattle.laws.specs.Params.{Bounds, blockAt-start}
-use Rattle.laws.specs.Stores.{set-at, set-off}
-use Rattle.laws.specs.Tables.{Sized, sized-same, kept-lengths}
-use Rattle.laws.specs.Classes.{cellBytes-least}
-use Rattle.laws.specs.Cells.{whole-isCell, in-chain}
-use Rattle.laws.specs.Frame.{LinksOnly, links-refl, push-links, pop-links}
-use Rattle.laws.specs.Walks.{Files, Steps, plain-steps, find-keeps}
-use Rattle.soundness.specs.Lists.{Lists, AllOn, Off, OnSome, put, put-in, in-put, linksOf, Links, On, on-list, free-off, lists-same, first-none, first-some}
-use Rattle.soundness.specs.Moves.{push-stays, push-lists, pop-off, pop-stays, pop-lists}
-use Rattle.soundness.specs.SoundLists.{Fit, Good}
-use Rattle.soundness.specs.Owners.{Numbered, available-numbered, unswept-numbered, consumed-numbered, Framed, framed-refl, framed-trans, Theirs, push-framed, pop-framed, free-framed, size-framed, tls-framed}
-use Rattle.soundness.specs.Held.{Held, SameWords, links-words, fit-as, fit-same, clear-same}
+use Rattle.laws.proofs.Base.{and-left, and-right, or-right}
+use Rattle.laws.proofs.Params.{Bounds, blockAt-start}
+use Rattle.laws.proofs.Stores.{set-at, set-off}
+use Rattle.laws.proofs.Tables.{Sized, sized-same, kept-lengths}
+use Rattle.laws.proofs.Classes.{cellBytes-least}
+use Rattle.laws.proofs.Cells.{whole-isCell, in-chain}
+use Rattle.laws.proofs.Frame.{LinksOnly, links-refl, push-links, pop-links}
+use Rattle.laws.proofs.Walks.{Files, Steps, plain-steps, find-keeps}
+use Rattle.soundness.proofs.Lists.{Lists, AllOn, Off, OnSome, put, put-in, in-put, linksOf, Links, On, on-list, free-off, lists-same, first-none, first-some}
+use Rattle.soundness.proofs.Moves.{push-stays, push-lists, pop-off, pop-stays, pop-lists}
+use Rattle.soundness.proofs.SoundLists.{Fit, Good}
+use Rattle.soundness.proofs.Owners.{Numbered, available-numbered, unswept-numbered, consumed-numbered, Framed, framed-refl, framed-trans, Theirs, push-framed, pop-framed, free-framed, size-framed, tls-framed}
+use Rattle.soundness.proofs.Held.{Held, SameWords, links-words, fit-as, fit-same, clear-same}
 
 -- ---- a block out of all lists
 

@@ -24,8 +24,8 @@ use Rattle.model.specs.Sound.{stateOf, stateKnown, blockClear, listNamed, binNa
 use Rattle.model.specs.Calls.{Reply, Call, alloc, mark, release, Result, refusalNumber, goodRequest, tooBig, goodOffer, goodObject, takePlan, planAlloc, mayRelease, releasePlan, planSound, plan, takeCell, finish, step, refused, answered, call, setUp}
 use Rattle.model.specs.Census.{censusParams}
 use Rattle.model.specs.Refusals.{OfAlloc, KeptExhausted, KeptBadLink, RefusalKeeps, madeUnallocated, CountsReleased, ReleasedCounts}
-use Rattle.soundness.specs.Refused.{refusal-keeps}
-use Rattle.soundness.specs.Released.{released-counted}
+use Rattle.soundness.proofs.Refused.{refusal-keeps}
+use Rattle.soundness.proofs.Released.{released-counted}
 
 abbrev p : Params
 p = censusParams

@@ -16,12 +16,12 @@ use Rattle.model.specs.Params.{listOf, localSets, abandoned, inGc, lists}
 use Rattle.model.specs.Tables.{Words, Tables, setBound, setReleased, setPhase, withReleased}
 use Rattle.model.specs.Global.{isHolder, isBound, hasReleased, allReleased, abandonBlocks, partReleased}
 use Rattle.model.specs.Sound.{blockSound, linked, ownerEmpty, unboundEmpty, inGcEmpty, phaseKnown, flagsKnown, releasedFew, releasedSome, releasedEmpty, sound}
-use Rattle.laws.specs.Base.{and-left, and-right, or-cases, or-left, or-right, bool-cases, not-both, if-cases, all-below, below-all, below-any}
-use Rattle.laws.specs.Below.{and-both, and-seven, anyBelow-at}
-use Rattle.laws.specs.Stores.{set-at, set-off, set-all, set-keeps}
-use Rattle.laws.specs.Memory.{getD-zeros}
-use Rattle.laws.specs.Tables.{Sized, sized-same, kept-lengths}
-use Rattle.soundness.specs.Owners.{Framed, abandon-framed, abandon-empties}
+use Rattle.laws.proofs.Base.{and-left, and-right, or-cases, or-left, or-right, bool-cases, not-both, if-cases, all-below, below-all, below-any}
+use Rattle.laws.proofs.Below.{and-both, and-seven, anyBelow-at}
+use Rattle.laws.proofs.Stores.{set-at, set-off, set-all, set-keeps}
+use Rattle.laws.proofs.Memory.{getD-zeros}
+use Rattle.laws.proofs.Tables.{Sized, sized-same, kept-lengths}
+use Rattle.soundness.proofs.Owners.{Framed, abandon-framed, abandon-empties}
 
 -- ---- the tests of sound tables that go by firsts, phase, bound holders and released marks
 

@@ -12,11 +12,11 @@ use Rattle.model.specs.Tables.{Words, Tables, tablesOf}
 use Rattle.model.specs.SizeClasses.{cellBytes}
 use Rattle.model.specs.Global.{isHolder}
 use Rattle.model.specs.Sound.{stateOf, stateKnown, linkOk, blockClear}
-use Rattle.laws.specs.Below.{and-left, and-five}
-use Rattle.laws.specs.Tables.{Sized}
-use Rattle.laws.specs.Frame.{LinksOnly}
-use Rattle.soundness.specs.Lists.{Same}
-use Rattle.soundness.specs.SoundLists.{Fit, Good}
+use Rattle.laws.proofs.Below.{and-left, and-five}
+use Rattle.laws.proofs.Tables.{Sized}
+use Rattle.laws.proofs.Frame.{LinksOnly}
+use Rattle.soundness.proofs.Lists.{Same}
+use Rattle.soundness.proofs.SoundLists.{Fit, Good}
 
 -- tables of the right lengths that are good, with the lists that they hold
 pub record Held (p : Params) (ms : List ℕ) (w : Words) (st : List ℕ) : Type 0 where

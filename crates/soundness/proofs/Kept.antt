@@ -23,18 +23,18 @@ use Rattle.model.specs.Block.{isCell}
 use Rattle.model.specs.Events.{Event}
 use Rattle.model.specs.FreeListAllocator.{findBlock}
 use Rattle.model.specs.Calls.{goodRequest, tooBig, goodOffer, takePlan, planAlloc, goodObject, mayRelease, releasePlan, Call, bind, destroy, alloc, prepare, mark, release, sharedRelease, End, says, takes, Plan, plan, planSound, Step, takeCell, finish, step}
-use Rattle.laws.specs.Base.{and-left, and-right, if-cases, if-false, or-cases, or-none-left}
-use Rattle.laws.specs.Classes.{chosen, fits-raised}
-use Rattle.laws.specs.Below.{true-not-false, and-both}
-use Rattle.laws.specs.Params.{Bounds}
-use Rattle.laws.specs.Tables.{Sized, sized-same, kept-lengths, sized-view, lengths-setBound, lengths-setFree, by-lt}
-use Rattle.soundness.specs.SoundLists.{Good, sound-good, good-blocks, good-linked}
-use Rattle.soundness.specs.Owners.{holder-framed, holder-empties, shared-framed}
-use Rattle.soundness.specs.Flags.{Flags, sound-flags, bind-flags, prepare-flags, destroy-flags, same-flags, released-flags, bound-at}
-use Rattle.soundness.specs.Held.{Held, clear-words}
-use Rattle.soundness.specs.Release.{abandon-held, holder-held, shared-held}
-use Rattle.soundness.specs.Alloc.{find-served, take-good}
-use Rattle.soundness.specs.Simple.{rowsOf, good-stays, same-states, bind-good, prepare-good, mark-good, fresh-good, fresh-flags}
+use Rattle.laws.proofs.Base.{and-left, and-right, if-cases, if-false, or-cases, or-none-left}
+use Rattle.laws.proofs.Classes.{chosen, fits-raised}
+use Rattle.laws.proofs.Below.{true-not-false, and-both}
+use Rattle.laws.proofs.Params.{Bounds}
+use Rattle.laws.proofs.Tables.{Sized, sized-same, kept-lengths, sized-view, lengths-setBound, lengths-setFree, by-lt}
+use Rattle.soundness.proofs.SoundLists.{Good, sound-good, good-blocks, good-linked}
+use Rattle.soundness.proofs.Owners.{holder-framed, holder-empties, shared-framed}
+use Rattle.soundness.proofs.Flags.{Flags, sound-flags, bind-flags, prepare-flags, destroy-flags, same-flags, released-flags, bound-at}
+use Rattle.soundness.proofs.Held.{Held, clear-words}
+use Rattle.soundness.proofs.Release.{abandon-held, holder-held, shared-held}
+use Rattle.soundness.proofs.Alloc.{find-served, take-good}
+use Rattle.soundness.proofs.Simple.{rowsOf, good-stays, same-states, bind-good, prepare-good, mark-good, fresh-good, fresh-flags}
 
 module _ (p : Params) (B : Bounds p) where
   -- tables that are good and whose flags are

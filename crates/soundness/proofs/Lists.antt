@@ -14,9 +14,9 @@ use Rattle.model.specs.declared.Params.{Params}
 use Rattle.model.specs.Base.{if_then_else_, In, member}
 use Rattle.model.specs.Params.{start, listWord}
 use Rattle.model.specs.Tables.{Words}
-use Rattle.laws.specs.Base.{bool-cases, if-cases, if-true, if-false, member-in}
-use Rattle.laws.specs.Params.{Bounds, some-start, start-same, word-same}
-use Rattle.laws.specs.Pigeon.{Distinct, Under, distinct-short}
+use Rattle.laws.proofs.Base.{bool-cases, if-cases, if-true, if-false, member-in}
+use Rattle.laws.proofs.Params.{Bounds, some-start, start-same, word-same}
+use Rattle.laws.proofs.Pigeon.{Distinct, Under, distinct-short}
 
 -- the link a leads to the occupied block x, which names the list with this word, and whose prev is `before`
 pub record Here (p : Params) (st : List ℕ) (w : Words) (word before a x : ℕ) : Type 0 where

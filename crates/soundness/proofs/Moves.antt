@@ -13,15 +13,15 @@ use Rattle.model.specs.Base.{In}
 use Rattle.model.specs.Params.{start, blockAt, listWord}
 use Rattle.model.specs.Tables.{Words, setFirst, setLast, setNext, setPrev, setList}
 use Rattle.model.specs.BlockList.{push, popHead, pop, Popped, popped, remove, removeBetween}
-use Rattle.laws.specs.Base.{if-cases, if-true, if-false, member-out}
-use Rattle.laws.specs.Stores.{set-at, set-off}
-use Rattle.laws.specs.Params.{Bounds, some-start, blockAt-start}
-use Rattle.laws.specs.Tables.{Sized}
-use Rattle.laws.specs.BlockList.{pushOnly}
-use Rattle.laws.specs.Frame.{push-first}
-use Rattle.laws.specs.Pigeon.{Distinct}
-use Rattle.soundness.specs.Lists.{Seg, Run, Lists, Off, put, in-put, Same, seg-same, one-list, lists-distinct, lists-off, lists-put, first-none, first-some}
-use Rattle.soundness.specs.Removes.{without, without-head, words-same, remove-stays, remove-lists}
+use Rattle.laws.proofs.Base.{if-cases, if-true, if-false, member-out}
+use Rattle.laws.proofs.Stores.{set-at, set-off}
+use Rattle.laws.proofs.Params.{Bounds, some-start, blockAt-start}
+use Rattle.laws.proofs.Tables.{Sized}
+use Rattle.laws.proofs.BlockList.{pushOnly}
+use Rattle.laws.proofs.Frame.{push-first}
+use Rattle.laws.proofs.Pigeon.{Distinct}
+use Rattle.soundness.proofs.Lists.{Seg, Run, Lists, Off, put, in-put, Same, seg-same, one-list, lists-distinct, lists-off, lists-put, first-none, first-some}
+use Rattle.soundness.proofs.Removes.{without, without-head, words-same, remove-stays, remove-lists}
 
 -- a pop of the first block x of a list is its removal, and its links are 0 then
 pub popHead-remove : (p : Params) (l x : ℕ) (w : Words) → getD (w .prev) x 0 ≡ 0

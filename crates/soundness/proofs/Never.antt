@@ -15,17 +15,18 @@ use Rattle.model.specs.Events.{Event, initialised, swept, released, taken, even
 use Rattle.model.specs.SizeClasses.{binOf, raised}
 use Rattle.model.specs.Global.{isHolder, isBound, hasReleased, freshTables, bindHolder, destroyHolder, prepared, markPlace}
 use Rattle.model.specs.Sound.{linkOk, sound}
-use Rattle.model.specs.Calls.{Reply, answered, Call, bind, destroy, alloc, prepare, mark, release, sharedRelease, End, says, takes, Plan, goodRequest, tooBig, goodOffer, goodObject, takePlan, planAlloc, mayRelease, releasePlan, planSound, plan, Step, takeCell, finish, step, Result, lentOf, resultFrom, call, setUp}
+use Rattle.model.specs.Calls.{refusalNumber, Reply, answered, Call, bind, destroy, alloc, prepare, mark, release, sharedRelease, End, says, takes, Plan, goodRequest, tooBig, goodOffer, goodObject, takePlan, planAlloc, mayRelease, releasePlan, planSound, plan, Step, takeCell, finish, step, Result, lentOf, resultFrom, call, setUp}
+use Rattle.model.specs.Refusals.{NoBadTables}
 use Rattle.model.specs.Runs.{Write, written, Turn, State, foundBy, resultOf, turned, begun, Seen, trace}
-use Rattle.laws.specs.Base.{if-cases}
-use Rattle.laws.specs.Params.{Bounds, good-bounds}
-use Rattle.laws.specs.Memory.{length-overwrite}
-use Rattle.laws.specs.Marks.{length-setMark, length-cleared}
-use Rattle.laws.specs.Cells.{length-linkAll}
-use Rattle.laws.specs.Lent.{fits-parts, answered-fits, set-up-is, call-is}
-use Rattle.soundness.specs.Alloc.{find-marks}
-use Rattle.soundness.specs.Replies.{never-bad}
-use Rattle.soundness.specs.Kept.{Kept, fresh-kept, step-kept}
+use Rattle.laws.proofs.Base.{if-cases}
+use Rattle.laws.proofs.Params.{Bounds, good-bounds}
+use Rattle.laws.proofs.Memory.{length-overwrite}
+use Rattle.laws.proofs.Marks.{length-setMark, length-cleared}
+use Rattle.laws.proofs.Cells.{length-linkAll}
+use Rattle.laws.proofs.Lent.{fits-parts, answered-fits, set-up-is, call-is}
+use Rattle.soundness.proofs.Alloc.{find-marks}
+use Rattle.soundness.proofs.Replies.{never-bad}
+use Rattle.soundness.proofs.Kept.{Kept, fresh-kept, step-kept}
 
 -- ---- lengths of heap and marks stay
 
@@ -149,10 +150,8 @@ module _ (p : Params) (fine : goodParams p ≡ true) where
       (λ i. run-never us (step p t (written p (u .writes) h) (u .call) .tables) (step p t (written p (u .writes) h) (u .call) .heap) (turned p s u)
       (ap (λ (r : Result). r .lent) (turn-is u t h s e K)) (step-fits t (written p (u .writes) h) (writes-fit u t h K) (u .call)) x i) m
 
--- After a set-up that was answered, no call of a run is refused BadTables, whatever is called and whatever is written
-pub no-bad-tables : (p : Params) (l : Lent) (us : List Turn) → setUp p l .reply ≡ answered []
-    → (x : Seen) → In x (trace p (begun p l) us) → x .reply .number ≢ 2
-unfolding begun
+pub no-bad-tables : NoBadTables
+unfolding NoBadTables begun refusalNumber
 no-bad-tables p l us e x m =
     let f : fits p l ≡ true = answered-fits p l e in
     let fine : goodParams p ≡ true = fits-parts p l f .0 in

@@ -14,11 +14,11 @@ use Rattle.model.specs.Tables.{Words, setNext, setPrev, setFree, setSize, setLi
 use Rattle.model.specs.BlockList.{push, pop, remove, append}
 use Rattle.model.specs.Block.{clearBlock}
 use Rattle.model.specs.Global.{abandonBin, abandonBlocks, Freed, freed, releaseBlocks, appendTo, releaseBin, releaseHolder, sweepLater}
-use Rattle.laws.specs.Stores.{set-off}
-use Rattle.laws.specs.Tables.{Sized, sized-same, lengths, kept-lengths}
-pub use Rattle.laws.specs.Walks.{Numbered, available-numbered, unswept-numbered, consumed-numbered, unswept-consumed, unswept-available}
-use Rattle.laws.specs.Walks.{blocks-keep-any, bins-keep, later-keeps, abandon-keeps}
-use Rattle.laws.specs.Frame.{LinksOnly, links-refl, push-links, pop-links, append-links, remove-links, each-keeps, FirstsBut, push-first, pop-firsts, append-first, remove-first, append-empties}
+use Rattle.laws.proofs.Stores.{set-off}
+use Rattle.laws.proofs.Tables.{Sized, sized-same, lengths, kept-lengths}
+pub use Rattle.laws.proofs.Walks.{Numbered, available-numbered, unswept-numbered, consumed-numbered, unswept-consumed, unswept-available}
+use Rattle.laws.proofs.Walks.{blocks-keep-any, bins-keep, later-keeps, abandon-keeps}
+use Rattle.laws.proofs.Frame.{LinksOnly, links-refl, push-links, pop-links, append-links, remove-links, each-keeps, FirstsBut, push-first, pop-firsts, append-first, remove-first, append-empties}
 
 -- ---- list numbers
 

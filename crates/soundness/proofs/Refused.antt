@@ -26,21 +26,21 @@ use Rattle.model.specs.Global.{isHolder, isBound, hasReleased}
 use Rattle.model.specs.Sound.{linkOk, sound}
 use Rattle.model.specs.Calls.{refusalNumber, Call, bind, destroy, alloc, prepare, mark, release, sharedRelease, Plan, refuses, changes, goodRequest, tooBig, goodOffer, goodObject, takePlan, planAlloc, mayRelease, releasePlan, planSound, plan, Step, takeCell, finish, step, Result, tablesIn, lentOf, resultFrom, badSetup, call, setUp}
 use Rattle.model.specs.Refusals.{Passed, Unmoved, TakenOver, SearchKeeps, KeptExhausted, KeptBadLink, OfAlloc, Refused, RefusalKeeps, SetUpKeeps}
-use Rattle.laws.specs.Below.{and-five}
-use Rattle.laws.specs.Base.{if-cases, and-left, not-both}
-use Rattle.laws.specs.Good.{good}
-use Rattle.laws.specs.Params.{Bounds, good-bounds, some-start, blockAt-start}
-use Rattle.laws.specs.Stores.{set-at}
-use Rattle.laws.specs.Tables.{Sized, sized-same, sized-view, flat-view, view-flat}
-use Rattle.laws.specs.Classes.{chosen, fits-raised, cell-in-block, cellBytes-least}
-use Rattle.laws.specs.Cells.{chain-in}
-use Rattle.laws.specs.Frame.{links-refl, push-links}
-use Rattle.laws.specs.Walks.{find-keeps}
-use Rattle.soundness.specs.SoundLists.{sound-good}
-use Rattle.soundness.specs.Owners.{Framed, framed-refl}
-use Rattle.soundness.specs.Held.{Held}
-use Rattle.soundness.specs.Flags.{bound-at}
-use Rattle.soundness.specs.Searches.{chain-above, some-head, chain-link, events-behind, Quiet, quiet-start, Going, Stopped, search-steps}
+use Rattle.laws.proofs.Below.{and-five}
+use Rattle.laws.proofs.Base.{if-cases, and-left, not-both}
+use Rattle.laws.proofs.Good.{good}
+use Rattle.laws.proofs.Params.{Bounds, good-bounds, some-start, blockAt-start}
+use Rattle.laws.proofs.Stores.{set-at}
+use Rattle.laws.proofs.Tables.{Sized, sized-same, sized-view, flat-view, view-flat}
+use Rattle.laws.proofs.Classes.{chosen, fits-raised, cell-in-block, cellBytes-least}
+use Rattle.laws.proofs.Cells.{chain-in}
+use Rattle.laws.proofs.Frame.{links-refl, push-links}
+use Rattle.laws.proofs.Walks.{find-keeps}
+use Rattle.soundness.proofs.SoundLists.{sound-good}
+use Rattle.soundness.proofs.Owners.{Framed, framed-refl}
+use Rattle.soundness.proofs.Held.{Held}
+use Rattle.soundness.proofs.Flags.{bound-at}
+use Rattle.soundness.proofs.Searches.{chain-above, some-head, chain-link, events-behind, Quiet, quiet-start, Going, Stopped, search-steps}
 
 -- ---- what was lent, with what the search left in it
 

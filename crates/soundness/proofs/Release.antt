@@ -18,17 +18,17 @@ use Rattle.model.specs.BlockList.{remove, append}
 use Rattle.model.specs.Block.{clearBlock}
 use Rattle.model.specs.Global.{abandonBlocks, Freed, freed, releaseBlocks, appendTo, releaseHolder, sweepLater}
 use Rattle.model.specs.Sound.{stateOf, blockClear}
-use Rattle.laws.specs.Base.{not-both, or-none-left, or-none-right, in-append, in-append-left, in-append-right, filter-append}
-use Rattle.laws.specs.Params.{Bounds, blockAt-start}
-use Rattle.laws.specs.Stores.{set-at, set-off}
-use Rattle.laws.specs.Tables.{Sized, sized-same, lengths, kept-lengths}
-use Rattle.laws.specs.Frame.{LinksOnly, links-refl, append-links, remove-links}
-use Rattle.laws.specs.Walks.{Numbered, releasedOne, blocks-keep, bins-keep, later-keeps, abandon-keeps}
-use Rattle.laws.specs.Pigeon.{Distinct}
-use Rattle.soundness.specs.Lists.{Seg, Run, AllOn, Off, OnSome, put, put-same, put-other, put-all, put-in, in-put, on-list, one-list, free-off, lists-distinct}
-use Rattle.soundness.specs.Removes.{without, in-without, without-in, without-none, remove-lists, remove-stays, append-lists, append-stays, clear-lists}
-use Rattle.soundness.specs.SoundLists.{Fit}
-use Rattle.soundness.specs.Held.{Held, SameWords, links-words, fit-moves, fit-same, clear-same}
+use Rattle.laws.proofs.Base.{not-both, or-none-left, or-none-right, in-append, in-append-left, in-append-right, filter-append}
+use Rattle.laws.proofs.Params.{Bounds, blockAt-start}
+use Rattle.laws.proofs.Stores.{set-at, set-off}
+use Rattle.laws.proofs.Tables.{Sized, sized-same, lengths, kept-lengths}
+use Rattle.laws.proofs.Frame.{LinksOnly, links-refl, append-links, remove-links}
+use Rattle.laws.proofs.Walks.{Numbered, releasedOne, blocks-keep, bins-keep, later-keeps, abandon-keeps}
+use Rattle.laws.proofs.Pigeon.{Distinct}
+use Rattle.soundness.proofs.Lists.{Seg, Run, AllOn, Off, OnSome, put, put-same, put-other, put-all, put-in, in-put, on-list, one-list, free-off, lists-distinct}
+use Rattle.soundness.proofs.Removes.{without, in-without, without-in, without-none, remove-lists, remove-stays, append-lists, append-stays, clear-lists}
+use Rattle.soundness.proofs.SoundLists.{Fit}
+use Rattle.soundness.proofs.Held.{Held, SameWords, links-words, fit-moves, fit-same, clear-same}
 
 -- ---- a list from some block on
 

@@ -21,12 +21,12 @@ use Rattle.model.specs.Global.{Freed, freed, releaseBlocks, appendTo, isHolder,
 use Rattle.model.specs.Sound.{sound}
 use Rattle.model.specs.Calls.{refusalNumber, Call, release, sharedRelease, Plan, refuses, mayRelease, releasePlan, planSound, plan, finish, step, Result, tablesIn, resultFrom, call}
 use Rattle.model.specs.Refusals.{madeUnallocated, CountsReleased, ReleasedCounts}
-use Rattle.laws.specs.Base.{if-cases, filter-append}
-use Rattle.laws.specs.Below.{and-five}
-use Rattle.laws.specs.Tables.{by-lt}
-use Rattle.laws.specs.Stores.{set-at, set-off}
-use Rattle.laws.specs.Pigeon.{sum-same, sum-zero, sum-add, sum-one}
-use Rattle.laws.specs.Walks.{releasedOne, blocks-keep-any, bins-keep-any, later-keeps-any}
+use Rattle.laws.proofs.Base.{if-cases, filter-append}
+use Rattle.laws.proofs.Below.{and-five}
+use Rattle.laws.proofs.Tables.{by-lt}
+use Rattle.laws.proofs.Stores.{set-at, set-off}
+use Rattle.laws.proofs.Pigeon.{sum-same, sum-zero, sum-add, sum-one}
+use Rattle.laws.proofs.Walks.{releasedOne, blocks-keep-any, bins-keep-any, later-keeps-any}
 
 -- one release more is counted
 releases-behind : (es : List Event) (b : ℕ) → releases (es ++ (released b ∷ [])) ≡ releases es + 1

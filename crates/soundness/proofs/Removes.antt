@@ -17,13 +17,13 @@ use Rattle.model.specs.Params.{start, blockAt, listWord}
 use Rattle.model.specs.Tables.{Words, setFirst, setLast, setNext, setPrev, setFree, setSize, setList, setTls}
 use Rattle.model.specs.BlockList.{removeBetween, remove, relabel, link, append}
 use Rattle.model.specs.Block.{clearBlock}
-use Rattle.laws.specs.Base.{if-true, if-false, if-cases, not-both, or-none-left, or-none-right, in-filter, filter-in}
-use Rattle.laws.specs.Stores.{set-at, set-off, set-keeps, set-again}
-use Rattle.laws.specs.Params.{Bounds, some-start, start-same, blockAt-start}
-use Rattle.laws.specs.Tables.{Sized}
-use Rattle.laws.specs.Frame.{link-list, append-none, append-empties}
-use Rattle.laws.specs.Pigeon.{Distinct, Under}
-use Rattle.soundness.specs.Lists.{Seg, Run, Lists, Off, put, put-all, Same, seg-under, seg-map, seg-same, seg-short, on-list, one-list, lists-off, lists-put, none-first}
+use Rattle.laws.proofs.Base.{if-true, if-false, if-cases, not-both, or-none-left, or-none-right, in-filter, filter-in}
+use Rattle.laws.proofs.Stores.{set-at, set-off, set-keeps, set-again}
+use Rattle.laws.proofs.Params.{Bounds, some-start, start-same, blockAt-start}
+use Rattle.laws.proofs.Tables.{Sized}
+use Rattle.laws.proofs.Frame.{link-list, append-none, append-empties}
+use Rattle.laws.proofs.Pigeon.{Distinct, Under}
+use Rattle.soundness.proofs.Lists.{Seg, Run, Lists, Off, put, put-all, Same, seg-under, seg-map, seg-same, seg-short, on-list, one-list, lists-off, lists-put, none-first}
 
 -- ---- a list without one of its blocks
 

@@ -15,7 +15,7 @@ use Rattle.model.specs.FreeListAllocator.{Search}
 use Rattle.model.specs.Global.{isHolder, isBound, hasReleased}
 use Rattle.model.specs.Sound.{linkOk, sound}
 use Rattle.model.specs.Calls.{refusalNumber, refused, Call, bind, destroy, alloc, prepare, mark, release, sharedRelease, End, says, takes, Plan, goodRequest, tooBig, goodOffer, goodObject, takePlan, planAlloc, mayRelease, releasePlan, planSound, plan, Step, takeCell, finish, step}
-use Rattle.laws.specs.Base.{if-cases}
+use Rattle.laws.proofs.Base.{if-cases}
 
 -- 0, or a refusal's number up to BadObject that is not BadTables
 abbrev pub Fair : ℕ → Type 0

@@ -22,19 +22,19 @@ use Rattle.model.specs.Events.{Event, eventHeap, eventsHeap}
 use Rattle.model.specs.FreeListAllocator.{sweepOf}
 use Rattle.model.specs.Sound.{linkOk}
 use Rattle.model.specs.Refusals.{OnList, searches, HadNone, Unmoved, TakenOver, Passed}
-use Rattle.laws.specs.Base.{if-cases, not-both, or-left, or-right}
-use Rattle.laws.specs.Params.{Bounds, blockAt-start, word-same}
-use Rattle.laws.specs.Stores.{set-at, set-off}
-use Rattle.laws.specs.Classes.{cellBytes-least}
-use Rattle.laws.specs.Cells.{Whole, whole-isCell, whole-nonzero, in-chain, desc-less, desc-cellsDown, chainStands, stands-linkAll, whole-placed}
-use Rattle.laws.specs.Walks.{Numbered, available-numbered, unswept-numbered, Files, Steps}
-use Rattle.laws.specs.Tables.{Sized, lengths, sized-same, lengths-setFree, lengths-setTls}
-use Rattle.laws.specs.Frame.{LinksOnly, links-refl, push-links, pop-links, push-list, push-first, FirstsBut, pop-firsts}
-use Rattle.soundness.specs.Lists.{Lists, On, Same, put, Links, on-list, lists-same, first-none, first-some}
-use Rattle.soundness.specs.Moves.{push-stays, pop-words, pop-stays, pop-lists}
-use Rattle.soundness.specs.Held.{Held}
-use Rattle.soundness.specs.SoundLists.{Fit}
-use Rattle.soundness.specs.Alloc.{Tweaked, tweak-free, tweak-tls, my-available, my-unswept, my-consumed, Searched, steps}
+use Rattle.laws.proofs.Base.{if-cases, not-both, or-left, or-right}
+use Rattle.laws.proofs.Params.{Bounds, blockAt-start, word-same}
+use Rattle.laws.proofs.Stores.{set-at, set-off}
+use Rattle.laws.proofs.Classes.{cellBytes-least}
+use Rattle.laws.proofs.Cells.{Whole, whole-isCell, whole-nonzero, in-chain, desc-less, desc-cellsDown, chainStands, stands-linkAll, whole-placed}
+use Rattle.laws.proofs.Walks.{Numbered, available-numbered, unswept-numbered, Files, Steps}
+use Rattle.laws.proofs.Tables.{Sized, lengths, sized-same, lengths-setFree, lengths-setTls}
+use Rattle.laws.proofs.Frame.{LinksOnly, links-refl, push-links, pop-links, push-list, push-first, FirstsBut, pop-firsts}
+use Rattle.soundness.proofs.Lists.{Lists, On, Same, put, Links, on-list, lists-same, first-none, first-some}
+use Rattle.soundness.proofs.Moves.{push-stays, pop-words, pop-stays, pop-lists}
+use Rattle.soundness.proofs.Held.{Held}
+use Rattle.soundness.proofs.SoundLists.{Fit}
+use Rattle.soundness.proofs.Alloc.{Tweaked, tweak-free, tweak-tls, my-available, my-unswept, my-consumed, Searched, steps}
 
 -- ---- one block moved
 

@@ -16,15 +16,15 @@ use Rattle.model.specs.Tables.{Words, blocksIn, Tables, tablesOf, view, setBoun
 use Rattle.model.specs.Global.{freshWords, freshTables, bindHolder, unmarkedState, prepared, markPlace}
 use Rattle.model.specs.Sound.{stateOf, stateKnown, linkOk, blockClear}
 use Rattle.model.specs.Memory.{marked}
-use Rattle.laws.specs.Base.{if-cases, if-true, if-false}
-use Rattle.laws.specs.Below.{true-not-false}
-use Rattle.laws.specs.Memory.{getD-zeros}
-use Rattle.laws.specs.Stores.{set-all}
-use Rattle.laws.specs.Tables.{part-zeros, by-lt}
-use Rattle.soundness.specs.Lists.{Seg, AllOn, Links, linksOf, on-list, lists-same}
-use Rattle.soundness.specs.SoundLists.{Fit, Good}
-use Rattle.soundness.specs.Held.{SameWords, clear-same}
-use Rattle.soundness.specs.Flags.{Flags, Empty, facts-flags}
+use Rattle.laws.proofs.Base.{if-cases, if-true, if-false}
+use Rattle.laws.proofs.Below.{true-not-false}
+use Rattle.laws.proofs.Memory.{getD-zeros}
+use Rattle.laws.proofs.Stores.{set-all}
+use Rattle.laws.proofs.Tables.{part-zeros, by-lt}
+use Rattle.soundness.proofs.Lists.{Seg, AllOn, Links, linksOf, on-list, lists-same}
+use Rattle.soundness.proofs.SoundLists.{Fit, Good}
+use Rattle.soundness.proofs.Held.{SameWords, clear-same}
+use Rattle.soundness.proofs.Flags.{Flags, Empty, facts-flags}
 
 -- the tables of lists and blocks
 pub record Rows : Type 0 where

@@ -19,11 +19,11 @@ use Rattle.model.specs.BlockList.{walk, blocksOn}
 use Rattle.model.specs.Block.{Unallocated}
 use Rattle.model.specs.Global.{isHolder}
 use Rattle.model.specs.Sound.{stateOf, stateKnown, blockClear, listNamed, binNamed, setNamed, onListNamed, sizeOk, linkOk, tlsOk, blockSound, linkedFrom, linked, unboundEmpty, inGcEmpty, phaseKnown, flagsKnown, releasedFew, releasedSome, releasedEmpty, sound}
-use Rattle.laws.specs.Base.{and-left, and-right, or-cases, all-below, below-all, in-member, member-in}
-use Rattle.laws.specs.Below.{true-not-false, and-both, and-three, and-five, and-seven}
-use Rattle.laws.specs.Params.{Bounds, start-pos, start-blockAt, blockAt-start, blockAt-isStart, isStart-start}
-use Rattle.laws.specs.Linked.{linked-end, linked-long, linked-on, walk-end, walk-on}
-use Rattle.soundness.specs.Lists.{Seg, Lists, AllOn, seg-short, on-list}
+use Rattle.laws.proofs.Base.{and-left, and-right, or-cases, all-below, below-all, in-member, member-in}
+use Rattle.laws.proofs.Below.{true-not-false, and-both, and-three, and-five, and-seven}
+use Rattle.laws.proofs.Params.{Bounds, start-pos, start-blockAt, blockAt-start, blockAt-isStart, isStart-start}
+use Rattle.laws.proofs.Linked.{linked-end, linked-long, linked-on, walk-end, walk-on}
+use Rattle.soundness.proofs.Lists.{Seg, Lists, AllOn, seg-short, on-list}
 
 -- ---- the blocks that stand from a link on
 

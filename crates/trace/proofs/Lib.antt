@@ -1,1 +1,5 @@
+pub mod RunLaws
+pub mod SectionsLaws
+pub mod Room
+pub mod CensusLaws
 pub mod Whole

@@ -6,10 +6,11 @@ use native.Mathlib.Omega.{arith}
 use lib.ListN.{length, drop, length-append}
 use Rattle.model.specs.Memory.{overwrite}
 use Rattle.model.specs.Census.{census}
-use Rattle.laws.specs.Memory.{overwrite-nil}
-use Rattle.laws.specs.Text.{placeAfter}
-use Rattle.trace.specs.Room.{listingBytes, census-short}
-use Rattle.trace.specs.Census.{Listed, Whole}
+use Rattle.laws.proofs.Memory.{overwrite-nil}
+use Rattle.model.specs.Text.{placeAfter}
+use Rattle.model.specs.Text.{listingBytes}
+use Rattle.trace.proofs.Room.{census-short}
+use Rattle.model.specs.Text.{Listed, Whole}
 
 -- a text that fits, written over the front
 overwrite-front : (text h : List ℕ) → length text ≤ length h → overwrite 0 text h ≡ text ++ drop (length text) h

@@ -1,22 +1,11 @@
 -- The whole listing, from what stands after the lines of a trace.
-use mathlib.Core.Path.{_≡_, refl, ap}
-use mathlib.Core.List.{List, [], _∷_, _++_, map, flatMap}
-use Prim.Native.Nat.{ℕ, _≤_}
-use native.Mathlib.Omega.{arith}
-use lib.ListN.{length, take, drop, replicate, length-take}
-use Rattle.model.specs.declared.Params.{Params}
-use Rattle.model.specs.Params.{Lent, wordCount}
-use Rattle.model.specs.Calls.{Reply, setUp}
-use Rattle.model.specs.Tables.{Words, tablesOf, view}
-use Rattle.model.specs.Sound.{stateOf}
-use Rattle.model.specs.Census.{section, occupied, blockRow, freeRows, linesOf, censusParams, censusLent, runLines, Ran, listing, census}
+use mathlib.Core.List.{List, [], _∷_, _++_}
+use Prim.Native.Nat.{ℕ}
+use Rattle.model.specs.Params.{Lent}
+use Rattle.model.specs.Calls.{setUp}
+use Rattle.model.specs.Census.{section, linesOf, censusParams, runLines, listing}
 use Rattle.listing.specs.Print.{refusedRows}
-use Rattle.laws.specs.Text.{placeAfter, Printed, printed-append, length-printed}
-use Rattle.model.specs.Memory.{overwrite}
-use Rattle.trace.specs.Room.{listingBytes, census-short}
-use Rattle.model.specs.Promise.{lend, SetUpPromised}
-use Rattle.trace.specs.Run.{TraceRan}
-use Rattle.trace.specs.Sections.{tablesRead, blocksText, freeText}
+use Rattle.trace.specs.Sections.{blocksText, freeText}
 
 -- the three sections: the refused lines as they are kept, words, states and heap
 unfoldable pub listingText : List ℕ → List ℕ → List ℕ → List ℕ → List ℕ → List ℕ
@@ -24,92 +13,6 @@ listingText lines numbers words states heap =
     section (114 ∷ 101 ∷ 102 ∷ 117 ∷ 115 ∷ 101 ∷ 100 ∷ []) (refusedRows lines numbers)
     ++ (blocksText words states ++ freeText words states heap)
 
--- printed one behind the other
-pub three-printed : {h h′ h″ h‴ : List ℕ} {r b f : ℕ} (lines numbers words states heap : List ℕ)
-    → Printed h h′ 0 r (section (114 ∷ 101 ∷ 102 ∷ 117 ∷ 115 ∷ 101 ∷ 100 ∷ []) (refusedRows lines numbers))
-    → Printed h′ h″ r b (blocksText words states) → Printed h″ h‴ b f (freeText words states heap)
-    → Printed h h‴ 0 f (listingText lines numbers words states heap)
-unfolding listingText
-three-printed lines numbers words states heap p q r = printed-append p (printed-append q r)
-
 -- the listing of a trace, run after a set-up on this
 unfoldable pub listedFrom : Lent → List ℕ → List ℕ
 listedFrom l trace = listing (runLines 1 (linesOf trace) (setUp censusParams l .lent))
-
--- no row looks at a mark
-free-rows-same : (w : Words) (s m m′ h bs : List ℕ) → flatMap (freeRows (tablesOf w s m) h) bs ≡ flatMap (freeRows (tablesOf w s m′) h) bs
-unfolding flatMap freeRows
-free-rows-same w s m m′ h [] = refl
-free-rows-same w s m m′ h (b ∷ bs) = rw (free-rows-same w s m m′ h bs)
-
-sections-same : (w s m h : List ℕ) (rows : List (List ℕ)) (name : List ℕ)
-    → section name rows ++ (blocksText w s ++ freeText w s h) ≡ section name rows ++ (section (98 ∷ 108 ∷ 111 ∷ 99 ∷ 107 ∷ 115 ∷ []) (map (blockRow (tablesOf (view w) s m)) (occupied (tablesOf (view w) s m))) ++ section (102 ∷ 114 ∷ 101 ∷ 101 ∷ []) (flatMap (freeRows (tablesOf (view w) s m) h) (occupied (tablesOf (view w) s m))))
-unfolding blocksText freeText tablesRead blockRow occupied stateOf
-sections-same w s m h rows name = rw (free-rows-same (view w) s [] m h _)
-
--- what the run leaves is what is listed
-pub same-listing : (ran : Ran) (n : ℕ) (w s m h : List ℕ) (lines numbers : List ℕ) → TraceRan ran n (lend w s m h) lines numbers
-    → listingText (take n lines) (take n numbers) w s h ≡ listing ran
-unfolding listingText listing refusedRows
-same-listing ran n w s m h lines numbers t =
-    rw (← t .lent, ← t .refusals) (sections-same w s m h _ _)
-
--- as many as are kept
-pub kept-count : (n : ℕ) (l : List ℕ) → n ≤ length l → n ≡ length (take n l)
-kept-count n l f = omega (arith, length-take n l, f)
-
--- set-up, the run and the listing, one after the other
-pub listed : {h h′ : List ℕ} {r n : ℕ} {p : Params} {reply : Reply} (l l₁ : Lent) (trace w s m heap lines numbers : List ℕ)
-    → p ≡ censusParams → SetUpPromised p l reply l₁ → TraceRan (runLines 1 (linesOf trace) l₁) n (lend w s m heap) lines numbers
-    → Printed h h′ 0 r (listingText (take n lines) (take n numbers) w s heap) → Printed h h′ 0 r (listedFrom l trace)
-unfolding listedFrom
-listed {n = n} l l₁ trace w s m heap lines numbers e u t q =
-    rw (← e, ← u .lent) (rw (same-listing _ n w s m heap lines numbers t) at q)
-
--- the census lends zeros
-lends-zeros : lend (replicate 2982 0) (replicate 4 0) (replicate 256 0) (replicate 16384 0) ≡ censusLent
-unfolding censusLent wordCount censusParams
-lends-zeros = refl
-
-census-printed : {h h′ : List ℕ} {r : ℕ} (trace : List ℕ)
-    → Printed h h′ 0 r (listedFrom (lend (replicate 2982 0) (replicate 4 0) (replicate 256 0) (replicate 16384 0)) trace)
-    → Printed h h′ 0 r (census trace)
-unfolding census listedFrom
-census-printed trace p = rw lends-zeros at p
-
--- ---- what the call promises
-
--- As many bytes of the listing as the buffer holds stand at its front, the others are as before, and r says how many: all of
--- them if it holds 20,000.
-pub record Listed (h h′ : List ℕ) (r : ℕ) (text : List ℕ) : Type 0 where
-  pub printed : Printed h h′ 0 r text
-  pub inside : r ≤ length h′
-  pub whole : listingBytes ≤ length h → take r h′ ≡ text
-
--- The whole text stands at the front, every other byte is as before, and r says how many it has.
-pub record Whole (h h′ : List ℕ) (r : ℕ) (text : List ℕ) : Type 0 where
-  pub bytes : h′ ≡ text ++ drop (length text) h
-  pub count : r ≡ length text
-
-take-overwrite : (text h : List ℕ) → length text ≤ length h → take (length text) (overwrite 0 text h) ≡ text
-unfolding overwrite
-take-overwrite [] h f = refl
-take-overwrite (v ∷ vs) [] f = absurd (omega (arith, f))
-take-overwrite (v ∷ vs) (x ∷ h) f = ap (λ (l : List ℕ). v ∷ l) (take-overwrite vs h (omega (arith, f)))
-
-printed-inside : {h h′ : List ℕ} {r : ℕ} {text : List ℕ} → Printed h h′ 0 r text → r ≤ length h′
-unfolding placeAfter
-printed-inside p = omega (arith, p .place, length-printed p)
-
-pub whole-printed : {h h′ : List ℕ} {r : ℕ} {text : List ℕ} → Printed h h′ 0 r text → length text ≤ length h → take r h′ ≡ text
-unfolding placeAfter
-whole-printed {h} {h′} {r} {text} p f =
-    let e : r ≡ length text = omega (arith, p .place, f) in
-    rw (p .bytes, e) (take-overwrite text h f)
-
-pub census-listed : {h h′ : List ℕ} {r : ℕ} (trace : List ℕ)
-    → Printed h h′ 0 r (listedFrom (lend (replicate 2982 0) (replicate 4 0) (replicate 256 0) (replicate 16384 0)) trace)
-    → Listed h h′ r (census trace)
-census-listed trace p =
-    let q = census-printed trace p in
-    record { printed = q; inside = printed-inside q; whole = λ f. whole-printed q (omega (arith, f, census-short trace)) }

@@ -1,4 +1,3 @@
 pub mod Run
 pub mod Sections
-pub mod Room
 pub mod Census

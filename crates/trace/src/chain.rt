@@ -9,7 +9,7 @@ ghost use lib.ListN.{length};
 ghost use Rattle.model.specs.Tables.{view};
 ghost use Rattle.model.specs.Block.{freeChain};
 ghost use Rattle.model.specs.Census.{censusParams, freeRows};
-ghost use Rattle.laws.specs.Text.{Printed};
+ghost use Rattle.model.specs.Text.{Printed};
 ghost use Rattle.trace.specs.Sections.{tablesRead};
 
 pub(crate) fn count(words: &[usize], heap: &[u8], b: Block) -> usize

@@ -5,8 +5,9 @@ ghost use Prim.Native.Nat.{_≤_};
 ghost use lib.ListN.{length};
 ghost use Rattle.model.specs.Census.{census};
 ghost use Rattle.model.specs.Promise.{lend};
-ghost use Rattle.laws.specs.Text.{Printed};
-ghost use Rattle.trace.specs.Census.{listingText, listedFrom, Listed, Whole};
+ghost use Rattle.model.specs.Text.{Printed};
+ghost use Rattle.model.specs.Text.{Listed, Whole};
+ghost use Rattle.trace.specs.Census.{listingText, listedFrom};
 
 mod chain;
 mod run;

@@ -19,7 +19,7 @@ ghost use lib.ListN.{length, take};
 ghost use Rattle.model.specs.Calls.{refusalNumber, alloc, mark};
 ghost use Rattle.model.specs.Answers.{replyOf, allocReply, markReply, releaseReply};
 ghost use Rattle.model.specs.Census.{censusParams, linesOf, runLines};
-ghost use Rattle.laws.specs.Text.{linesFrom};
+ghost use Rattle.model.specs.Text.{linesFrom};
 ghost use Rattle.model.specs.Promise.{lend};
 ghost use Rattle.listing.specs.Line.{lineFor};
 ghost use Rattle.trace.specs.Run.{LineRan, Kept, TraceRan};

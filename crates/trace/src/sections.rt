@@ -10,7 +10,7 @@ ghost use lib.ListN.{length};
 ghost use Rattle.model.specs.Tables.{view};
 ghost use Rattle.model.specs.Sound.{setNamed};
 ghost use Rattle.model.specs.Census.{blockRow, freeRows};
-ghost use Rattle.laws.specs.Text.{Printed};
+ghost use Rattle.model.specs.Text.{Printed};
 ghost use Rattle.trace.specs.Sections.{tablesRead, isOccupied, occupiedIn, blocksText, freeText};
 
 // Whether the block is not Unallocated.

@@ -9,8 +9,8 @@ use lib.ListN.{length, getD, set, List·getD-eq-default}
 use borrow.Author.Tests.{eqb-true}
 use Rattle.model.specs.Base.{allBelow}
 use Rattle.model.specs.Memory.{bitOf, setBit}
-use Rattle.laws.specs.Base.{all-below, and-left, and-right}
-use Rattle.laws.specs.Marks.{bitOf-zero}
+use Rattle.laws.proofs.Base.{all-below, and-left, and-right}
+use Rattle.laws.proofs.Marks.{bitOf-zero}
 use Rattle.words.specs.Bits.{clearBit}
 
 -- as the code has them

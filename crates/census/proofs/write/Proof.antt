@@ -1,6 +1,6 @@
 -- `write` is safe: the part is within the buffer.
 use borrow.Author.Needs.{needs}
-use Rattle.trace.specs.Census.{kept-count}
+use Rattle.trace.proofs.CensusLaws.{kept-count}
 use Rattle.census.proofs.write.Statement.{statement}
 use Rattle.census.proofs.write.Tie as tie
 

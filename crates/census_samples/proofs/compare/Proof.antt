@@ -1,6 +1,6 @@
 -- `compare` is safe: a whole listing lies within its buffer.
 use borrow.Author.Needs.{needs}
-use Rattle.trace.specs.Census.{kept-count}
+use Rattle.trace.proofs.CensusLaws.{kept-count}
 use Rattle.trace.proofs.Whole.{whole-inside}
 use Rattle.census_samples.proofs.compare.Statement.{statement}
 use Rattle.census_samples.proofs.compare.Tie as tie

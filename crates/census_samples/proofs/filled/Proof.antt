@@ -1,6 +1,6 @@
 -- `filled` is safe: it reads into a part of the buffer.
 use borrow.Author.Needs.{needs}
-use Rattle.trace.specs.Census.{kept-count}
+use Rattle.trace.proofs.CensusLaws.{kept-count}
 use Rattle.census_samples.proofs.filled.Statement.{statement}
 use Rattle.census_samples.proofs.filled.Tie as tie
 

@@ -1,6 +1,6 @@
 -- `same` is safe: both parts are within their buffers.
 use borrow.Author.Needs.{needs}
-use Rattle.trace.specs.Census.{kept-count}
+use Rattle.trace.proofs.CensusLaws.{kept-count}
 use Rattle.census_samples.proofs.same.Statement.{statement}
 use Rattle.census_samples.proofs.same.Tie as tie
 

@@ -1,5 +1,5 @@
 use borrow.Author.Needs.{needs}
-use Rattle.trace.specs.Census.{census-listed}
+use Rattle.trace.proofs.CensusLaws.{census-listed}
 use Rattle.trace.proofs.census.Statement.{statement}
 use Rattle.trace.proofs.census.Tie as tie
 use Rattle.trace.proofs.census.Reads as reads

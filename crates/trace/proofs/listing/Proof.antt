@@ -1,5 +1,5 @@
 use borrow.Author.Needs.{needs}
-use Rattle.trace.specs.Census.{three-printed}
+use Rattle.trace.proofs.CensusLaws.{three-printed}
 use Rattle.trace.proofs.listing.Statement.{statement}
 use Rattle.trace.proofs.listing.Tie as tie
 use Rattle.trace.proofs.listing.Reads as reads

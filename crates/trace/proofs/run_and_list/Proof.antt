@@ -1,6 +1,6 @@
 use borrow.Author.Needs.{needs}
 use native.Mathlib.Omega.{arith}
-use Rattle.trace.specs.Census.{kept-count, listed}
+use Rattle.trace.proofs.CensusLaws.{kept-count, listed}
 use Rattle.trace.proofs.run_and_list.Statement.{statement}
 use Rattle.trace.proofs.run_and_list.Tie as tie
 use Rattle.trace.proofs.run_and_list.Reads as reads

@@ -2,11 +2,11 @@
 use Prim.Native.Nat.{_-_}
 use native.Mathlib.Omega.{arith}
 use lib.ListN.{length}
-use Rattle.laws.specs.Text.{end-between}
-use Rattle.listing.specs.Words.{Counting, count-start, count-round, count-end}
+use Rattle.laws.proofs.Text.{end-between}
+use Rattle.listing.proofs.WordsLaws.{Counting, count-start, count-round, count-end}
 use borrow.Author.Needs.{needs}
-use Rattle.listing.proofs.words.count.Statement.{statement}
-use Rattle.listing.proofs.words.count.Tie as tie
+use Rattle.listing.proofs.line_words.count.Statement.{statement}
+use Rattle.listing.proofs.line_words.count.Tie as tie
 
 abbrev Inv-loop : tie.InvT-loop
 Inv-loop s n₀ at₀ n at = Counting s n at

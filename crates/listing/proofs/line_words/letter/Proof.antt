@@ -2,8 +2,8 @@
 use borrow.Author.Tests.{eq-eqb, ne-eqb}
 use Rattle.listing.specs.Line.{letterOf}
 use borrow.Author.Needs.{needs}
-use Rattle.listing.proofs.words.letter.Statement.{statement}
-use Rattle.listing.proofs.words.letter.Tie as tie
+use Rattle.listing.proofs.line_words.letter.Statement.{statement}
+use Rattle.listing.proofs.line_words.letter.Tie as tie
 
 shared-slice-read-result : tie.Need-shared-slice-read-result
 shared-slice-read-result c = search needs

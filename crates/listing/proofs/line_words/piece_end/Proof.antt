@@ -2,10 +2,11 @@
 use mathlib.Core.Path.{_≡_, refl, _∙_}
 use Prim.Native.Nat.{_-_}
 use lib.ListN.{length}
-use Rattle.laws.specs.Text.{pieceEnd, end-here, end-later, end-out}
+use Rattle.model.specs.Text.{pieceEnd}
+use Rattle.laws.proofs.Text.{end-here, end-later, end-out}
 use borrow.Author.Needs.{needs}
-use Rattle.listing.proofs.words.piece_end.Statement.{statement}
-use Rattle.listing.proofs.words.piece_end.Tie as tie
+use Rattle.listing.proofs.line_words.piece_end.Statement.{statement}
+use Rattle.listing.proofs.line_words.piece_end.Tie as tie
 
 abbrev Inv-loop : tie.InvT-loop
 Inv-loop s sep at i₀ i = pieceEnd sep s i ≡ pieceEnd sep s at

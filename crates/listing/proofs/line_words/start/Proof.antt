@@ -1,8 +1,8 @@
 -- `start` meets its contract. The loop's invariant: the word is found among those from `at` on. Leans on the laws of words.
-use Rattle.listing.specs.Words.{Seeking, seek-start, seek-none, seek-round, seek-end}
+use Rattle.listing.proofs.WordsLaws.{Seeking, seek-start, seek-none, seek-round, seek-end}
 use borrow.Author.Needs.{needs}
-use Rattle.listing.proofs.words.start.Statement.{statement}
-use Rattle.listing.proofs.words.start.Tie as tie
+use Rattle.listing.proofs.line_words.start.Statement.{statement}
+use Rattle.listing.proofs.line_words.start.Tie as tie
 
 abbrev Inv-loop : tie.InvT-loop
 Inv-loop s k left₀ at₀ left at = Seeking s k left at

@@ -1,9 +1,9 @@
 -- `word` meets its contract: the part from where the word begins to where it ends. Leans on the laws of words.
 use native.Mathlib.Omega.{arith}
-use Rattle.laws.specs.Text.{end-between}
+use Rattle.laws.proofs.Text.{end-between}
 use borrow.Author.Needs.{needs}
-use Rattle.listing.proofs.words.word.Statement.{statement}
-use Rattle.listing.proofs.words.word.Tie as tie
+use Rattle.listing.proofs.line_words.word.Statement.{statement}
+use Rattle.listing.proofs.line_words.word.Tie as tie
 
 start-requires : tie.Need-start-requires
 start-requires c κs = search needs

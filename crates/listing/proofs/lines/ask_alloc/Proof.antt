@@ -1,7 +1,8 @@
 -- `ask_alloc` meets its contract. Leans on the laws of lines.
 use mathlib.Core.Path.{sym, ap, _∙_}
 use native.Mathlib.Omega.{arith}
-use Rattle.listing.specs.Line.{lineFor, offered, said, alloc-count, alloc-off, alloc-offer, asked-alloc}
+use Rattle.listing.specs.Line.{lineFor, offered}
+use Rattle.listing.proofs.LineLaws.{said, alloc-count, alloc-off, alloc-offer, asked-alloc}
 use borrow.Author.Needs.{needs}
 use Rattle.listing.proofs.lines.ask_alloc.Statement.{statement}
 use Rattle.listing.proofs.lines.ask_alloc.Tie as tie

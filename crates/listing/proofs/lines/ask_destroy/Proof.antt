@@ -1,6 +1,7 @@
 -- `ask_destroy` meets its contract. Leans on the laws of lines.
 use Rattle.model.specs.Calls.{destroy}
-use Rattle.listing.specs.Line.{lineFor, asked-two, asked-two-off}
+use Rattle.listing.specs.Line.{lineFor}
+use Rattle.listing.proofs.LineLaws.{asked-two, asked-two-off}
 use borrow.Author.Needs.{needs}
 use Rattle.listing.proofs.lines.ask_destroy.Statement.{statement}
 use Rattle.listing.proofs.lines.ask_destroy.Tie as tie

@@ -1,7 +1,8 @@
 -- `ask_mark` meets its contract. Leans on the laws of lines.
 use mathlib.Core.Path.{sym, _∙_}
 use native.Mathlib.Omega.{arith}
-use Rattle.listing.specs.Line.{lineFor, asked-count, asked-off, asked-mark}
+use Rattle.listing.specs.Line.{lineFor}
+use Rattle.listing.proofs.LineLaws.{asked-count, asked-off, asked-mark}
 use borrow.Author.Needs.{needs}
 use Rattle.listing.proofs.lines.ask_mark.Statement.{statement}
 use Rattle.listing.proofs.lines.ask_mark.Tie as tie

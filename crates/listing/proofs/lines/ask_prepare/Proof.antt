@@ -1,6 +1,7 @@
 -- `ask_prepare` meets its contract. Leans on the laws of lines.
 use mathlib.Core.Path.{sym, _∙_}
-use Rattle.listing.specs.Line.{lineFor, asked-one, asked-count}
+use Rattle.listing.specs.Line.{lineFor}
+use Rattle.listing.proofs.LineLaws.{asked-one, asked-count}
 use borrow.Author.Needs.{needs}
 use Rattle.listing.proofs.lines.ask_prepare.Statement.{statement}
 use Rattle.listing.proofs.lines.ask_prepare.Tie as tie

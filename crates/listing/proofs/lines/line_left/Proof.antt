@@ -3,7 +3,7 @@ use mathlib.Core.Path.{_≡_}
 use Prim.Native.Nat.{_+_, _-_, _≤_}
 use native.Mathlib.Omega.{arith}
 use lib.ListN.{length}
-use Rattle.laws.specs.Text.{linesFrom}
+use Rattle.model.specs.Text.{linesFrom}
 use Rattle.listing.proofs.Left.{left-further, left-over, left-last}
 use borrow.Author.Needs.{needs}
 use Rattle.listing.proofs.lines.line_left.Statement.{statement}

@@ -1,5 +1,5 @@
 -- `next_line` meets its contract. Leans on the laws of lines.
-use Rattle.listing.specs.Lines.{next-end, next-more, next-last}
+use Rattle.listing.proofs.LinesLaws.{next-end, next-more, next-last}
 use borrow.Author.Needs.{needs}
 use Rattle.listing.proofs.lines.next_line.Statement.{statement}
 use Rattle.listing.proofs.lines.next_line.Tie as tie

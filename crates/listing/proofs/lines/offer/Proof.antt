@@ -1,6 +1,6 @@
 -- `offer` meets its contract. Leans on the laws of offers.
 use mathlib.Core.Path.{sym, _∙_}
-use Rattle.listing.specs.Line.{offer-dash, offer-block, offer-bad}
+use Rattle.listing.proofs.LineLaws.{offer-dash, offer-block, offer-bad}
 use borrow.Author.Needs.{needs}
 use Rattle.listing.proofs.lines.offer.Statement.{statement}
 use Rattle.listing.proofs.lines.offer.Tie as tie

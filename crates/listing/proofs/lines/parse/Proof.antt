@@ -1,6 +1,7 @@
 -- `parse` meets its contract. Leans on the laws of lines.
 use mathlib.Core.Path.{sym, ap, _∙_}
-use Rattle.listing.specs.Line.{lineFor, letterOf, asked, allocAsked, lineBy, line-letter, line-other}
+use Rattle.listing.specs.Line.{lineFor, letterOf, asked, allocAsked}
+use Rattle.listing.proofs.LineLaws.{lineBy, line-letter, line-other}
 use borrow.Author.Needs.{needs}
 use Rattle.listing.proofs.lines.parse.Statement.{statement}
 use Rattle.listing.proofs.lines.parse.Tie as tie

@@ -1,7 +1,7 @@
 -- `parse` meets its contract. Leans on the laws of numbers.
 use mathlib.Core.Path.{_∙_}
 use mathlib.Core.Logic.{inl, inr}
-use Rattle.listing.specs.Number.{number-blank, number-zero, number-read}
+use Rattle.listing.proofs.NumberLaws.{number-blank, number-zero, number-read}
 use borrow.Author.Needs.{needs}
 use Rattle.listing.proofs.numbers.parse.Statement.{statement}
 use Rattle.listing.proofs.numbers.parse.Tie as tie

@@ -1,6 +1,6 @@
 -- `push_digit` meets its contract: each refusal is a test of the definition. Leans on the laws of numbers.
 use native.Mathlib.Omega.{arith}
-use Rattle.listing.specs.Number.{push-low, push-high, push-over, push-fits}
+use Rattle.listing.proofs.NumberLaws.{push-low, push-high, push-over, push-fits}
 use borrow.Author.Needs.{needs}
 use Rattle.listing.proofs.numbers.push_digit.Statement.{statement}
 use Rattle.listing.proofs.numbers.push_digit.Tie as tie

@@ -3,7 +3,8 @@ use mathlib.Core.Path.{_≡_, refl, _∙_}
 use Prim.Native.Nat.{_-_}
 use lib.ListN.{length, drop}
 use Rattle.listing.specs.declared.Number.the-variants.{Value}
-use Rattle.listing.specs.Number.{readOn, readFrom, read-round, read-stop, read-end}
+use Rattle.listing.specs.Number.{readOn, readFrom}
+use Rattle.listing.proofs.NumberLaws.{read-round, read-stop, read-end}
 use borrow.Author.Needs.{needs}
 use Rattle.listing.proofs.numbers.read.Statement.{statement}
 use Rattle.listing.proofs.numbers.read.Tie as tie

@@ -2,8 +2,8 @@
 use mathlib.Core.Path.{_∙_}
 use native.Mathlib.Omega.{arith}
 use borrow.Author.Needs.{needs}
-use Rattle.laws.specs.Text.{length-printed}
-use Rattle.listing.specs.Print.{print-none, print-low, print-high}
+use Rattle.laws.proofs.Text.{length-printed}
+use Rattle.listing.proofs.PrintLaws.{print-none, print-low, print-high}
 use Prim.Native.Nat.{ℕ, _<_}
 use borrow.Fn.Kinds.{In}
 use borrow.Fn.PlainCycle.{Measures, is, falls, and}

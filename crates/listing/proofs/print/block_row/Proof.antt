@@ -1,5 +1,5 @@
 -- `block_row` meets its contract. Leans on the laws of rows.
-use Rattle.listing.specs.Print.{row-more}
+use Rattle.listing.proofs.PrintLaws.{row-more}
 use borrow.Author.Needs.{needs}
 use Rattle.listing.proofs.print.block_row.Statement.{statement}
 use Rattle.listing.proofs.print.block_row.Tie as tie

@@ -1,5 +1,5 @@
 -- `byte` meets its contract. Leans on the laws of printing.
-use Rattle.laws.specs.Text.{printed-byte, printed-full}
+use Rattle.laws.proofs.Text.{printed-byte, printed-full}
 use borrow.Author.Needs.{needs}
 use Rattle.listing.proofs.print.byte.Statement.{statement}
 use Rattle.listing.proofs.print.byte.Tie as tie

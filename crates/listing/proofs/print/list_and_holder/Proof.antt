@@ -1,6 +1,6 @@
 -- `list_and_holder` meets its contract. Leans on the laws of rows.
-use Rattle.laws.specs.Text.{printed-append}
-use Rattle.listing.specs.Print.{row-more, row-last}
+use Rattle.laws.proofs.Text.{printed-append}
+use Rattle.listing.proofs.PrintLaws.{row-more, row-last}
 use borrow.Author.Needs.{needs}
 use Rattle.listing.proofs.print.list_and_holder.Statement.{statement}
 use Rattle.listing.proofs.print.list_and_holder.Tie as tie

@@ -1,5 +1,5 @@
 -- `number_then` meets its contract. Leans on the laws of printing.
-use Rattle.laws.specs.Text.{printed-append}
+use Rattle.laws.proofs.Text.{printed-append}
 use borrow.Author.Needs.{needs}
 use Rattle.listing.proofs.print.number_then.Statement.{statement}
 use Rattle.listing.proofs.print.number_then.Tie as tie

@@ -1,5 +1,5 @@
 -- `pair_row` meets its contract. Leans on the laws of rows.
-use Rattle.listing.specs.Print.{row-more, row-last}
+use Rattle.listing.proofs.PrintLaws.{row-more, row-last}
 use borrow.Author.Needs.{needs}
 use Rattle.listing.proofs.print.pair_row.Statement.{statement}
 use Rattle.listing.proofs.print.pair_row.Tie as tie

@@ -1,8 +1,8 @@
 -- `refused_rows` meets its contract. The loop's invariant: the rows from i on, printed here, make all. Leans on the laws of rows.
 use Prim.Native.Nat.{_-_}
 use lib.ListN.{length}
-use Rattle.laws.specs.Text.{remains-start}
-use Rattle.listing.specs.Print.{RefusedLeft, refused-round, refused-over, refused-end}
+use Rattle.laws.proofs.Text.{remains-start}
+use Rattle.listing.proofs.PrintLaws.{RefusedLeft, refused-round, refused-over, refused-end}
 use borrow.Author.Needs.{needs}
 use Rattle.listing.proofs.print.refused_rows.Statement.{statement}
 use Rattle.listing.proofs.print.refused_rows.Tie as tie

@@ -1,6 +1,6 @@
 -- `refused_section` meets its contract: the head, then the rows. Leans on the laws of rows.
 use mathlib.Core.Path.{_∙_}
-use Rattle.listing.specs.Print.{print-section, refused-count}
+use Rattle.listing.proofs.PrintLaws.{print-section, refused-count}
 use borrow.Author.Needs.{needs}
 use Rattle.listing.proofs.print.refused_section.Statement.{statement}
 use Rattle.listing.proofs.print.refused_section.Tie as tie

@@ -1,8 +1,9 @@
 -- `text` meets its contract. The loop's invariant: the bytes passed are printed. Leans on the laws of printing.
 use Prim.Native.Nat.{_-_}
 use lib.ListN.{length, take}
-use Rattle.laws.specs.Text.{Printed, printed-nil, length-printed}
-use Rattle.listing.specs.Print.{print-round, print-all}
+use Rattle.model.specs.Text.{Printed}
+use Rattle.laws.proofs.Text.{printed-nil, length-printed}
+use Rattle.listing.proofs.PrintLaws.{print-round, print-all}
 use borrow.Author.Needs.{needs}
 use Rattle.listing.proofs.print.text.Statement.{statement}
 use Rattle.listing.proofs.print.text.Tie as tie

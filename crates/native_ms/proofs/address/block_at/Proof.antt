@@ -1,6 +1,6 @@
 -- `address::block_at` is the block of an address; the divisor is not 0. Leans on `Bounds`.
 use mathlib.Core.Path.{sym}
-use Rattle.laws.specs.Params.{good-bounds, some-bytes, blockAt-low, blockAt-from}
+use Rattle.laws.proofs.Params.{good-bounds, some-bytes, blockAt-low, blockAt-from}
 use Rattle.native_ms.proofs.address.block_at.Statement.{statement}
 use Rattle.native_ms.proofs.address.block_at.Tie as tie
 

@@ -1,7 +1,7 @@
 -- `address::in_heap`: the end of the heap fits a word. Leans on `Bounds`.
 use mathlib.Core.Path.{sym}
 use native.Mathlib.Omega.{arith}
-use Rattle.laws.specs.Params.{good-bounds, inHeap-under, inHeap-yes, inHeap-past}
+use Rattle.laws.proofs.Params.{good-bounds, inHeap-under, inHeap-yes, inHeap-past}
 use Rattle.native_ms.proofs.address.in_heap.Statement.{statement}
 use Rattle.native_ms.proofs.address.in_heap.Tie as tie
 

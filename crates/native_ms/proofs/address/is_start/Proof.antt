@@ -1,6 +1,6 @@
 -- `address::is_start`: in the heap, and a whole number of blocks from its start. Leans on `Bounds`.
 use mathlib.Core.Path.{sym, _∙_}
-use Rattle.laws.specs.Params.{good-bounds, some-bytes, inHeap-low, isStart-yes, isStart-inside, isStart-out}
+use Rattle.laws.proofs.Params.{good-bounds, some-bytes, inHeap-low, isStart-yes, isStart-inside, isStart-out}
 use borrow.Author.Needs.{needs}
 use Rattle.native_ms.proofs.address.is_start.Statement.{statement}
 use Rattle.native_ms.proofs.address.is_start.Tie as tie

@@ -1,7 +1,7 @@
 -- `address::start` is the start of a block, which fits a word. Leans on `Bounds`.
 use mathlib.Core.Path.{sym}
 use native.Mathlib.Omega.{arith}
-use Rattle.laws.specs.Params.{good-bounds, block-small, start-in, start-out}
+use Rattle.laws.proofs.Params.{good-bounds, block-small, start-in, start-out}
 use Rattle.native_ms.proofs.address.start.Statement.{statement}
 use Rattle.native_ms.proofs.address.start.Tie as tie
 

@@ -1,6 +1,6 @@
 -- `allocator::align_allocation` meets its contract: nothing wraps in the ranges that alloc's checks give.
 use native.Mathlib.Omega.{arith}
-use Rattle.laws.specs.Requests.{rest-within, shift-within, shifted}
+use Rattle.laws.proofs.Requests.{rest-within, shift-within, shifted}
 use borrow.Author.Needs.{needs}
 use Rattle.native_ms.proofs.allocator.align_allocation.Statement.{statement}
 use Rattle.native_ms.proofs.allocator.align_allocation.Tie as tie

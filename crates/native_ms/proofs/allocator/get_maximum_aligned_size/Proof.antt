@@ -1,8 +1,8 @@
 -- `allocator::get_maximum_aligned_size` meets its contract: a size past the block is told before the sum is made.
 use mathlib.Core.Path.{sym}
 use native.Mathlib.Omega.{arith}
-use Rattle.native_ms.specs.Raised.{raised-past, raised-in}
-use Rattle.laws.specs.Requests.{raised-size, raised-more, too-big, too-big-raised}
+use Rattle.native_ms.proofs.RaisedLaws.{raised-past, raised-in}
+use Rattle.laws.proofs.Requests.{raised-size, raised-more, too-big, too-big-raised}
 use borrow.Author.Needs.{needs}
 use Rattle.native_ms.proofs.allocator.get_maximum_aligned_size.Statement.{statement}
 use Rattle.native_ms.proofs.allocator.get_maximum_aligned_size.Tie as tie

@@ -1,7 +1,7 @@
 -- `allocator::good_request` meets its contract: the tests stand in the definition's order.
-use Rattle.laws.specs.Requests.{request-size, request-offset, request-far, request-align}
-use Rattle.laws.specs.Good.{good}
-use Rattle.laws.specs.Classes.{min-pos}
+use Rattle.laws.proofs.Requests.{request-size, request-offset, request-far, request-align}
+use Rattle.laws.proofs.Good.{good}
+use Rattle.laws.proofs.Classes.{min-pos}
 use borrow.Author.Needs.{needs}
 use Rattle.native_ms.proofs.allocator.good_request.Statement.{statement}
 use Rattle.native_ms.proofs.allocator.good_request.Tie as tie

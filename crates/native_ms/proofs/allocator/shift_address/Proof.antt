@@ -1,5 +1,5 @@
 -- `allocator::shift_address` meets its contract, by its tests.
-use Rattle.native_ms.specs.Raised.{shifted-none, shifted-wide, shifted-far, shifted-off, shifted-at}
+use Rattle.native_ms.proofs.RaisedLaws.{shifted-none, shifted-wide, shifted-far, shifted-off, shifted-at}
 use borrow.Author.Needs.{needs}
 use Rattle.native_ms.proofs.allocator.shift_address.Statement.{statement}
 use Rattle.native_ms.proofs.allocator.shift_address.Tie as tie

@@ -8,7 +8,7 @@ use borrow.Author.Count.{falls, below-none, below-more}
 use Rattle.model.specs.Params.{plusLower}
 use Rattle.model.specs.Memory.{marked}
 use Rattle.model.specs.SizeClasses.{wordsIn}
-use Rattle.laws.specs.Base.{below-any, below-none-any}
+use Rattle.laws.proofs.Base.{below-any, below-none-any}
 use Rattle.native_ms.proofs.block.any_marked.Statement.{statement}
 use Rattle.native_ms.proofs.block.any_marked.Tie as tie
 

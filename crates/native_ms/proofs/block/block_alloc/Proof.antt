@@ -1,9 +1,9 @@
 -- `block::block_alloc` meets its contract: a bad link leaves all, a good one becomes the head. Assumes nothing.
 use Rattle.model.specs.Tables.{view}
-use Rattle.laws.specs.Tables.{put-free}
+use Rattle.laws.proofs.Tables.{put-free}
 use borrow.Author.Needs.{needs}
 use borrow.Author.Tests.{not-true, not-false}
-use Rattle.native_ms.specs.SoundTests.{link-sized}
+use Rattle.native_ms.proofs.SoundTests.{link-sized}
 use Rattle.native_ms.proofs.Chains.{take-bad, take-good}
 use Rattle.native_ms.proofs.block.block_alloc.Statement.{statement}
 use Rattle.native_ms.proofs.block.block_alloc.Tie as tie

@@ -1,5 +1,5 @@
 -- `block::clear_block` meets its contract: six words and the state, in the order of `clearBlock`. Assumes nothing.
-use Rattle.laws.specs.Tables.{put-next, put-prev, put-free, put-size, put-list, put-tls}
+use Rattle.laws.proofs.Tables.{put-next, put-prev, put-free, put-size, put-list, put-tls}
 use Rattle.native_ms.proofs.Chains.{cleared}
 use borrow.Author.Needs.{needs}
 use Rattle.native_ms.proofs.block.clear_block.Statement.{statement}

@@ -1,5 +1,5 @@
 -- `block::init_block` meets its contract: all whole cells are linked, then head, size and holder set. Assumes nothing.
-use Rattle.laws.specs.Tables.{put-free, put-size, put-tls}
+use Rattle.laws.proofs.Tables.{put-free, put-size, put-tls}
 use Rattle.native_ms.proofs.Chains.{block-room, initialised}
 use borrow.Author.Needs.{needs}
 use Rattle.native_ms.proofs.block.init_block.Statement.{statement}

@@ -1,5 +1,5 @@
 -- `block::is_cell` meets its contract: the sum of the definition is not made where it could wrap.
-use Rattle.native_ms.specs.SoundTests.{cell-none, cell-before, cell-inside, cell-large, cell-here}
+use Rattle.native_ms.proofs.SoundTests.{cell-none, cell-before, cell-inside, cell-large, cell-here}
 use borrow.Author.Needs.{needs}
 use Rattle.native_ms.proofs.block.is_cell.Statement.{statement}
 use Rattle.native_ms.proofs.block.is_cell.Tie as tie

@@ -1,5 +1,5 @@
 -- `block::link_ok` meets its contract.
-use Rattle.native_ms.specs.SoundTests.{link-none, link-some}
+use Rattle.native_ms.proofs.SoundTests.{link-none, link-some}
 use borrow.Author.Needs.{needs}
 use Rattle.native_ms.proofs.block.link_ok.Statement.{statement}
 use Rattle.native_ms.proofs.block.link_ok.Tie as tie

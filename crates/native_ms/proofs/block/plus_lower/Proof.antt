@@ -2,7 +2,7 @@
 use native.Mathlib.Omega.{arith}
 use mathlib.Core.Path.{ap, _∙_}
 use Rattle.model.specs.Params.{lowerOk, biased}
-use Rattle.laws.specs.Good.{good}
+use Rattle.laws.proofs.Good.{good}
 use Rattle.native_ms.proofs.Lower.{back, sum-low, plus-low, plus-high}
 use Rattle.native_ms.proofs.block.plus_lower.Statement.{statement}
 use Rattle.native_ms.proofs.block.plus_lower.Tie as tie

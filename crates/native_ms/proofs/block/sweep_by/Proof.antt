@@ -1,5 +1,5 @@
 -- `block::sweep_by` meets its contract: the free cells are linked and the free head is set. Assumes nothing.
-use Rattle.laws.specs.Tables.{put-free}
+use Rattle.laws.proofs.Tables.{put-free}
 use Rattle.native_ms.specs.Block.{keptBy}
 use Rattle.native_ms.proofs.Chains.{block-room, swept-by}
 use borrow.Author.Needs.{needs}

@@ -1,7 +1,7 @@
 -- `block_list::append` links, relabels and empties the other list. Leans on one law for each way out.
 use mathlib.Core.Path.{_∙_}
-use Rattle.laws.specs.BlockList.{append-none, append-some}
-use Rattle.laws.specs.Tables.{put-first, put-last}
+use Rattle.laws.proofs.BlockList.{append-none, append-some}
+use Rattle.laws.proofs.Tables.{put-first, put-last}
 use borrow.Author.Needs.{needs}
 use Rattle.native_ms.proofs.block_list.append.Statement.{statement}
 use Rattle.native_ms.proofs.block_list.append.Tie as tie

@@ -1,5 +1,5 @@
 -- `block_list::appended` is `append` on the words that hold both records.
-use Rattle.native_ms.specs.Records.{append-on}
+use Rattle.native_ms.proofs.RecordsLaws.{append-on}
 use borrow.Author.Needs.{needs}
 use Rattle.native_ms.proofs.block_list.appended.Statement.{statement}
 use Rattle.native_ms.proofs.block_list.appended.Tie as tie

@@ -6,8 +6,9 @@ use native.Mathlib.Omega.{arith}
 use borrow.Author.Count.{falls-down}
 use borrow.Author.Needs.{needs}
 use Rattle.model.specs.Tables.{view}
-use Rattle.laws.specs.Params.{good-bounds}
-use Rattle.native_ms.specs.Counted.{countedBins, counted-few, bins-end, bins-bad, bins-step}
+use Rattle.laws.proofs.Params.{good-bounds}
+use Rattle.native_ms.specs.Counted.{countedBins}
+use Rattle.native_ms.proofs.CountedLaws.{counted-few, bins-end, bins-bad, bins-step}
 use Rattle.native_ms.proofs.block_list.count_bins.Statement.{statement}
 use Rattle.native_ms.proofs.block_list.count_bins.Tie as tie
 

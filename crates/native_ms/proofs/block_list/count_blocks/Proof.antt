@@ -8,8 +8,9 @@ use borrow.Author.Count.{falls-down}
 use borrow.Author.Tests.{not-true, not-false}
 use borrow.Author.Needs.{needs}
 use Rattle.model.specs.Tables.{view}
-use Rattle.laws.specs.Params.{good-bounds}
-use Rattle.native_ms.specs.Counted.{countedFrom, counted-stop, counted-long, counted-bad, counted-step}
+use Rattle.laws.proofs.Params.{good-bounds}
+use Rattle.native_ms.specs.Counted.{countedFrom}
+use Rattle.native_ms.proofs.CountedLaws.{counted-stop, counted-long, counted-bad, counted-step}
 use Rattle.native_ms.proofs.block_list.count_blocks.Statement.{statement}
 use Rattle.native_ms.proofs.block_list.count_blocks.Tie as tie
 

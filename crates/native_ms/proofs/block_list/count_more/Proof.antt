@@ -1,7 +1,7 @@
 -- `block_list::count_more` adds one list as `countedMore` does.
 use native.Mathlib.Omega.{arith}
-use Rattle.laws.specs.Params.{good-bounds}
-use Rattle.native_ms.specs.Counted.{count-known, counted-few, more-bad, more-no, more-yes}
+use Rattle.laws.proofs.Params.{good-bounds}
+use Rattle.native_ms.proofs.CountedLaws.{count-known, counted-few, more-bad, more-no, more-yes}
 use borrow.Author.Needs.{needs}
 use Rattle.native_ms.proofs.block_list.count_more.Statement.{statement}
 use Rattle.native_ms.proofs.block_list.count_more.Tie as tie

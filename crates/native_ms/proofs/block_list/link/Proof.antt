@@ -1,7 +1,7 @@
 -- `block_list::link` makes the stores of `link`, in order. Leans on one law for each arm.
 use mathlib.Core.Path.{_∙_}
-use Rattle.laws.specs.BlockList.{link-empty, link-behind}
-use Rattle.laws.specs.Tables.{put-first, put-last, put-next, put-prev}
+use Rattle.laws.proofs.BlockList.{link-empty, link-behind}
+use Rattle.laws.proofs.Tables.{put-first, put-last, put-next, put-prev}
 use Rattle.native_ms.proofs.block_list.link.Statement.{statement}
 use Rattle.native_ms.proofs.block_list.link.Tie as tie
 

@@ -3,8 +3,8 @@ use mathlib.Core.Path.{sym, _∙_}
 use native.Mathlib.Omega.{arith}
 use borrow.Author.Tests.{not-true, not-false}
 use Rattle.model.specs.Answers.{pagesReply}
-use Rattle.laws.specs.Params.{good-bounds}
-use Rattle.native_ms.specs.Counted.{count-known, pages-fit, fits-good, said-off, said-bad, said-pages}
+use Rattle.laws.proofs.Params.{good-bounds}
+use Rattle.native_ms.proofs.CountedLaws.{count-known, pages-fit, fits-good, said-off, said-bad, said-pages}
 use borrow.Author.Needs.{needs}
 use Rattle.native_ms.proofs.block_list.pages_answer.Statement.{statement}
 use Rattle.native_ms.proofs.block_list.pages_answer.Tie as tie

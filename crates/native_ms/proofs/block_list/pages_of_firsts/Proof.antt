@@ -2,7 +2,7 @@
 use mathlib.Core.Path.{sym, _∙_}
 use borrow.Author.Tests.{not-true, not-false}
 use Rattle.model.specs.Answers.{pagesReply}
-use Rattle.native_ms.specs.Counted.{fits-good, fits-count, all-few, pages-off, pages-on}
+use Rattle.native_ms.proofs.CountedLaws.{fits-good, fits-count, all-few, pages-off, pages-on}
 use borrow.Author.Needs.{needs}
 use Rattle.native_ms.proofs.block_list.pages_of_firsts.Statement.{statement}
 use Rattle.native_ms.proofs.block_list.pages_of_firsts.Tie as tie

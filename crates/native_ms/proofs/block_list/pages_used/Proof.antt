@@ -61,8 +61,10 @@ use Rattle.model.proofs.PagesAnswer.Laws as Q′
 use Rattle.native_ms.specs.declared.block_list.BlockList.{BlockList}
 use Rattle.native_ms.specs.declared.block_list.Counted.{Counted}
 use Rattle.native_ms.specs.declared.block_list.Counted.the-variants.{Blocks}
-use Rattle.native_ms.specs.Counted.{countedBins, countedOn, countedMore, countOf, setFits, binsIn, pagesSaid, on-start, on-end, on-step, few-start, few-step, fits-good, fits-count, bins-some}
-use Rattle.native_ms.specs.Records.{firsts, noList, firsts-at, records-said}
+use Rattle.native_ms.specs.Counted.{countedBins, countedMore, countOf, setFits, binsIn, pagesSaid}
+use Rattle.native_ms.proofs.CountedLaws.{countedOn, on-start, on-end, on-step, few-start, few-step, fits-good, fits-count, bins-some}
+use Rattle.native_ms.specs.Records.{firsts}
+use Rattle.native_ms.proofs.RecordsLaws.{noList, firsts-at, records-said}
 use Rattle.native_ms.proofs.Records.{R, rVal, pVal}
 use Rattle.native_ms.proofs.block_list.BlockList as T
 use Rattle.native_ms.proofs.block_list.BlockList.Laws as T′

@@ -1,7 +1,7 @@
 -- `block_list::pop` makes the stores of `pop`, in order. Leans on one law for each way out.
 use mathlib.Core.Path.{_∙_}
-use Rattle.laws.specs.BlockList.{pop-none, pop-only, pop-ahead}
-use Rattle.laws.specs.Tables.{put-first, put-last, put-next, put-prev, put-list}
+use Rattle.laws.proofs.BlockList.{pop-none, pop-only, pop-ahead}
+use Rattle.laws.proofs.Tables.{put-first, put-last, put-next, put-prev, put-list}
 use borrow.Author.Needs.{needs}
 use Rattle.native_ms.proofs.block_list.pop.Statement.{statement}
 use Rattle.native_ms.proofs.block_list.pop.Tie as tie

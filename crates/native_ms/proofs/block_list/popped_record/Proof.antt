@@ -1,5 +1,5 @@
 -- `block_list::popped_record` is `pop` on the words that hold the record.
-use Rattle.native_ms.specs.Records.{pop-on}
+use Rattle.native_ms.proofs.RecordsLaws.{pop-on}
 use borrow.Author.Needs.{needs}
 use Rattle.native_ms.proofs.block_list.popped_record.Statement.{statement}
 use Rattle.native_ms.proofs.block_list.popped_record.Tie as tie

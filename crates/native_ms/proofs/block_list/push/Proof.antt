@@ -1,7 +1,7 @@
 -- `block_list::push` makes the stores of `push`, in order. Leans on one law for each arm.
 use mathlib.Core.Path.{_∙_}
-use Rattle.laws.specs.BlockList.{push-only, push-ahead}
-use Rattle.laws.specs.Tables.{put-first, put-last, put-next, put-prev, put-list}
+use Rattle.laws.proofs.BlockList.{push-only, push-ahead}
+use Rattle.laws.proofs.Tables.{put-first, put-last, put-next, put-prev, put-list}
 use Rattle.native_ms.proofs.block_list.push.Statement.{statement}
 use Rattle.native_ms.proofs.block_list.push.Tie as tie
 

@@ -1,6 +1,6 @@
 -- `block_list::put_record` makes the two stores of `withRecord`.
-use Rattle.laws.specs.Tables.{put-first, put-last}
-use Rattle.native_ms.specs.Records.{with-record}
+use Rattle.laws.proofs.Tables.{put-first, put-last}
+use Rattle.native_ms.proofs.RecordsLaws.{with-record}
 use borrow.Author.Needs.{needs}
 use Rattle.native_ms.proofs.block_list.put_record.Statement.{statement}
 use Rattle.native_ms.proofs.block_list.put_record.Tie as tie

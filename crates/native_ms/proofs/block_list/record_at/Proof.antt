@@ -1,5 +1,5 @@
 -- `block_list::record_at` makes the two reads of `recordAt`.
-use Rattle.native_ms.specs.Records.{record-at}
+use Rattle.native_ms.proofs.RecordsLaws.{record-at}
 use borrow.Author.Needs.{needs}
 use Rattle.native_ms.proofs.block_list.record_at.Statement.{statement}
 use Rattle.native_ms.proofs.block_list.record_at.Tie as tie

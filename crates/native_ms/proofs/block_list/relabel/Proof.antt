@@ -4,8 +4,8 @@ use mathlib.Core.Path.{_≡_, refl, _∙_}
 use lib.ListN.{length}
 use Rattle.model.specs.Tables.{view}
 use Rattle.model.specs.BlockList.{relabel}
-use Rattle.laws.specs.BlockList.{relabel-end, relabel-stop, relabel-step}
-use Rattle.laws.specs.Tables.{put-list}
+use Rattle.laws.proofs.BlockList.{relabel-end, relabel-stop, relabel-step}
+use Rattle.laws.proofs.Tables.{put-list}
 use borrow.Author.Count.{falls-down}
 use borrow.Author.Needs.{needs}
 use Rattle.native_ms.proofs.block_list.relabel.Statement.{statement}

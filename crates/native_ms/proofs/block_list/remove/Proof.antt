@@ -1,7 +1,7 @@
 -- `block_list::remove` makes the stores of `remove`, in order. Leans on one law for each arm.
 use mathlib.Core.Path.{_∙_}
-use Rattle.laws.specs.BlockList.{remove-only, remove-first, remove-last, remove-inner}
-use Rattle.laws.specs.Tables.{put-first, put-last, put-next, put-prev, put-list}
+use Rattle.laws.proofs.BlockList.{remove-only, remove-first, remove-last, remove-inner}
+use Rattle.laws.proofs.Tables.{put-first, put-last, put-next, put-prev, put-list}
 use Rattle.native_ms.proofs.block_list.remove.Statement.{statement}
 use Rattle.native_ms.proofs.block_list.remove.Tie as tie
 

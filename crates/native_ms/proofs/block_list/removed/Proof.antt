@@ -1,6 +1,6 @@
 -- `block_list::removed` is `remove` on the words that hold the record.
 use Rattle.model.specs.BlockList.{remove}
-use Rattle.native_ms.specs.Records.{on-record}
+use Rattle.native_ms.proofs.RecordsLaws.{on-record}
 use borrow.Author.Needs.{needs}
 use Rattle.native_ms.proofs.block_list.removed.Statement.{statement}
 use Rattle.native_ms.proofs.block_list.removed.Tie as tie

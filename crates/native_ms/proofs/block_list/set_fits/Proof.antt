@@ -2,8 +2,8 @@
 use mathlib.Core.Path.{sym, _∙_}
 use native.Mathlib.Omega.{arith}
 use borrow.Author.Tests.{not-true, not-false}
-use Rattle.laws.specs.Params.{good-bounds}
-use Rattle.native_ms.specs.Counted.{fits-params, fits-words, fits-records}
+use Rattle.laws.proofs.Params.{good-bounds}
+use Rattle.native_ms.proofs.CountedLaws.{fits-params, fits-words, fits-records}
 use borrow.Author.Needs.{needs}
 use Rattle.native_ms.proofs.block_list.set_fits.Statement.{statement}
 use Rattle.native_ms.proofs.block_list.set_fits.Tie as tie

@@ -6,7 +6,7 @@ use native.Mathlib.Omega.{arith}
 use lib.ListN.{length}
 use borrow.Author.Count.{falls-down}
 use Rattle.model.specs.Tables.{view}
-use Rattle.laws.specs.Params.{good-bounds}
+use Rattle.laws.proofs.Params.{good-bounds}
 use Rattle.model.specs.FreeListAllocator.{acquireAbandoned}
 use Rattle.native_ms.specs.Closing.{closed}
 use Rattle.native_ms.proofs.Abandoned.{flag-low, acquire-end, acquire-none, acquire-found, acquire-step}

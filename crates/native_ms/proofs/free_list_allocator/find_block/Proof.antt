@@ -1,6 +1,6 @@
 -- `free_list_allocator::find_block` searches as `findBlock` does. One law for each way out.
 use native.Mathlib.Omega.{arith}
-use Rattle.laws.specs.Params.{good-bounds}
+use Rattle.laws.proofs.Params.{good-bounds}
 use Rattle.native_ms.proofs.Search.{sets-low}
 use Rattle.native_ms.proofs.Ending.{find-skimmed, find-recycled, find-global}
 use Rattle.model.specs.Tables.{view}

@@ -1,5 +1,5 @@
 -- `free_list_allocator::take_over` gives the block its holder, sweeps it if it was unswept, and files it. One law for each arm.
-use Rattle.laws.specs.Tables.{put-tls}
+use Rattle.laws.proofs.Tables.{put-tls}
 use Rattle.native_ms.proofs.Search.{sets-low}
 use Rattle.native_ms.proofs.Abandoned.{over-available, over-unswept}
 use borrow.Author.Needs.{needs}

@@ -5,8 +5,8 @@ use borrow.Author.Tests.{not-true, not-false}
 use Rattle.model.specs.Tables.{view}
 use Rattle.model.specs.Base.{allBelow}
 use borrow.Author.Count.{falls-down}
-use Rattle.laws.specs.Below.{all-end, all-stop, all-step}
-use Rattle.native_ms.specs.SoundTests.{notDue, due-at, all-due, none-due}
+use Rattle.laws.proofs.Below.{all-end, all-stop, all-step}
+use Rattle.native_ms.proofs.SoundTests.{notDue, due-at, all-due, none-due}
 use Rattle.native_ms.proofs.global.all_released.Statement.{statement}
 use Rattle.native_ms.proofs.global.all_released.Tie as tie
 

@@ -1,6 +1,6 @@
 -- `global::bind` promises `call`, refused or not. Assumes nothing.
 use Rattle.model.specs.Answers.{replyOf}
-use Rattle.laws.specs.Tables.{put-bound}
+use Rattle.laws.proofs.Tables.{put-bound}
 use Rattle.native_ms.proofs.Tests.{through, passed-by, refused-by}
 use Rattle.native_ms.proofs.SpaceCalls.{bind-plan, bind-low, bind-done}
 use borrow.Author.Needs.{needs}

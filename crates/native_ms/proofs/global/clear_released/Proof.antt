@@ -4,7 +4,7 @@ use mathlib.Core.Path.{_≡_, refl, _∙_}
 use native.Mathlib.Omega.{arith}
 use lib.ListN.{length}
 use Rattle.model.specs.Tables.{view}
-use Rattle.laws.specs.Tables.{put-released}
+use Rattle.laws.proofs.Tables.{put-released}
 use Rattle.native_ms.proofs.SpaceCalls.{unreleased, unreleased-none, unreleased-more, unreleased-end}
 use Rattle.native_ms.proofs.global.clear_released.Statement.{statement}
 use Rattle.native_ms.proofs.global.clear_released.Tie as tie

@@ -2,7 +2,7 @@
 use lib.Dec.{lit≤}
 use mathlib.Core.Path.{_∙_}
 use Rattle.model.specs.Answers.{replyOf}
-use Rattle.laws.specs.Tables.{put-bound}
+use Rattle.laws.proofs.Tables.{put-bound}
 use Rattle.native_ms.proofs.Tests.{through, good-through, passed-by, refused-by}
 use Rattle.native_ms.proofs.SpaceCalls.{bound-low, bound-high, sets-low, destroy-plan, bound-by, destroy-done}
 use borrow.Author.Needs.{needs}

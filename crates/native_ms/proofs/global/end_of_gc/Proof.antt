@@ -1,7 +1,7 @@
 -- `global::end_of_gc` is `collected`. Assumes nothing.
 use native.Mathlib.Omega.{arith}
 use mathlib.Core.Path.{_∙_}
-use Rattle.laws.specs.Tables.{put-phase}
+use Rattle.laws.proofs.Tables.{put-phase}
 use Rattle.native_ms.proofs.SpaceCalls.{collected-at}
 use Rattle.native_ms.proofs.global.end_of_gc.Statement.{statement}
 use Rattle.native_ms.proofs.global.end_of_gc.Tie as tie

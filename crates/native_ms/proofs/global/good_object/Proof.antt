@@ -2,7 +2,7 @@
 use native.Mathlib.Omega.{arith}
 use mathlib.Core.Path.{sym, _∙_}
 use borrow.Author.Tests.{not-true, not-false}
-use Rattle.laws.specs.Params.{good-bounds, inHeap-low, inHeap-high}
+use Rattle.laws.proofs.Params.{good-bounds, inHeap-low, inHeap-high}
 use Rattle.native_ms.proofs.SpaceCalls.{object-out, object-odd, object-past, object-none, object-at}
 use borrow.Author.Needs.{needs}
 use Rattle.native_ms.proofs.global.good_object.Statement.{statement}

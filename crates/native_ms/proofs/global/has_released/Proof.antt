@@ -1,5 +1,5 @@
 -- `global::has_released` meets its contract.
-use Rattle.native_ms.specs.SoundTests.{released-word}
+use Rattle.native_ms.proofs.SoundTests.{released-word}
 use borrow.Author.Needs.{needs}
 use Rattle.native_ms.proofs.global.has_released.Statement.{statement}
 use Rattle.native_ms.proofs.global.has_released.Tie as tie

@@ -1,5 +1,5 @@
 -- `global::is_bound` meets its contract.
-use Rattle.native_ms.specs.SoundTests.{bound-none, bound-past, bound-word}
+use Rattle.native_ms.proofs.SoundTests.{bound-none, bound-past, bound-word}
 use borrow.Author.Needs.{needs}
 use Rattle.native_ms.proofs.global.is_bound.Statement.{statement}
 use Rattle.native_ms.proofs.global.is_bound.Tie as tie

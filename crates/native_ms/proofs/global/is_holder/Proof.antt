@@ -1,5 +1,5 @@
 -- `global::is_holder` meets its contract.
-use Rattle.native_ms.specs.SoundTests.{holder-none, holder-low}
+use Rattle.native_ms.proofs.SoundTests.{holder-none, holder-low}
 use Rattle.native_ms.proofs.global.is_holder.Statement.{statement}
 use Rattle.native_ms.proofs.global.is_holder.Tie as tie
 

@@ -2,8 +2,8 @@
 use native.Mathlib.Omega.{arith}
 use mathlib.Core.Path.{ap, _∙_}
 use Rattle.model.specs.Params.{lowerOk, biased, minusLower}
-use Rattle.laws.specs.Good.{good}
-use Rattle.laws.specs.Params.{good-bounds}
+use Rattle.laws.proofs.Good.{good}
+use Rattle.laws.proofs.Params.{good-bounds}
 use Rattle.native_ms.proofs.Lower.{back}
 use borrow.Author.Needs.{needs}
 use Rattle.native_ms.proofs.global.minus_lower.Statement.{statement}

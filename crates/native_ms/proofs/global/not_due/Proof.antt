@@ -1,6 +1,6 @@
 -- `global::not_due` meets its contract.
 use borrow.Author.Tests.{not-true, not-false}
-use Rattle.native_ms.specs.SoundTests.{due-off, due-on}
+use Rattle.native_ms.proofs.SoundTests.{due-off, due-on}
 use borrow.Author.Needs.{needs}
 use Rattle.native_ms.proofs.global.not_due.Statement.{statement}
 use Rattle.native_ms.proofs.global.not_due.Tie as tie

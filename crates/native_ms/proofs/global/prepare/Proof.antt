@@ -1,6 +1,6 @@
 -- `global::prepare` promises `call`, refused or not. Assumes nothing.
 use Rattle.model.specs.Answers.{replyOf}
-use Rattle.laws.specs.Tables.{put-phase}
+use Rattle.laws.proofs.Tables.{put-phase}
 use Rattle.native_ms.proofs.Tests.{passed-by, refused-by}
 use Rattle.native_ms.proofs.SpaceCalls.{prepare-plan, prepare-done}
 use borrow.Author.Needs.{needs}

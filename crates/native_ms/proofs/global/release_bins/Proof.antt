@@ -4,7 +4,7 @@ use mathlib.Core.Path.{_≡_, refl, _∙_}
 use native.Mathlib.Omega.{arith}
 use lib.ListN.{length}
 use Rattle.model.specs.Tables.{view}
-use Rattle.laws.specs.Params.{good-bounds}
+use Rattle.laws.proofs.Params.{good-bounds}
 use Rattle.native_ms.specs.Released.{out, total, releasedBins}
 use Rattle.native_ms.proofs.Releases.{bins-none, bins-more, bins-end, bin-few}
 use Rattle.native_ms.proofs.global.release_bins.Statement.{statement}

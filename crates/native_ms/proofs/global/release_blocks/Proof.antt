@@ -6,7 +6,7 @@ use lib.ListN.{length}
 use borrow.Author.Count.{falls-down}
 use Rattle.model.specs.Tables.{view}
 use Rattle.model.specs.Global.{releaseFrom}
-use Rattle.laws.specs.Params.{good-bounds}
+use Rattle.laws.proofs.Params.{good-bounds}
 use Rattle.native_ms.specs.Released.{total}
 use Rattle.native_ms.proofs.Releases.{plus, from-end, from-stop, from-start, from-step, from-at, attempt-few}
 use Rattle.native_ms.proofs.global.release_blocks.Statement.{statement}

@@ -1,6 +1,6 @@
 -- `memory::is_marked` reads the bit of a place in the heap, and no other. Leans on the laws of marks; assumes nothing.
 use mathlib.Core.Path.{sym, _∙_}
-use Rattle.laws.specs.Marks.{marked-inside, marked-out}
+use Rattle.laws.proofs.Marks.{marked-inside, marked-out}
 use borrow.Author.Needs.{needs}
 use Rattle.native_ms.proofs.memory.is_marked.Statement.{statement}
 use Rattle.native_ms.proofs.memory.is_marked.Tie as tie

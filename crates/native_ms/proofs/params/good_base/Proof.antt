@@ -1,5 +1,5 @@
 -- `params::good_base` meets its contract. The heap is at most 2 ^ 26 bytes, so that nothing wraps.
-use Rattle.laws.specs.Good.{heap-small, placed-none, placed-off, placed-in}
+use Rattle.laws.proofs.Good.{heap-small, placed-none, placed-off, placed-in}
 use native.Mathlib.Omega.{arith}
 use borrow.Author.Needs.{needs}
 use Rattle.native_ms.proofs.params.good_base.Statement.{statement}

@@ -3,7 +3,7 @@ use mathlib.Core.Bool.{false}
 use lib.Dec.{lit<}
 use mir.Facts.{toZ-ofZ}
 use borrow.Author.Tests.{not-true, not-false}
-use Rattle.laws.specs.Lower.{lower-below, lower-above, lower-odd, lower-apart, lower-unified, eighth-fits}
+use Rattle.laws.proofs.Lower.{lower-below, lower-above, lower-odd, lower-apart, lower-unified, eighth-fits}
 use Rattle.native_ms.proofs.params.good_lower.Statement.{statement}
 use Rattle.native_ms.proofs.params.good_lower.Tie as tie
 

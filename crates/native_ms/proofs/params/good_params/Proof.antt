@@ -1,8 +1,8 @@
 -- `params::good_params` meets its contract: the parts are tested in the definition's order.
 use mir.Facts.{toZ-ofZ}
-use Rattle.laws.specs.Lower.{lower-back}
+use Rattle.laws.proofs.Lower.{lower-back}
 use borrow.Author.Tests.{not-true, not-false}
-use Rattle.laws.specs.Good.{good-min-off, good-max-off, good-lower-off, good-bytes-off, good-blocks-off, good-rest, bytes-bounds, blocks-bound}
+use Rattle.laws.proofs.Good.{good-min-off, good-max-off, good-lower-off, good-bytes-off, good-blocks-off, good-rest, bytes-bounds, blocks-bound}
 use borrow.Author.Needs.{needs}
 use Rattle.native_ms.proofs.params.good_params.Statement.{statement}
 use Rattle.native_ms.proofs.params.good_params.Tie as tie

@@ -1,6 +1,6 @@
 -- `params::lengths_fit` meets its contract, by its tests. Good parameters keep the products small.
 use native.Mathlib.Omega.{arith}
-use Rattle.laws.specs.Good.{good, heap-small, lengths-words, lengths-states, lengths-marks, lengths-heap}
+use Rattle.laws.proofs.Good.{good, heap-small, lengths-words, lengths-states, lengths-marks, lengths-heap}
 use Rattle.native_ms.proofs.params.lengths_fit.Statement.{statement}
 use Rattle.native_ms.proofs.params.lengths_fit.Tie as tie
 

@@ -1,5 +1,5 @@
 -- `params::power_between` meets its contract: the order of its tests is free.
-use Rattle.laws.specs.Good.{between-under, between-over, between-in}
+use Rattle.laws.proofs.Good.{between-under, between-over, between-in}
 use borrow.Author.Needs.{needs}
 use Rattle.native_ms.proofs.params.power_between.Statement.{statement}
 use Rattle.native_ms.proofs.params.power_between.Tie as tie

@@ -6,8 +6,8 @@ use lib.Dec.{eqb}
 use borrow.Author.Count.{falls-down}
 use Rattle.model.specs.Base.{anyBelow}
 use Rattle.model.specs.Params.{powerOfTwo}
-use Rattle.laws.specs.Good.{half-power, power-hit, power-miss}
-use Rattle.laws.specs.Below.{any-none}
+use Rattle.laws.proofs.Good.{half-power, power-hit, power-miss}
+use Rattle.laws.proofs.Below.{any-none}
 use Rattle.native_ms.proofs.params.power_of_two.Statement.{statement}
 use Rattle.native_ms.proofs.params.power_of_two.Tie as tie
 

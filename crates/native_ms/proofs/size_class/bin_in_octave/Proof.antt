@@ -4,7 +4,7 @@ use mathlib.Core.Path.{refl}
 use native.Mathlib.Omega.{arith}
 use lib.Bits.{mask-lt}
 use Prim.Native.Nat.{_-_, _/_, _^_}
-use Rattle.laws.specs.Requests.{octave, octave-bin}
+use Rattle.laws.proofs.Requests.{octave, octave-bin}
 use Rattle.native_ms.proofs.size_class.bin_in_octave.Statement.{statement}
 use Rattle.native_ms.proofs.size_class.bin_in_octave.Tie as tie
 

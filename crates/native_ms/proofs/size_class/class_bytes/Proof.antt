@@ -5,7 +5,7 @@ use native.Mathlib.Nat.{mul-comm}
 use lib.ListN.{getD}
 use Rattle.model.specs.SizeClasses.{classWords, fours, cellBytes}
 use Rattle.model.specs.Census.{censusParams}
-use Rattle.laws.specs.Classes.{cellBytes-most, cellBytes-past}
+use Rattle.laws.proofs.Classes.{cellBytes-most, cellBytes-past}
 use borrow.Author.Needs.{needs}
 use Rattle.native_ms.proofs.size_class.class_bytes.Statement.{statement}
 use Rattle.native_ms.proofs.size_class.class_bytes.Tie as tie

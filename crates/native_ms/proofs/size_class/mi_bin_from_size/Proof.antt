@@ -1,7 +1,7 @@
 -- `size_class::mi_bin_from_size` meets its contract, by its tests. The largest class is 65,536 bytes.
 use mathlib.Core.Path.{refl}
 use Rattle.model.specs.SizeClasses.{wordsIn}
-use Rattle.laws.specs.Requests.{bin-none, bin-one, bin-few, bin-many}
+use Rattle.laws.proofs.Requests.{bin-none, bin-one, bin-few, bin-many}
 use borrow.Author.Needs.{needs}
 use Rattle.native_ms.proofs.size_class.mi_bin_from_size.Statement.{statement}
 use Rattle.native_ms.proofs.size_class.mi_bin_from_size.Tie as tie

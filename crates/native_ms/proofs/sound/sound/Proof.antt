@@ -5,8 +5,8 @@ use Rattle.native_ms.proofs.sound.sound.Tie as tie
 use mathlib.Core.Path.{refl, _∙_}
 use borrow.Author.Tests.{not-true, not-false}
 use Rattle.model.specs.SizeClasses.{classWords, fours}
-use Rattle.native_ms.specs.SoundLaws.{sound-walk}
-use Rattle.native_ms.specs.SoundTests.{walk-phase, walk-parts, walk-some, walk-holders, walk-gc, walk-blocks, walk-lists, bad-fit, left-fit, full-bad, full-left}
+use Rattle.native_ms.proofs.SoundLaws.{sound-walk}
+use Rattle.native_ms.proofs.SoundTests.{walk-phase, walk-parts, walk-some, walk-holders, walk-gc, walk-blocks, walk-lists, bad-fit, left-fit, full-bad, full-left}
 use native.Mathlib.Omega.{arith}
 
 phase-known-requires : tie.Need-phase-known-requires

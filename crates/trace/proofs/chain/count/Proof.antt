@@ -1,7 +1,7 @@
 -- `chain::count` counts the cells of a chain. The loop's invariant: those passed and those left are all. The measure is how
 -- many the walk may still meet.
 use native.Mathlib.Omega.{arith}
-use Rattle.trace.specs.Sections.{CellsCounted, first-here, more-here, next-here, cells-fall, count-start, count-room, count-round, count-end}
+use Rattle.trace.proofs.SectionsLaws.{CellsCounted, first-here, more-here, next-here, cells-fall, count-start, count-room, count-round, count-end}
 use borrow.Author.Needs.{needs}
 use Rattle.trace.proofs.chain.count.Statement.{statement}
 use Rattle.trace.proofs.chain.count.Tie as tie

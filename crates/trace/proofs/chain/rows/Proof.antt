@@ -1,6 +1,6 @@
 -- `chain::rows` prints the cells of a chain. The loop's invariant: the rows left, printed here, make all. The measure is how
 -- many the walk may still meet.
-use Rattle.trace.specs.Sections.{CellsLeft, first-here, more-here, next-here, cells-fall, cells-start, cells-round, cells-printed}
+use Rattle.trace.proofs.SectionsLaws.{CellsLeft, first-here, more-here, next-here, cells-fall, cells-start, cells-round, cells-printed}
 use borrow.Author.Needs.{needs}
 use Rattle.trace.proofs.chain.rows.Statement.{statement}
 use Rattle.trace.proofs.chain.rows.Tie as tie

@@ -1,5 +1,5 @@
 -- `keep` meets its contract: a case for each way out. Leans on the laws of the run.
-use Rattle.trace.specs.Run.{kept-none, kept-one}
+use Rattle.trace.proofs.RunLaws.{kept-none, kept-one}
 use borrow.Author.Needs.{needs}
 use Rattle.trace.proofs.run.keep.Statement.{statement}
 use Rattle.trace.proofs.run.keep.Tie as tie

@@ -1,5 +1,5 @@
 -- `run` meets its contract. Leans on the laws of the run.
-use Rattle.trace.specs.Run.{ran-whole}
+use Rattle.trace.proofs.RunLaws.{ran-whole}
 use borrow.Author.Needs.{needs}
 use Rattle.trace.proofs.run.run.Statement.{statement}
 use Rattle.trace.proofs.run.run.Tie as tie

@@ -1,6 +1,6 @@
 -- `run_line` meets its contract: a law for each kind of line. Leans on the laws of the run.
 use Rattle.listing.specs.Line.{lineFor}
-use Rattle.trace.specs.Run.{ran-call, ran-bad, ran-kind}
+use Rattle.trace.proofs.RunLaws.{ran-call, ran-bad, ran-kind}
 use borrow.Author.Needs.{needs}
 use Rattle.trace.proofs.run.run_line.Statement.{statement}
 use Rattle.trace.proofs.run.run_line.Tie as tie

@@ -1,5 +1,5 @@
 -- `run_mark` meets its contract. Leans on the laws of the run.
-use Rattle.trace.specs.Run.{ran-call}
+use Rattle.trace.proofs.RunLaws.{ran-call}
 use borrow.Author.Needs.{needs}
 use Rattle.trace.proofs.run.run_mark.Statement.{statement}
 use Rattle.trace.proofs.run.run_mark.Tie as tie

@@ -1,7 +1,7 @@
 -- `sections::block_row` prints a block's row from what the tables hold. Leans on `block-text`.
 use mathlib.Core.Path.{_∙_}
-use Rattle.listing.specs.Print.{retext}
-use Rattle.trace.specs.Sections.{block-text}
+use Rattle.listing.proofs.PrintLaws.{retext}
+use Rattle.trace.proofs.SectionsLaws.{block-text}
 use borrow.Author.Needs.{needs}
 use Rattle.trace.proofs.sections.block_row.Statement.{statement}
 use Rattle.trace.proofs.sections.block_row.Tie as tie

@@ -3,7 +3,8 @@ use Prim.Native.Nat.{_-_}
 use mathlib.Core.Path.{sym, _∙_}
 use borrow.Author.Count.{falls}
 use Rattle.model.specs.Census.{blockRow}
-use Rattle.trace.specs.Sections.{tablesRead, isOccupied, occupiedIn, TextsLeft, texts-start, texts-yes, texts-no, texts-end}
+use Rattle.trace.specs.Sections.{tablesRead, isOccupied, occupiedIn}
+use Rattle.trace.proofs.SectionsLaws.{TextsLeft, texts-start, texts-yes, texts-no, texts-end}
 use borrow.Author.Needs.{needs}
 use Rattle.trace.proofs.sections.block_rows.Statement.{statement}
 use Rattle.trace.proofs.sections.block_rows.Tie as tie

@@ -1,6 +1,6 @@
 -- `sections::blocks_section` meets its contract: the head, then the rows. Leans on the laws of rows.
-use Rattle.listing.specs.Print.{retext, print-section}
-use Rattle.trace.specs.Sections.{blocks-section, blocks-count}
+use Rattle.listing.proofs.PrintLaws.{retext, print-section}
+use Rattle.trace.proofs.SectionsLaws.{blocks-section, blocks-count}
 use borrow.Author.Needs.{needs}
 use Rattle.trace.proofs.sections.blocks_section.Statement.{statement}
 use Rattle.trace.proofs.sections.blocks_section.Tie as tie

@@ -3,9 +3,10 @@
 use Prim.Native.Nat.{_-_}
 use mathlib.Core.Path.{sym, _∙_}
 use borrow.Author.Count.{falls}
-use Rattle.listing.specs.Print.{retext}
-use Rattle.trace.specs.Sections.{isOccupied, occupiedIn, cellText, texts-cells}
-use Rattle.trace.specs.Sections.{TextsLeft, texts-start, texts-yes, texts-no, texts-end}
+use Rattle.listing.proofs.PrintLaws.{retext}
+use Rattle.trace.specs.Sections.{isOccupied, occupiedIn}
+use Rattle.trace.proofs.SectionsLaws.{cellText, texts-cells}
+use Rattle.trace.proofs.SectionsLaws.{TextsLeft, texts-start, texts-yes, texts-no, texts-end}
 use borrow.Author.Needs.{needs}
 use Rattle.trace.proofs.sections.cell_rows.Statement.{statement}
 use Rattle.trace.proofs.sections.cell_rows.Tie as tie

@@ -3,8 +3,9 @@ use Prim.Native.Nat.{_-_}
 use mathlib.Core.Path.{refl, sym, _∙_}
 use native.Mathlib.Omega.{arith}
 use borrow.Author.Count.{falls}
-use Rattle.trace.specs.Sections.{isOccupied, occupiedIn, total-ones}
-use Rattle.trace.specs.Sections.{Counted, counted-start, counted-room, counted-yes, counted-no, counted-end}
+use Rattle.trace.specs.Sections.{isOccupied, occupiedIn}
+use Rattle.trace.proofs.SectionsLaws.{total-ones}
+use Rattle.trace.proofs.SectionsLaws.{Counted, counted-start, counted-room, counted-yes, counted-no, counted-end}
 use borrow.Author.Needs.{needs}
 use Rattle.trace.proofs.sections.count_blocks.Statement.{statement}
 use Rattle.trace.proofs.sections.count_blocks.Tie as tie

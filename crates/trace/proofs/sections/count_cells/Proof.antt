@@ -4,8 +4,9 @@ use Prim.Native.Nat.{_-_}
 use mathlib.Core.Path.{sym, _∙_}
 use native.Mathlib.Omega.{arith}
 use borrow.Author.Count.{falls}
-use Rattle.trace.specs.Sections.{chain-few, isOccupied, occupiedIn, cellsIn, total-cells}
-use Rattle.trace.specs.Sections.{Counted, counted-start, counted-room, counted-yes, counted-no, counted-end}
+use Rattle.trace.specs.Sections.{isOccupied, occupiedIn}
+use Rattle.trace.proofs.SectionsLaws.{chain-few, cellsIn, total-cells}
+use Rattle.trace.proofs.SectionsLaws.{Counted, counted-start, counted-room, counted-yes, counted-no, counted-end}
 use borrow.Author.Needs.{needs}
 use Rattle.trace.proofs.sections.count_cells.Statement.{statement}
 use Rattle.trace.proofs.sections.count_cells.Tie as tie

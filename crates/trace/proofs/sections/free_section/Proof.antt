@@ -1,6 +1,6 @@
 -- `sections::free_section` meets its contract: the head, then the rows. Leans on the laws of rows.
-use Rattle.listing.specs.Print.{retext, print-section}
-use Rattle.trace.specs.Sections.{free-section}
+use Rattle.listing.proofs.PrintLaws.{retext, print-section}
+use Rattle.trace.proofs.SectionsLaws.{free-section}
 use borrow.Author.Needs.{needs}
 use Rattle.trace.proofs.sections.free_section.Statement.{statement}
 use Rattle.trace.proofs.sections.free_section.Tie as tie

@@ -6,7 +6,7 @@ use native.Mathlib.Omega.{arith}
 use lib.ListN.{length, replicate, length-set}
 use borrow.Author.Count.{falls-down}
 use Rattle.model.specs.Memory.{overwrite}
-use Rattle.laws.specs.Memory.{zeros-round, zeros-end}
+use Rattle.laws.proofs.Memory.{zeros-round, zeros-end}
 use Rattle.words.proofs.bytes.fill.Statement.{statement}
 use Rattle.words.proofs.bytes.fill.Tie as tie
 

@@ -1,7 +1,7 @@
 -- `load_word` meets its contract: past the end a byte reads as 0. Leans on the laws of bytes; assumes nothing.
 use mathlib.Core.Path.{sym, _∙_}
 use native.Mathlib.Omega.{arith}
-use Rattle.laws.specs.Memory.{loadBytes-out, loadBytes-short}
+use Rattle.laws.proofs.Memory.{loadBytes-out, loadBytes-short}
 use borrow.Author.Needs.{needs}
 use Rattle.words.proofs.bytes.load_word.Statement.{statement}
 use Rattle.words.proofs.bytes.load_word.Tie as tie

@@ -2,7 +2,7 @@
 use Prim.Native.Nat.{_+_, _-_}
 use native.Mathlib.Omega.{arith}
 use borrow.Author.Count.{falls-down}
-use Rattle.laws.specs.Memory.{ReadSoFar, read-start, read-round, read-end, read-room}
+use Rattle.laws.proofs.Memory.{ReadSoFar, read-start, read-round, read-end, read-room}
 use borrow.Author.Needs.{needs}
 use Rattle.words.proofs.bytes.read.Statement.{statement}
 use Rattle.words.proofs.bytes.read.Tie as tie

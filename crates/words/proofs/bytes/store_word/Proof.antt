@@ -1,7 +1,7 @@
 -- `store_word` meets its contract: past the end nothing is written. Leans on the laws of bytes; assumes nothing.
 use mathlib.Core.Path.{sym, _∙_}
 use native.Mathlib.Omega.{arith}
-use Rattle.laws.specs.Memory.{overwrite-out, bytesOf-short}
+use Rattle.laws.proofs.Memory.{overwrite-out, bytesOf-short}
 use borrow.Author.Needs.{needs}
 use Rattle.words.proofs.bytes.store_word.Statement.{statement}
 use Rattle.words.proofs.bytes.store_word.Tie as tie

@@ -6,7 +6,7 @@ use native.Mathlib.Omega.{arith}
 use lib.ListN.{length, length-set}
 use borrow.Author.Count.{falls-down}
 use Rattle.model.specs.Memory.{bytesOf, overwrite}
-use Rattle.laws.specs.Memory.{bytesOf-round, bytesOf-end}
+use Rattle.laws.proofs.Memory.{bytesOf-round, bytesOf-end}
 use Rattle.words.proofs.bytes.write.Statement.{statement}
 use Rattle.words.proofs.bytes.write.Tie as tie
 

@@ -3,7 +3,7 @@ use Prim.Native.Nat.{_-_}
 use lib.ListN.{length}
 use mathlib.Core.Path.{sym, _∙_}
 use native.Mathlib.Omega.{arith}
-use Rattle.laws.specs.Memory.{overwrite-out, zeros-short}
+use Rattle.laws.proofs.Memory.{overwrite-out, zeros-short}
 use borrow.Author.Needs.{needs}
 use Rattle.words.proofs.bytes.zero.Statement.{statement}
 use Rattle.words.proofs.bytes.zero.Tie as tie

@@ -1,7 +1,7 @@
 -- `clear_all` meets its contract: zeros over the whole list. Leans on the laws of bytes; assumes nothing.
 use mathlib.Core.Path.{_∙_}
 use Rattle.model.specs.Memory.{cleared}
-use Rattle.laws.specs.Memory.{zeros-all}
+use Rattle.laws.proofs.Memory.{zeros-all}
 use borrow.Author.Needs.{needs}
 use Rattle.words.proofs.marks.clear_all.Statement.{statement}
 use Rattle.words.proofs.marks.clear_all.Tie as tie

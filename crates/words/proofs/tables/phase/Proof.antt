@@ -2,7 +2,7 @@
 use mathlib.Core.Path.{_∙_}
 use native.Mathlib.Omega.{arith}
 use Rattle.model.specs.Tables.{view}
-use Rattle.laws.specs.Tables.{getD-part}
+use Rattle.laws.proofs.Tables.{getD-part}
 use borrow.Author.Needs.{needs}
 use Rattle.words.proofs.tables.phase.Statement.{statement}
 use Rattle.words.proofs.tables.phase.Tie as tie

@@ -1,7 +1,7 @@
 -- `tables::put` writes a word of a part, and none past the part or the words. Leans on the laws of `putIn`.
 use mathlib.Core.Path.{sym}
 use native.Mathlib.Omega.{arith}
-use Rattle.laws.specs.Tables.{putIn-in, putIn-out, putIn-past}
+use Rattle.laws.proofs.Tables.{putIn-in, putIn-out, putIn-past}
 use borrow.Author.Needs.{needs}
 use Rattle.words.proofs.tables.put.Statement.{statement}
 use Rattle.words.proofs.tables.put.Tie as tie

@@ -2,7 +2,7 @@
 use mathlib.Core.Path.{_∙_}
 use native.Mathlib.Omega.{arith}
 use Rattle.model.specs.Tables.{putPhase}
-use Rattle.laws.specs.Tables.{putIn-in}
+use Rattle.laws.proofs.Tables.{putIn-in}
 use borrow.Author.Needs.{needs}
 use Rattle.words.proofs.tables.set_phase.Statement.{statement}
 use Rattle.words.proofs.tables.set_phase.Tie as tie

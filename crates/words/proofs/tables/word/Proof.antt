@@ -1,7 +1,7 @@
 -- `tables::word` reads a word of a part, and 0 past the part or the words. Leans on the laws of parts.
 use mathlib.Core.Path.{sym}
 use native.Mathlib.Omega.{arith}
-use Rattle.laws.specs.Tables.{getD-part, getD-part-out, getD-part-past}
+use Rattle.laws.proofs.Tables.{getD-part, getD-part-out, getD-part-past}
 use borrow.Author.Needs.{needs}
 use Rattle.words.proofs.tables.word.Statement.{statement}
 use Rattle.words.proofs.tables.word.Tie as tie

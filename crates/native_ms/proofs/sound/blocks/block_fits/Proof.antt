@@ -1,6 +1,6 @@
 -- `blocks::block_fits` meets its contract: the tests stand in the definition's order.
 use borrow.Author.Tests.{not-true, not-false}
-use Rattle.native_ms.specs.SoundTests.{fits-free, fits-state, fits-list, fits-size, fits-link, fits-tls, link-sized}
+use Rattle.native_ms.proofs.SoundTests.{fits-free, fits-state, fits-list, fits-size, fits-link, fits-tls, link-sized}
 use borrow.Author.Needs.{needs}
 use Rattle.native_ms.proofs.sound.blocks.block_fits.Statement.{statement}
 use Rattle.native_ms.proofs.sound.blocks.block_fits.Tie as tie

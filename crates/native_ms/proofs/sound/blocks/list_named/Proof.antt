@@ -1,5 +1,5 @@
 -- `blocks::list_named` meets its contract.
-use Rattle.native_ms.specs.SoundTests.{named-none, named-some}
+use Rattle.native_ms.proofs.SoundTests.{named-none, named-some}
 use borrow.Author.Needs.{needs}
 use Rattle.native_ms.proofs.sound.blocks.list_named.Statement.{statement}
 use Rattle.native_ms.proofs.sound.blocks.list_named.Tie as tie

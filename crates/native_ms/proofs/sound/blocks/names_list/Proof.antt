@@ -1,6 +1,6 @@
 -- `blocks::names_list` meets its contract.
 use Rattle.model.specs.Tables.{view}
-use Rattle.native_ms.specs.SoundTests.{names-none, names-some}
+use Rattle.native_ms.proofs.SoundTests.{names-none, names-some}
 use borrow.Author.Needs.{needs}
 use Rattle.native_ms.proofs.sound.blocks.names_list.Statement.{statement}
 use Rattle.native_ms.proofs.sound.blocks.names_list.Tie as tie

@@ -4,7 +4,7 @@ use Rattle.model.specs.Params.{bins}
 use borrow.Author.Needs.{needs}
 use Rattle.native_ms.proofs.sound.blocks.size_ok.Statement.{statement}
 use Rattle.native_ms.proofs.sound.blocks.size_ok.Tie as tie
-use Rattle.native_ms.specs.SoundTests.{size-bin, size-class}
+use Rattle.native_ms.proofs.SoundTests.{size-bin, size-class}
 use Rattle.native_ms.proofs.SoundLent.{class-at, class-most}
 use native.Mathlib.Omega.{arith}
 

@@ -1,6 +1,6 @@
 -- `blocks::tls_ok` meets its contract.
 use borrow.Author.Tests.{not-true, not-false}
-use Rattle.native_ms.specs.SoundTests.{tls-none, tls-shared, tls-local}
+use Rattle.native_ms.proofs.SoundTests.{tls-none, tls-shared, tls-local}
 use borrow.Author.Needs.{needs}
 use Rattle.native_ms.proofs.sound.blocks.tls_ok.Statement.{statement}
 use Rattle.native_ms.proofs.sound.blocks.tls_ok.Tie as tie

@@ -7,10 +7,10 @@ use borrow.Author.Tests.{not-true, not-false}
 use borrow.Author.Count.{falls-down}
 use Rattle.model.specs.Base.{allBelow, sumBelow}
 use Rattle.model.specs.Tables.{view}
-use Rattle.laws.specs.Below.{all-end, all-stop, all-step}
-use Rattle.laws.specs.Params.{good-bounds}
+use Rattle.laws.proofs.Below.{all-end, all-stop, all-step}
+use Rattle.laws.proofs.Params.{good-bounds}
 use Rattle.native_ms.specs.SoundWalk.{blockFits}
-use Rattle.native_ms.specs.SoundTests.{freeAt, unused-one, unused-more, unused-none, unused-all, fit-bad, fit-left}
+use Rattle.native_ms.proofs.SoundTests.{freeAt, unused-one, unused-more, unused-none, unused-all, fit-bad, fit-left}
 use borrow.Author.Needs.{needs}
 use native.Mathlib.Omega.{arith}
 

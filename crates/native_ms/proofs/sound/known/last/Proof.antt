@@ -4,7 +4,7 @@ use Rattle.native_ms.proofs.sound.known.last.Statement.{statement}
 use Rattle.native_ms.proofs.sound.known.last.Tie as tie
 use Rattle.model.specs.Params.{lists}
 use Rattle.model.specs.Tables.{view}
-use Rattle.laws.specs.Tables.{getD-part}
+use Rattle.laws.proofs.Tables.{getD-part}
 use mathlib.Core.Path.{sym}
 
 add-word : tie.Need-add-word

@@ -2,7 +2,7 @@
 use borrow.Author.Needs.{needs}
 use Rattle.native_ms.proofs.sound.lists.block_from.Statement.{statement}
 use Rattle.native_ms.proofs.sound.lists.block_from.Tie as tie
-use Rattle.laws.specs.Params.{good-bounds, block-small}
+use Rattle.laws.proofs.Params.{good-bounds, block-small}
 use Prim.Native.Nat.{_-_, _/_, _^_}
 use Rattle.native_ms.proofs.SoundLent.{starts-low, starts-past, starts-off, starts-here}
 use native.Mathlib.Omega.{arith}

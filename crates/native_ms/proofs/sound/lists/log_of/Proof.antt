@@ -2,7 +2,7 @@
 use borrow.Author.Needs.{needs}
 use Rattle.native_ms.proofs.sound.lists.log_of.Statement.{statement}
 use Rattle.native_ms.proofs.sound.lists.log_of.Tie as tie
-use Rattle.laws.specs.Good.{good}
+use Rattle.laws.proofs.Good.{good}
 use Rattle.native_ms.proofs.SoundLent.{size-last}
 
 returns : tie.Need-returns

@@ -5,7 +5,7 @@ use mathlib.Core.Path.{_≡_, refl, _∙_}
 use borrow.Author.Tests.{not-true, not-false}
 use Rattle.model.specs.Tables.{view}
 use Rattle.native_ms.specs.SoundWalk.{passFrom}
-use Rattle.native_ms.specs.SoundTests.{stands-off, closed-here, closed-off, pass-closed, pass-long, pass-bad, pass-step, pass-at}
+use Rattle.native_ms.proofs.SoundTests.{stands-off, closed-here, closed-off, pass-closed, pass-long, pass-bad, pass-step, pass-at}
 use native.Mathlib.Omega.{arith}
 
 abbrev Inv-loop : tie.InvT-loop

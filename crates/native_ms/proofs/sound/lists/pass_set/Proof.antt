@@ -5,7 +5,7 @@ use mathlib.Core.Path.{_≡_, refl, _∙_}
 use Prim.Native.Nat.{_≤_}
 use Rattle.model.specs.Tables.{view}
 use Rattle.native_ms.specs.SoundWalk.{passes}
-use Rattle.native_ms.specs.SoundTests.{passes-bad, passes-step}
+use Rattle.native_ms.proofs.SoundTests.{passes-bad, passes-step}
 use Rattle.native_ms.proofs.SoundLent.{list-skip, lists-end}
 use borrow.Author.Needs.{needs}
 use native.Mathlib.Omega.{arith}

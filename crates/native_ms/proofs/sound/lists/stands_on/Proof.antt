@@ -4,7 +4,7 @@ use Rattle.native_ms.proofs.sound.lists.stands_on.Statement.{statement}
 use Rattle.native_ms.proofs.sound.lists.stands_on.Tie as tie
 use mathlib.Core.Path.{refl}
 use Rattle.model.specs.Params.{listWord}
-use Rattle.native_ms.specs.SoundTests.{stands-free, stands-other, stands-here}
+use Rattle.native_ms.proofs.SoundTests.{stands-free, stands-other, stands-here}
 
 state-requires : tie.Need-state-requires
 state-requires c κs = search needs

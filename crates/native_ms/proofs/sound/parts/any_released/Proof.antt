@@ -7,7 +7,7 @@ use Rattle.model.specs.Tables.{view}
 use Rattle.model.specs.Base.{anyBelow}
 use borrow.Author.Count.{falls-down}
 use Rattle.model.specs.Global.{hasReleased}
-use Rattle.laws.specs.Below.{any-none, any-stop, any-step}
+use Rattle.laws.proofs.Below.{any-none, any-stop, any-step}
 use Rattle.native_ms.proofs.sound.parts.any_released.Statement.{statement}
 use Rattle.native_ms.proofs.sound.parts.any_released.Tie as tie
 

@@ -1,6 +1,6 @@
 -- `parts::holder_fits` meets its contract.
 use borrow.Author.Tests.{not-true, not-false}
-use Rattle.native_ms.specs.SoundTests.{holder-flag, holder-on, holder-done, holder-off}
+use Rattle.native_ms.proofs.SoundTests.{holder-flag, holder-on, holder-done, holder-off}
 use borrow.Author.Needs.{needs}
 use Rattle.native_ms.proofs.sound.parts.holder_fits.Statement.{statement}
 use Rattle.native_ms.proofs.sound.parts.holder_fits.Tie as tie

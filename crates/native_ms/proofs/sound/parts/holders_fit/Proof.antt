@@ -7,7 +7,7 @@ use Rattle.model.specs.Tables.{view}
 use Rattle.model.specs.Base.{allBelow}
 use borrow.Author.Count.{falls-down}
 use Prim.Native.Nat.{_≤_}
-use Rattle.laws.specs.Below.{all-end, all-stop, all-step}
+use Rattle.laws.proofs.Below.{all-end, all-stop, all-step}
 use Rattle.native_ms.specs.SoundWalk.{holderFits}
 use Rattle.native_ms.proofs.sound.parts.holders_fit.Statement.{statement}
 use Rattle.native_ms.proofs.sound.parts.holders_fit.Tie as tie

@@ -1,5 +1,5 @@
 -- `parts::in_gc_empty` meets its contract.
-use Rattle.native_ms.specs.SoundTests.{gc-releasing, gc-empty}
+use Rattle.native_ms.proofs.SoundTests.{gc-releasing, gc-empty}
 use borrow.Author.Needs.{needs}
 use Rattle.native_ms.proofs.sound.parts.in_gc_empty.Statement.{statement}
 use Rattle.native_ms.proofs.sound.parts.in_gc_empty.Tie as tie

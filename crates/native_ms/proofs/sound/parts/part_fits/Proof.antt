@@ -1,5 +1,5 @@
 -- `parts::part_fits` meets its contract.
-use Rattle.native_ms.specs.SoundTests.{part-flag, part-none, part-phase, part-shared, part-holder}
+use Rattle.native_ms.proofs.SoundTests.{part-flag, part-none, part-phase, part-shared, part-holder}
 use borrow.Author.Needs.{needs}
 use Rattle.native_ms.proofs.sound.parts.part_fits.Statement.{statement}
 use Rattle.native_ms.proofs.sound.parts.part_fits.Tie as tie

@@ -7,7 +7,7 @@ use borrow.Author.Tests.{not-true, not-false}
 use Rattle.model.specs.Tables.{view}
 use Rattle.model.specs.Base.{allBelow}
 use borrow.Author.Count.{falls-down}
-use Rattle.laws.specs.Below.{all-end, all-stop, all-step}
+use Rattle.laws.proofs.Below.{all-end, all-stop, all-step}
 use Rattle.native_ms.specs.SoundWalk.{partFits}
 use Rattle.native_ms.proofs.sound.parts.parts_fit.Statement.{statement}
 use Rattle.native_ms.proofs.sound.parts.parts_fit.Tie as tie

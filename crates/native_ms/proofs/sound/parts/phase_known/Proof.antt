@@ -1,5 +1,5 @@
 -- `parts::phase_known` meets its contract.
-use Rattle.native_ms.specs.SoundTests.{phase-running, phase-marking, phase-releasing}
+use Rattle.native_ms.proofs.SoundTests.{phase-running, phase-marking, phase-releasing}
 use borrow.Author.Needs.{needs}
 use Rattle.native_ms.proofs.sound.parts.phase_known.Statement.{statement}
 use Rattle.native_ms.proofs.sound.parts.phase_known.Tie as tie

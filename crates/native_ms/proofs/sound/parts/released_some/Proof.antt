@@ -1,6 +1,6 @@
 -- `parts::released_some` meets its contract.
 use borrow.Author.Tests.{not-true, not-false}
-use Rattle.native_ms.specs.SoundTests.{some-other, some-none, some-due}
+use Rattle.native_ms.proofs.SoundTests.{some-other, some-none, some-due}
 use borrow.Author.Needs.{needs}
 use Rattle.native_ms.proofs.sound.parts.released_some.Statement.{statement}
 use Rattle.native_ms.proofs.sound.parts.released_some.Tie as tie

@@ -3,7 +3,7 @@
 -- have twenty digits. Assumes nothing.
 use mathlib.Core.Path.{_≡_, refl, sym, ap, _∙_}
 use mathlib.Core.Logic.{_≢_, inl, inr, ⊎-elim}
-use mathlib.Core.Bool.{Bool, true, false, not, _&&_, _||_}
+use mathlib.Core.Bool.{Bool, true, false, not, _&&_}
 use mathlib.Core.List.{List, [], _∷_, _++_, map, flatten, flatMap}
 use mathlib.Core.Option.{Option, some, none}
 use Prim.Native.Nat.{ℕ, zero, suc, _+_, _-_, _*_, _/_, _%_, _^_, _≤_, _<_}
@@ -14,7 +14,7 @@ use lib.ListN.{length, getD, take, length-append, length-take}
 use borrow.Author.Tests.{lt-ltb, leb-true, eqb-true, eq-eqb}
 use Rattle.model.specs.declared.Refusal.{Refusal}
 use Rattle.model.specs.declared.Refusal.the-variants.{BadSetup, BadTables, WrongPhase, BadHolder, BadRequest, TooBig, BadOffer, BadLink, Exhausted, BadObject, BadLine}
-use Rattle.model.specs.Base.{if_then_else_, filter, In}
+use Rattle.model.specs.Base.{filter, In}
 use Rattle.model.specs.Params.{Lent, heapBytes, fits, start}
 use Rattle.model.specs.Memory.{load}
 use Rattle.model.specs.Tables.{Tables, tablesOf, view, flat}
@@ -24,19 +24,16 @@ use Rattle.model.specs.Global.{freshWords, freshTables}
 use Rattle.model.specs.Sound.{stateOf, binNamed, sizeOk, sound}
 use Rattle.model.specs.Calls.{refusalNumber, Call, says, step, Result, tablesIn, call, setUp}
 use Rattle.model.specs.Census.{digits, decimal, spaced, section, RefusedLine, refusedRow, upTo, occupied, blockRow, freeRows, censusParams, linesOf, Ran, runLines, lineResult, lineOf, pieces, newline, space, dropBlankEnd, censusLent, listing, census}
-use Rattle.laws.specs.Base.{if-cases, and-right, in-append, in-filter}
-use Rattle.laws.specs.Below.{true-not-false}
-use Rattle.laws.specs.Params.{Bounds, good-bounds, start-in}
-use Rattle.laws.specs.Tables.{view-flat}
-use Rattle.laws.specs.Classes.{cellBytes-least}
-use Rattle.trace.specs.Sections.{fine, flatten-append}
-use Rattle.soundness.specs.SoundLists.{sound-parts, block-parts}
-use Rattle.soundness.specs.Replies.{fair-reply, bad-reply}
-use Rattle.soundness.specs.Kept.{Kept, fresh-kept, step-kept}
-
--- the room that is lent for a listing; `LISTING_BYTES` in the code
-abbrev pub listingBytes : ℕ
-listingBytes = 20000
+use Rattle.laws.proofs.Base.{if-cases, and-right, in-append, in-filter}
+use Rattle.laws.proofs.Below.{true-not-false}
+use Rattle.laws.proofs.Params.{Bounds, good-bounds, start-in}
+use Rattle.laws.proofs.Tables.{view-flat}
+use Rattle.laws.proofs.Classes.{cellBytes-least}
+use Rattle.trace.proofs.SectionsLaws.{fine, flatten-append}
+use Rattle.soundness.proofs.SoundLists.{sound-parts, block-parts}
+use Rattle.soundness.proofs.Replies.{fair-reply, bad-reply}
+use Rattle.soundness.proofs.Kept.{Kept, fresh-kept, step-kept}
+use Rattle.model.specs.Text.{listingBytes}
 
 -- ---- numbers and rows
 
