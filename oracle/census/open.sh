@@ -42,13 +42,13 @@ for f in 257 16385; do
 done
 
 # each program that reads: closed, and a folder
-for p in census script census_samples; do
+for p in census script census_samples exports_samples; do
     "$bin/$p" <&- > "$room/out" 2> "$room/err"; tried "$p, input closed" "$room/empty" "$p: $in"
     "$bin/$p" < "$room" > "$room/out" 2> "$room/err"; tried "$p, input a folder" "$room/empty" "$p: $in"
 done
 
 # each program: a full device, and closed
-for p in census script census_samples size_answers; do
+for p in census script census_samples exports_samples size_answers; do
     from=$top/crates/$p/stdin
     [ -f "$from" ] || from=/dev/null
     "$bin/$p" < "$from" > /dev/full 2> "$room/err"; tried "$p, to a full device" - "$p: $out"

@@ -2,14 +2,13 @@
 // slice for the answer, which are 0xA5 before it. What must be printed was worked out from document 01 by another program
 // (sample.py).
 use exports::c;
-use libc::STDIN_FILENO;
+use libc::STDERR_FILENO;
 use libc::STDOUT_FILENO;
 use listing::Line;
 use listing::NextLine;
 use listing::lines;
 use model::Ask;
 use model::Offer;
-ghost use Prim.Native.Nat.{_≤_};
 
 const BASE: usize = 16384;
 
@@ -38,10 +37,13 @@ const TRACE: usize = 16384;
 
 const MOST_LINES: usize = 256;
 
-fn least(a: usize, b: usize) -> usize
-    ensures { λ r. ⌜ r ≤ b ⌝ }
-{
-    if a < b { a } else { b }
+fn say(text: &[u8]) {
+    io::write_all(STDERR_FILENO, text);
+}
+
+// Whether it was written.
+fn put(bytes: &[u8]) -> bool {
+    io::write_all(STDOUT_FILENO, bytes)
 }
 
 fn set_up(
@@ -301,51 +303,78 @@ fn make(
     }
 }
 
-fn tell_byte(b: u8) {
+fn tell_byte(b: u8) -> bool {
     let mut two = [0u8; 16];
     let k = io::hex(b as u64, 2, &mut two);
-    io::write_all(STDOUT_FILENO, &two[..k]);
+    put(&two[..k])
 }
 
-fn tell_bytes(s: &[u8]) {
+fn tell_bytes(s: &[u8]) -> bool {
     let mut i: usize = 0;
     while i < s.len() {
-        tell_byte(s[i]);
+        let written = tell_byte(s[i]);
+        if !written {
+            return false;
+        }
         i = i + 1;
     }
+    true
 }
 
-// Prints the number and the slice.
-fn tell(number: usize, answer: &[u8; ANSWER]) {
+// Prints the number and the slice; whether that was written. So do the next three.
+fn tell(number: usize, answer: &[u8; ANSWER]) -> bool {
     let mut digits = [0u8; 20];
     let k = io::decimal(number as u64, &mut digits);
-    io::write_all(STDOUT_FILENO, &digits[..k]);
-    io::write_all(STDOUT_FILENO, b" ");
-    tell_bytes(answer);
-    io::write_all(STDOUT_FILENO, b"\n");
+    if !put(&digits[..k]) {
+        return false;
+    }
+    if !put(b" ") {
+        return false;
+    }
+    if !tell_bytes(answer) {
+        return false;
+    }
+    put(b"\n")
 }
 
-fn tell_set_up(words: &mut [u8], states: &mut [u8], marks: &mut [u8], heap: &mut [u8]) {
+fn tell_set_up(words: &mut [u8], states: &mut [u8], marks: &mut [u8], heap: &mut [u8]) -> bool {
     let mut answer = [0xA5u8; ANSWER];
     let number = set_up(words, states, marks, heap, &mut answer);
-    tell(number, &answer);
+    tell(number, &answer)
 }
 
-fn tell_call(words: &mut [u8], states: &mut [u8], marks: &mut [u8], heap: &mut [u8], ask: Ask) {
+fn tell_call(
+    words: &mut [u8],
+    states: &mut [u8],
+    marks: &mut [u8],
+    heap: &mut [u8],
+    ask: Ask,
+) -> bool {
     let mut answer = [0xA5u8; ANSWER];
     let number = make(words, states, marks, heap, &mut answer, ask);
-    tell(number, &answer);
+    tell(number, &answer)
 }
 
-fn tell_line(words: &mut [u8], states: &mut [u8], marks: &mut [u8], heap: &mut [u8], line: Line) {
+fn tell_line(
+    words: &mut [u8],
+    states: &mut [u8],
+    marks: &mut [u8],
+    heap: &mut [u8],
+    line: Line,
+) -> bool {
     let Line::Asks(ask) = line else {
-        io::write_all(STDOUT_FILENO, b"bad\n");
-        return;
+        return put(b"bad\n");
     };
-    tell_call(words, states, marks, heap, ask);
+    tell_call(words, states, marks, heap, ask)
 }
 
-// The line that begins at `at`; where the next begins.
+// Where the next line begins, and whether what was to be printed was written.
+struct Told {
+    next: usize,
+    written: bool,
+}
+
+// The line that begins at `at`.
 fn turn(
     s: &[u8],
     at: usize,
@@ -353,41 +382,79 @@ fn turn(
     states: &mut [u8],
     marks: &mut [u8],
     heap: &mut [u8],
-) -> usize {
+) -> Told {
     let NextLine::Line { from, to, next } = lines::next_line(s, at) else {
-        return s.len();
+        return Told {
+            next: s.len(),
+            written: true,
+        };
     };
     if to < from {
-        return next;
+        return Told {
+            next,
+            written: true,
+        };
     }
     if s.len() < to {
-        return next;
+        return Told {
+            next,
+            written: true,
+        };
     }
-    tell_line(words, states, marks, heap, lines::parse(&s[from..to]));
-    next
+    let written = tell_line(words, states, marks, heap, lines::parse(&s[from..to]));
+    Told { next, written }
 }
 
-// No line begins where nothing follows, so the turns that are left then do nothing.
-fn replay_lines(s: &[u8], words: &mut [u8], states: &mut [u8], marks: &mut [u8], heap: &mut [u8]) {
+// No line begins where nothing follows, so the turns that are left then do nothing. Whether all was written.
+fn replay_lines(
+    s: &[u8],
+    words: &mut [u8],
+    states: &mut [u8],
+    marks: &mut [u8],
+    heap: &mut [u8],
+) -> bool {
     let mut at: usize = 0;
     let mut n: usize = 0;
     while n < MOST_LINES {
-        at = turn(s, at, words, states, marks, heap);
+        let done = turn(s, at, words, states, marks, heap);
+        if !done.written {
+            return false;
+        }
+        at = done.next;
         n = n + 1;
     }
+    true
 }
 
 fn replay(
+    s: &[u8],
+    words: &mut [u8],
+    states: &mut [u8],
+    marks: &mut [u8],
+    heap: &mut [u8],
+) -> bool {
+    if !tell_set_up(words, states, marks, heap) {
+        return false;
+    }
+    replay_lines(s, words, states, marks, heap)
+}
+
+fn read_and_replay(
     input: &mut [u8],
     words: &mut [u8],
     states: &mut [u8],
     marks: &mut [u8],
     heap: &mut [u8],
 ) {
-    let got = io::read_full(STDIN_FILENO, input);
-    let read = least(got, input.len());
-    tell_set_up(words, states, marks, heap);
-    replay_lines(&input[..read], words, states, marks, heap);
+    let read = streams::read_input(input);
+    if read.failed {
+        say(b"exports_samples: standard input can't be read\n");
+        return;
+    }
+    let n = read.len;
+    if !replay(&input[..n], words, states, marks, heap) {
+        say(b"exports_samples: standard output can't be written\n");
+    }
 }
 
 fn lend(
@@ -397,7 +464,7 @@ fn lend(
     marks: &mut [u8; 256],
     heap: &mut [u8; HEAP],
 ) {
-    replay(input, words, states, marks, heap);
+    read_and_replay(input, words, states, marks, heap);
 }
 
 fn main() {

@@ -20,6 +20,9 @@ shared-slice-read-tell-byte c = search needs
 tell-byte-requires : tie.Need-tell-byte-requires Inv-loop μ-loop
 tell-byte-requires c κs = search needs
 
+returns : tie.Need-returns Inv-loop μ-loop
+returns c = search needs
+
 add-i : tie.Need-add-i Inv-loop μ-loop
 add-i c = search needs
 
@@ -29,8 +32,8 @@ loop-less c = search needs
 loop-again : tie.Need-loop-again Inv-loop μ-loop
 loop-again c = search needs
 
-returns : tie.Need-returns Inv-loop μ-loop
-returns c = search needs
+returns-2 : tie.Need-returns-2 Inv-loop μ-loop
+returns-2 c = search needs
 
 pub tell-bytes-spec : {M : Type 1} → statement M
 tell-bytes-spec =
@@ -41,7 +44,8 @@ tell-bytes-spec =
     loop-holds
     shared-slice-read-tell-byte
     tell-byte-requires
+    returns
     add-i
     loop-less
     loop-again
-    returns)
+    returns-2)
