@@ -1,5 +1,6 @@
 #!/usr/bin/env python3
-"""The listing of a trace, read off document 01's census paragraph.
+"""The listing of a trace, read off document 01's census paragraph as R-4 of
+document 02 amends it.
 
 Standard input: a trace. Standard output: its listing. The calls are those of
 ../compare/reference.py, the reading of document 01 that the differential runs
@@ -15,6 +16,7 @@ MOST_BYTES, MOST_LINES = 16384, 256
 BASE, BLOCK, BLOCKS = 16384, 4096, 4
 SETUP = 'setup 16384 12 4 8 8 0 1 0 0'
 BAD_LINE = 11
+MARKING = ref.MARKING
 # how many numbers follow a line's letter; an alloc has its block besides
 NUMBERS = {b'b': 1, b'd': 1, b'a': 4, b'p': 0, b'm': 2, b'r': 1, b's': 0}
 
@@ -76,16 +78,28 @@ def chain(start, size, head, load):
     return cells
 
 
-def sections(rows, load):
-    """The block rows and free rows, of (state, free, size, list, holder)."""
+def swept(start, size, is_marked):
+    """The chain that a sweep now would build, the highest cell first."""
+    cells = range(start, start + BLOCK - size + 1, size)
+    return [cell for cell in reversed(cells) if not is_marked(cell)]
+
+
+def sections(phase, rows, standing, sweep):
+    """The block rows and free rows, of (state, free, size, list, holder).
+
+    standing(b, size, head) gives the chain of a block as it stands, and
+    sweep(b, size) the one that a sweep of it now would build."""
     blocks, free = [], []
     for b, (state, head, size, number, holder) in enumerate(rows):
         if state == 0:
             continue
-        blocks.append('%d %d %d %s %d' % (b, state, size, letter_of(number),
-                                          holder))
-        start = BASE + b * BLOCK
-        free += ['%d %d' % (b, a) for a in chain(start, size, head, load)]
+        letter = letter_of(number)
+        blocks.append('%d %d %d %s %d' % (b, state, size, letter, holder))
+        if phase == MARKING:
+            continue
+        cells = (sweep(b, size) if letter in 'Uug'
+                 else standing(b, size, head))
+        free += ['%d %d' % (b, a) for a in cells]
     return blocks, free
 
 
@@ -100,7 +114,11 @@ def text(refused, blocks, free):
 def listing(trace):
     refused, space = run(trace)
     rows = zip(space.state, space.free, space.size, space.list, space.tls)
-    return text(refused, *sections(rows, space.heap.load))
+    return text(refused, *sections(
+        space.phase, rows,
+        lambda b, size, head: chain(BASE + b * BLOCK, size, head,
+                                    space.heap.load),
+        lambda b, size: swept(BASE + b * BLOCK, size, space.is_marked)))
 
 
 if __name__ == '__main__':

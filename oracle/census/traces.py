@@ -104,6 +104,27 @@ def letters():
                   alloc(2, 2), alloc(3, 2, 4096), alloc('-', 2, 4096), 'd 2')
 
 
+# two holders with a block each; holder 1's has two free cells and a mark on
+# the higher of them, holder 2's two free cells and a mark on a held one
+HALF = ('b 1', 'b 2', alloc(0), alloc('-'), alloc(1, 2), alloc('-', 2), 'p',
+        'm 19456 0', 'm 17408 0', 'm 23552 1')
+
+
+def every_letter_releasing():
+    """A, a, c and g in one listing: holder 1 has released, the rest is due.
+
+    Holder 3 leaves an available block and a consumed one; U never stands
+    after a line, since a release hands that list on to g."""
+    return joined('b 1', 'b 2', 'b 3', alloc(0), alloc(1, 2), alloc(2, 3),
+                  alloc(3, 3, 4096), alloc('-', 3, 4096), 'd 3', 'p',
+                  'm 19456 0', 'm 23552 1', 'm 27648 2', 'm 28672 3', 'r 1')
+
+
+def unswept_again():
+    """A block of u that no alloc asked for, through a second collection."""
+    return joined(*HALF, 'r 1', 'r 2', 's', 'p', 'm 18432 0', 'm 20480 1')
+
+
 def four_blocks_of_words():
     """Four holders, since one with a free cell uses no offer."""
     return joined(*['b %d' % h for h in (1, 2, 3, 4)],
@@ -126,6 +147,21 @@ TRACES = [
     ('marking', joined(*COLLECTED)),
     ('lists g in releasing', joined(*COLLECTED, 'b 2', 'r 1')),
     ('lists u after a collection', joined(*COLLECTED, 'r 1', 's')),
+    ('marks on free cells, marking', joined(*HALF)),
+    ('g by marks, A by its chain', joined(*HALF, 'r 1')),
+    ('every letter in releasing', every_letter_releasing()),
+    ('u by marks', joined(*HALF, 'r 1', 'r 2', 's')),
+    ('u by marks, one swept', joined(*HALF, 'r 1', 'r 2', 's', alloc('-'))),
+    ('u in a second marking', unswept_again()),
+    ('u after a second collection', unswept_again() + joined('s', 'r 2', 'r 1')),
+    ('u, no cell would be free', joined('b 1', alloc(0, 1, 2048), 'p',
+                                        'm 16384 0', 'm 18432 0', 'r 1', 's')),
+    ('u, marks inside cells only', joined('b 1', alloc(0), 'p', 'm 19464 0',
+                                          'r 1', 's')),
+    ('u with a short tail', joined('b 1', alloc(3, 1, 1280), 'p', 'm 31232 3',
+                                   'm 32512 3', 'r 1', 's')),
+    ('u, 511 cells of a word', joined('b 1', alloc(2, 1, 8), 'p', 'm 24584 2',
+                                      'r 1', 's')),
     ('kept and lost cells', joined(*COLLECTED, 'r 1', 's', alloc('-'))),
     ('shared part first', joined(*COLLECTED, 's', 'r 1', alloc('-'))),
     ('all cells lost', joined(*COLLECTED[:6], 'p', 's', 'r 1')),

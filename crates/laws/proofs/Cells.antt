@@ -171,6 +171,13 @@ desc-cellsDown kept from s (suc n) =
       ih,
     ))
 
+pub length-cellsDown : (kept : ℕ → Bool) (from s n : ℕ) → length (cellsDown kept from s n) ≤ n
+unfolding cellsDown
+length-cellsDown kept from s zero = omega arith
+length-cellsDown kept from s (suc n) =
+    let ih : length (cellsDown kept from s n) ≤ n = length-cellsDown kept from s n in
+    if-cases (λ (c : List ℕ). length c ≤ suc n) (kept (from + n * s)) (λ t. omega arith) (λ t. omega arith)
+
 -- one cell more, kept or not
 pub cellsDown-kept : (kept : ℕ → Bool) (from s k : ℕ) {a : ℕ} → a ≡ from + k * s → kept a ≡ true
     → cellsDown kept from s k ≡ cellsDown kept from s (k + 1)

@@ -112,3 +112,14 @@ moreCells p w = goodParams p && ltb 0 (w .left) && isCell p (w .block .0) (w .si
 -- the walk from that cell's link on
 unfoldable pub nextCell : Params → List ℕ → ChainWalk → ChainWalk
 nextCell p h w = record { block = w .block; at = record { 0 = load p h (w .at .0) }; size = w .size; left = w .left - 1 }
+
+-- ---- the chain that a sweep would build, a cell at a time, as a listing prints it; each is of all inputs
+
+-- where the k-th whole cell of the block b with cells of s bytes stands, from 0; 0 if there is none
+unfoldable pub cellAt : Params → ℕ → ℕ → ℕ → ℕ
+cellAt p b s k = if goodParams p && ltb k (cellCount p s) then start p b + k * s else 0
+
+-- whether a sweep by these marks frees it
+unfoldable pub freesCell : Params → List ℕ → ℕ → ℕ → ℕ → Bool
+freesCell p ms b s k =
+    goodParams p && ltb k (cellCount p s) && not (keeps p (marked p ms) s (start p b + k * s))

@@ -9,7 +9,7 @@ use Rattle.model.specs.declared.Params.{Params}
 use Rattle.model.specs.declared.Offer.the-variants.{Fresh}
 use Rattle.model.specs.Base.{allBelow}
 use Rattle.model.specs.Params.{Lent, start}
-use Rattle.model.specs.Memory.{setMark}
+use Rattle.model.specs.Memory.{marked, setMark}
 use Rattle.model.specs.Tables.{Words}
 use Rattle.model.specs.SizeClasses.{cellBytes, binOf, raised, shift}
 use Rattle.model.specs.BlockList.{push}
@@ -17,7 +17,7 @@ use Rattle.model.specs.Block.{initChain, sweepChain}
 use Rattle.model.specs.Events.{releases}
 use Rattle.model.specs.Global.{freshWords, releaseFrom}
 use Rattle.model.specs.Calls.{bind, alloc, call, setUp}
-use Rattle.model.specs.Census.{before, censusParams, censusLent}
+use Rattle.model.specs.Census.{before, censusParams, censusLent, listing}
 
 -- what the definitions give, and what 01 says
 pub record Case : Type 0 where
@@ -93,3 +93,32 @@ same (x ∷ xs) (y ∷ ys) = eqb x y && same xs ys
 unfoldable pub allRight : List Case → Bool
 allRight [] = true
 allRight (c ∷ cs) = same (c .got) (c .want) && allRight cs
+
+-- ---- R-4, computed: two cells handed out, one of them marked in a collection. Of the old chain 25600, 24576 the sweep makes
+-- 26624, 25600, 24576, and so the listing prints these
+
+-- b 1 / a 1 1024 8 0 2 / a 1 1024 8 0 - / p / m 27648 2 / r 1 / s
+unfoldable pub collectedTrace : List ℕ
+collectedTrace =
+    98 ∷ 32 ∷ 49 ∷ 10 ∷ 97 ∷ 32 ∷ 49 ∷ 32 ∷ 49 ∷ 48 ∷ 50 ∷ 52 ∷ 32 ∷ 56 ∷ 32 ∷ 48 ∷ 32 ∷ 50 ∷ 10 ∷ 97 ∷ 32 ∷ 49 ∷ 32
+    ∷ 49 ∷ 48 ∷ 50 ∷ 52 ∷ 32 ∷ 56 ∷ 32 ∷ 48 ∷ 32 ∷ 45 ∷ 10 ∷ 112 ∷ 10 ∷ 109 ∷ 32 ∷ 50 ∷ 55 ∷ 54 ∷ 52 ∷ 56 ∷ 32 ∷ 50 ∷ 10
+    ∷ 114 ∷ 32 ∷ 49 ∷ 10 ∷ 115 ∷ 10 ∷ []
+
+-- refused 0 / blocks 1 / 2 254 1024 u 1 / free 3 / 2 26624 / 2 25600 / 2 24576
+unfoldable pub collectedListing : List ℕ
+collectedListing =
+    114 ∷ 101 ∷ 102 ∷ 117 ∷ 115 ∷ 101 ∷ 100 ∷ 32 ∷ 48 ∷ 10 ∷ 98 ∷ 108 ∷ 111 ∷ 99 ∷ 107 ∷ 115 ∷ 32 ∷ 49 ∷ 10 ∷ 50 ∷ 32
+    ∷ 50 ∷ 53 ∷ 52 ∷ 32 ∷ 49 ∷ 48 ∷ 50 ∷ 52 ∷ 32 ∷ 117 ∷ 32 ∷ 49 ∷ 10 ∷ 102 ∷ 114 ∷ 101 ∷ 101 ∷ 32 ∷ 51 ∷ 10 ∷ 50 ∷ 32
+    ∷ 50 ∷ 54 ∷ 54 ∷ 50 ∷ 52 ∷ 10 ∷ 50 ∷ 32 ∷ 50 ∷ 53 ∷ 54 ∷ 48 ∷ 48 ∷ 10 ∷ 50 ∷ 32 ∷ 50 ∷ 52 ∷ 53 ∷ 55 ∷ 54 ∷ 10 ∷ []
+
+-- b 1 / a 1 1024 8 0 2 / p / m 27648 2
+unfoldable pub markingTrace : List ℕ
+markingTrace =
+    98 ∷ 32 ∷ 49 ∷ 10 ∷ 97 ∷ 32 ∷ 49 ∷ 32 ∷ 49 ∷ 48 ∷ 50 ∷ 52 ∷ 32 ∷ 56 ∷ 32 ∷ 48 ∷ 32 ∷ 50 ∷ 10 ∷ 112 ∷ 10 ∷ 109 ∷ 32
+    ∷ 50 ∷ 55 ∷ 54 ∷ 52 ∷ 56 ∷ 32 ∷ 50 ∷ 10 ∷ []
+
+-- refused 0 / blocks 1 / 2 254 1024 A 1 / free 0
+unfoldable pub markingListing : List ℕ
+markingListing =
+    114 ∷ 101 ∷ 102 ∷ 117 ∷ 115 ∷ 101 ∷ 100 ∷ 32 ∷ 48 ∷ 10 ∷ 98 ∷ 108 ∷ 111 ∷ 99 ∷ 107 ∷ 115 ∷ 32 ∷ 49 ∷ 10 ∷ 50 ∷ 32
+    ∷ 50 ∷ 53 ∷ 52 ∷ 32 ∷ 49 ∷ 48 ∷ 50 ∷ 52 ∷ 32 ∷ 65 ∷ 32 ∷ 49 ∷ 10 ∷ 102 ∷ 114 ∷ 101 ∷ 101 ∷ 32 ∷ 48 ∷ 10 ∷ []

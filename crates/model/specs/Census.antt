@@ -1,5 +1,6 @@
--- "The census program": from the bytes of a trace to the bytes of the listing.
+-- "The census program": from the bytes of a trace to the bytes of the listing, as R-4 of document 02 amends it.
 use Prim.Native.Nat.{ℕ, zero, suc, _+_, _-_, _*_, _/_, _%_, _^_}
+use mathlib.Core.Path.{_≡_}
 use mathlib.Core.Bool.{Bool, true, false, not, _&&_, _||_}
 use mathlib.Core.List.{List, [], _∷_, _++_, map, foldl, flatten, flatMap}
 use mathlib.Core.Option.{Option, some, none}
@@ -10,12 +11,14 @@ use Rattle.model.specs.declared.Params.{Params}
 use Rattle.model.specs.declared.Offer.{Offer}
 use Rattle.model.specs.declared.Offer.the-variants.{Nothing, Fresh}
 use Rattle.model.specs.declared.Refusal.the-variants.{BadLine}
-use Rattle.model.specs.Base.{if_then_else_, filter, allBelow}
+use Rattle.model.specs.Base.{if_then_else_, filter, allBelow, member, In}
 use Rattle.model.specs.Params.{Lent, wordCount, heapBytes, abandoned, inGc}
-use Rattle.model.specs.Tables.{Tables}
-use Rattle.model.specs.Block.{Unallocated, freeChain}
+use Rattle.model.specs.Tables.{Words, Tables}
+use Rattle.model.specs.Block.{Unallocated, sweepChain, freeChain}
+use Rattle.model.specs.Events.{swept}
+use Rattle.model.specs.Global.{Marking}
 use Rattle.model.specs.Sound.{stateOf, setNamed}
-use Rattle.model.specs.Calls.{Reply, refused, Call, bind, destroy, alloc, prepare, mark, release, sharedRelease, Result, tablesIn, call, setUp}
+use Rattle.model.specs.Calls.{Reply, refused, Call, bind, destroy, alloc, prepare, mark, release, sharedRelease, Result, tablesIn, step, call, setUp}
 
 -- ---- the trace's lines
 
@@ -182,17 +185,43 @@ blockRow t b =
     spaced (decimal b ∷ decimal (stateOf t b) ∷ decimal (getD (t .words .size) b 0)
     ∷ (letter (setNamed (t .words) b) ∷ []) ∷ decimal (getD (t .words .tls) b 0) ∷ [])
 
+-- R-4: "a block on list U, u or g", by the letter printed
+unfoldable pub awaitsSweep : Words → ℕ → Bool
+awaitsSweep w b = member (letter (setNamed w b)) (85 ∷ 117 ∷ 103 ∷ [])
+
+-- R-4: "for a block on list U, u or g, the free section prints the chain that a sweep of it now would build. Other blocks
+-- print as before": along the chain that stands in the heap
+unfoldable pub printedChain : Tables → List ℕ → ℕ → List ℕ
+printedChain t h b =
+    if awaitsSweep (t .words) b then sweepChain censusParams (t .marks) b (getD (t .words .size) b 0)
+    else freeChain censusParams h b (t .words)
+
 -- "free cells by block along its chain (block, address)"
 unfoldable pub freeRows : Tables → List ℕ → ℕ → List (List ℕ)
-freeRows t h b = map (λ a. spaced (decimal b ∷ decimal a ∷ [])) (freeChain censusParams h b (t .words))
+freeRows t h b = map (λ a. spaced (decimal b ∷ decimal a ∷ [])) (printedChain t h b)
+
+-- R-4: "In Marking no block has a settled answer, so the free section is `free 0` then."
+unfoldable pub freeSection : Tables → List ℕ → List (List ℕ)
+freeSection t h = if eqb (t .words .phase) Marking then [] else flatMap (freeRows t h) (occupied t)
 
 unfoldable pub listing : Ran → List ℕ
 listing r =
     let t : Tables = tablesIn (r .lent) in
     section (114 ∷ 101 ∷ 102 ∷ 117 ∷ 115 ∷ 101 ∷ 100 ∷ []) (map refusedRow (r .refusals))
     ++ (section (98 ∷ 108 ∷ 111 ∷ 99 ∷ 107 ∷ 115 ∷ []) (map (blockRow t) (occupied t))
-    ++ section (102 ∷ 114 ∷ 101 ∷ 101 ∷ []) (flatMap (freeRows t (r .lent .heap)) (occupied t)))
+    ++ section (102 ∷ 114 ∷ 101 ∷ 101 ∷ []) (freeSection t (r .lent .heap)))
 
 -- the whole program
 unfoldable pub census : List ℕ → List ℕ
 census bytes = listing (runLines 1 (linesOf bytes) (setUp censusParams censusLent .lent))
+
+-- ---- what is printed comes
+
+-- the chain printed for a block on U, u or g is the one that its sweep builds, if the next alloc sweeps it: any alloc, on any
+-- tables and heap. Proved in crates/soundness (`printed-is-built`)
+abbrev pub PrintedIsBuilt : Type 0
+PrintedIsBuilt =
+    (t : Tables) (heap : List ℕ) (holder size align offset : ℕ) (offer : Offer) (b : ℕ) (chain : List ℕ)
+    → awaitsSweep (t .words) b ≡ true
+    → In (swept b chain) (step censusParams t heap (alloc holder size align offset offer) .events)
+    → chain ≡ printedChain t heap b

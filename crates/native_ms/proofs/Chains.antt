@@ -2,19 +2,21 @@
 -- Leans on the laws of cells; assumes nothing.
 use Prim.Native.Nat.{ℕ, suc, _+_, _*_, _^_, _≤_, _<_}
 use mathlib.Core.Path.{_≡_, refl, sym, ap, _∙_}
-use mathlib.Core.Bool.{Bool, true, false}
+use mathlib.Core.Bool.{Bool, true, false, not, _&&_}
 use mathlib.Core.Logic.{_⊎_, inl, inr}
 use mathlib.Core.List.{List, _∷_, headD}
 use native.Mathlib.Nat.{div-zero, mul-le-mul-right, suc-mul, div-mul-le-self}
 use native.Mathlib.Omega.{arith}
+use lib.Dec.{ltb}
 use lib.ListN.{length, getD, set}
-use borrow.Author.Tests.{ne-eqb, eq-eqb}
+use borrow.Author.Tests.{ne-eqb, eq-eqb, ltb-true}
 use Rattle.model.specs.declared.Params.{Params}
 use Rattle.model.specs.Params.{goodParams, start}
 use Rattle.model.specs.Memory.{load, store, zeroed}
 use Rattle.model.specs.Tables.{Words, setNext, setPrev, setFree, setSize, setList, setTls}
 use Rattle.model.specs.Sound.{linkOk}
-use Rattle.model.specs.Block.{simple, cellCount, cellsDown, linkAll, keeps, initChain, initBlock, sweepChain, sweptWords, clearBlock}
+use Rattle.model.specs.Block.{simple, cellCount, cellsDown, linkAll, keeps, initChain, initBlock, sweepChain, sweptWords, clearBlock, freesCell}
+use Rattle.laws.proofs.Below.{and-left, and-right}
 use Rattle.laws.proofs.Params.{Bounds, good-bounds, start-out, start-end}
 use Rattle.laws.proofs.Memory.{length-store}
 use Rattle.laws.proofs.Cells.{cellsDown-kept, cellsDown-freed, tri}
@@ -62,6 +64,20 @@ next-fits p from s n k r l e =
     let g : Bounds p = good-bounds p (r .good) in
     let step : k * s + s ≤ n * s = omega (arith, mul-le-mul-right {m = suc k} {n = n} s l, suc-mul k s) in
     (omega (arith, r .low, r .fits, g .bytes-high), omega (arith, r .fits, g .bytes-high))
+
+-- the k-th whole cell, if there is one, ends in it too
+pub cell-fits : (p : Params) (b s k : ℕ) → (goodParams p && ltb k (cellCount p s)) ≡ true
+    → (start p b + k * s + s ≤ 2 ^ 47 + 65536) × (s ≤ 65536)
+cell-fits p b s k e =
+    next-fits p (start p b) s (cellCount p s) k
+    (block-room p b s (and-left (goodParams p) (ltb k (cellCount p s)) e) refl refl)
+    (ltb-true k (cellCount p s) (and-right (goodParams p) (ltb k (cellCount p s)) e)) refl
+
+-- whether a sweep frees it, by what it keeps
+pub frees-kept : (p : Params) (ms : List ℕ) (b s k : ℕ) {f kept : Bool} {a : ℕ} → (goodParams p && ltb k (cellCount p s)) ≡ true
+    → f ≡ simple p → a ≡ start p b + k * s → kept ≡ keptBy f p ms s a → not kept ≡ freesCell p ms b s k
+unfolding freesCell keptBy keeps
+frees-kept p ms b s k here ef ea ek = rw (here, ek, ef, ea)
 
 -- ---- linked so far: k of the n cells were looked at, the next is at `cell`, and h is what the heap h₀ became
 

@@ -86,7 +86,7 @@ fn any_marked(p: Params, m: &[u8], cell: Address, s: usize) -> bool
 }
 
 // Whether a sweep keeps the cell.
-fn cell_is_marked(p: Params, simple: bool, m: &[u8], cell: Address, s: usize) -> bool
+pub(crate) fn cell_is_marked(p: Params, simple: bool, m: &[u8], cell: Address, s: usize) -> bool
     requires { ⌜ (goodParams p ≡ true) × (cell .0 ≤ 2 ^ 50) × (s ≤ 65536) ⌝ }
     ensures { λ r. ⌜ r ≡ keptBy simple p (now (m .entry)) s (cell .0) ⌝ }
 {

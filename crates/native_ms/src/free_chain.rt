@@ -1,5 +1,6 @@
-// The free chain of a block, walked a cell at a time: what a listing prints of it. Any parameters, words and heap will do; on
-// parameters that are off a walk stands at no cell.
+// The free chain of a block, walked a cell at a time, and the chain that a sweep would build, asked cell by cell: what a listing
+// prints of it. Any parameters, words, marks and heap will do; on parameters that are off a walk stands at no cell.
+use crate::address;
 use crate::block;
 use crate::memory;
 use crate::params;
@@ -9,9 +10,12 @@ use model::ChainWalk;
 use model::Params;
 use words::tables;
 ghost use mathlib.Core.Path.{_≡_};
-ghost use Prim.Native.Nat.{_-_};
+ghost use mathlib.Core.Bool.{true, _&&_};
+ghost use Prim.Native.Nat.{_+_, _-_, _*_};
+ghost use lib.Dec.{ltb};
+ghost use Rattle.model.specs.Params.{goodParams, start};
 ghost use Rattle.model.specs.Tables.{view};
-ghost use Rattle.model.specs.Block.{firstCell, moreCells, nextCell};
+ghost use Rattle.model.specs.Block.{firstCell, moreCells, nextCell, cellCount, cellAt, freesCell};
 
 // The walk at the block's free head.
 pub fn first(p: Params, words: &[usize], b: Block) -> ChainWalk
@@ -66,4 +70,48 @@ pub fn next(p: Params, heap: &[u8], w: ChainWalk) -> ChainWalk
         size: w.size,
         left,
     }
+}
+
+// Whether a block with cells of `size` bytes has a k-th one, from 0.
+fn has_cell(p: Params, size: usize, k: usize) -> bool
+    ensures { λ r. ⌜ r ≡ (goodParams p && ltb k (cellCount p size)) ⌝ }
+{
+    if !params::good_params(p) {
+        return false;
+    }
+    let n = block::cell_count(p, size);
+    k < n
+}
+
+fn cell(p: Params, b: Block, size: usize, k: usize) -> Address
+    requires { ⌜ (goodParams p && ltb k (cellCount p size)) ≡ true ⌝ }
+    ensures { λ r. ⌜ r .0 ≡ start p (b .0) + k * size ⌝ }
+{
+    let from = address::start(p, b);
+    let up = k * size;
+    let at = from.0 + up;
+    Address(at)
+}
+
+// Where the k-th whole cell stands; 0 if there is none.
+pub fn cell_at(p: Params, b: Block, size: usize, k: usize) -> Address
+    ensures { λ r. ⌜ r .0 ≡ cellAt p (b .0) size k ⌝ }
+{
+    if !has_cell(p, size, k) {
+        return Address(0);
+    }
+    cell(p, b, size, k)
+}
+
+// Whether a sweep by these marks frees it.
+pub fn frees_cell(p: Params, marks: &[u8], b: Block, size: usize, k: usize) -> bool
+    ensures { λ r. ⌜ r ≡ freesCell p (now (marks .entry)) (b .0) size k ⌝ }
+{
+    if !has_cell(p, size, k) {
+        return false;
+    }
+    let a = cell(p, b, size, k);
+    let simple = block::is_simple(p);
+    let kept = block::cell_is_marked(p, simple, marks, a, size);
+    !kept
 }

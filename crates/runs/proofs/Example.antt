@@ -18,15 +18,16 @@ use Rattle.model.specs.Memory.{loadBytes, bytesOf, overwrite, load, store, zero
 use Rattle.model.specs.Tables.{Words, tablesOf, view, flat, setFirst, setLast, setBound, setReleased, setNext, setPrev, setFree, setSize, setList, setTls, setPhase, withReleased}
 use Rattle.model.specs.SizeClasses.{fours, classWords, cellBytes, wordsIn, highestBit, binInOctave, binOf, raised, shift, alignAllocation}
 use Rattle.model.specs.BlockList.{push, popHead, pop, removeBetween, remove, relabel, link, append, walk, blocksOn}
-use Rattle.model.specs.Block.{cellCount, isCell, cellsDown, linkAll, initChain, initBlock, simple, keeps, sweepChain, sweptWords, clearBlock}
+use Rattle.model.specs.Block.{cellCount, isCell, cellsDown, linkAll, initChain, initBlock, simple, keeps, sweepChain, sweptWords, clearBlock, chainFrom, freeChain}
 use Rattle.model.specs.Events.{Event, swept, released, taken, eventHeap, eventsHeap, isSweep, isRelease, sweeps, releases}
 use Rattle.model.specs.FreeListAllocator.{findFreeBlockWith, recycleLocalBlocks, acquireAbandoned, acquireFresh, findBlock}
 use Rattle.model.specs.Global.{freshWords, freshTables, isHolder, isBound, bindHolder, abandonBin, abandonBlocks, destroyHolder, unmarkedState, prepared, markPlace, releaseFrom, releaseBlocks, appendTo, releaseBin, releaseHolder, sweepLaterBin, sweepLater, hasReleased, allReleased, partReleased}
 use Rattle.model.specs.Sound.{stateOf, stateKnown, blockClear, listNamed, binNamed, setNamed, onListNamed, sizeOk, linkOk, tlsOk, blockSound, linkedFrom, linked, ownerEmpty, unboundEmpty, inGcEmpty, phaseKnown, flagsKnown, releasedFew, releasedSome, releasedEmpty, sound}
-use Rattle.model.specs.Calls.{answered, Call, bind, alloc, prepare, mark, release, sharedRelease, refusalNumber, goodRequest, tooBig, goodOffer, goodObject, takePlan, planAlloc, mayRelease, releasePlan, planSound, plan, takeCell, finish, step, lentOf, call, setUp}
-use Rattle.model.specs.Census.{censusParams}
+use Rattle.model.specs.Calls.{answered, Call, bind, alloc, prepare, mark, release, sharedRelease, refusalNumber, goodRequest, tooBig, goodOffer, goodObject, takePlan, planAlloc, mayRelease, releasePlan, planSound, plan, takeCell, finish, step, tablesIn, lentOf, call, setUp}
+use Rattle.model.specs.Census.{censusParams, letter, awaitsSweep, printedChain}
 use Rattle.model.specs.Runs.{Cell, frees, entered, bookEvent, bookEvents, bookAnswer, takerOf, bookAfter, Write, written, Turn, State, foundBy, stepOf, resultOf, bookOf, turned, begun, covers, Holds, HoldersWrite, staysHeld, byteAt, RunKeeps, Demand3}
 use Rattle.model.specs.Port.{PortRun, turnsOf, portBegun, PortKeeps, ran, Demand3OfThePort}
+use Rattle.soundness.proofs.Printed.{printed-is-built}
 use Rattle.runs.proofs.Demand3.{demand3}
 use Rattle.runs.proofs.Port.{ran-chain, ran-turns, demand3-of-the-port}
 
@@ -150,7 +151,7 @@ after₈ = stands (standing 24 0 none 25600) (states 254) oneMark heap₈ (secon
 -- ---- each turn, computed. Who opens `machine` opens all that its line names
 
 machine : Params
-unfolding begun turned foundBy stepOf resultOf bookOf written takerOf bookAfter bookAnswer bookEvents bookEvent entered frees leadingZeros allBelow anyBelow member filter eachBelow flag powerOfTwo lowerOk biased plusLower minusLower heapBytes heapEnd goodParams wordCount fits start blockAt inHeap isStart listOf listWord localSets available unswept consumed loadBytes bytesOf overwrite load store zeroed bitOf setBit markIndex marked setMark cleared view flat setFirst setLast setBound setReleased setNext setPrev setFree setSize setList setTls setPhase withReleased fours classWords cellBytes wordsIn highestBit binInOctave binOf raised shift alignAllocation push pop popHead removeBetween remove relabel link append walk blocksOn cellCount isCell cellsDown headD linkAll initChain initBlock simple keeps sweepChain sweptWords clearBlock eventHeap eventsHeap isSweep isRelease sweeps releases findFreeBlockWith recycleLocalBlocks acquireAbandoned acquireFresh findBlock freshWords freshTables isHolder isBound bindHolder abandonBin abandonBlocks destroyHolder unmarkedState prepared markPlace releaseFrom releaseBlocks appendTo releaseBin releaseHolder sweepLaterBin sweepLater hasReleased allReleased partReleased stateOf stateKnown blockClear listNamed binNamed setNamed onListNamed sizeOk linkOk tlsOk blockSound linkedFrom linked ownerEmpty unboundEmpty inGcEmpty phaseKnown flagsKnown releasedFew releasedSome releasedEmpty sound refusalNumber goodRequest tooBig goodOffer goodObject takePlan planAlloc mayRelease releasePlan planSound plan takeCell finish step call setUp censusParams after₀ after₁ after₂ after₃ after₄ after₅ after₆ after₇ after₈ standing states none one noMarks oneMark heap₀ heap₂ heap₃ heap₄ heap₈ lent
+unfolding begun turned foundBy stepOf resultOf bookOf written takerOf bookAfter bookAnswer bookEvents bookEvent entered frees leadingZeros allBelow anyBelow member filter eachBelow flag powerOfTwo lowerOk biased plusLower minusLower heapBytes heapEnd goodParams wordCount fits start blockAt inHeap isStart listOf listWord localSets available unswept consumed loadBytes bytesOf overwrite load store zeroed bitOf setBit markIndex marked setMark cleared view flat setFirst setLast setBound setReleased setNext setPrev setFree setSize setList setTls setPhase withReleased fours classWords cellBytes wordsIn highestBit binInOctave binOf raised shift alignAllocation push pop popHead removeBetween remove relabel link append walk blocksOn cellCount isCell cellsDown headD linkAll initChain initBlock simple keeps sweepChain sweptWords clearBlock eventHeap eventsHeap isSweep isRelease sweeps releases findFreeBlockWith recycleLocalBlocks acquireAbandoned acquireFresh findBlock freshWords freshTables isHolder isBound bindHolder abandonBin abandonBlocks destroyHolder unmarkedState prepared markPlace releaseFrom releaseBlocks appendTo releaseBin releaseHolder sweepLaterBin sweepLater hasReleased allReleased partReleased stateOf stateKnown blockClear listNamed binNamed setNamed onListNamed sizeOk linkOk tlsOk blockSound linkedFrom linked ownerEmpty unboundEmpty inGcEmpty phaseKnown flagsKnown releasedFew releasedSome releasedEmpty sound refusalNumber goodRequest tooBig goodOffer goodObject takePlan planAlloc mayRelease releasePlan planSound plan takeCell finish step call setUp censusParams after₀ after₁ after₂ after₃ after₄ after₅ after₆ after₇ after₈ standing states none one noMarks oneMark heap₀ heap₂ heap₃ heap₄ heap₈ lent chainFrom freeChain letter awaitsSweep printedChain
 machine = censusParams
 
 set-up : begun p lent ≡ after₀
@@ -295,3 +296,16 @@ lost = rw last-events
 pub bytes-after : (byteAt p heap₈ 27656 ≡ 7) × (byteAt p heap₈ 26632 ≡ 0)
 unfolding machine
 bytes-after = (refl, refl)
+
+-- ---- R-4: a listing at the end of the collection prints the chain that the last alloc's sweep then builds. This run meets the
+-- premises of `printed-is-built`
+
+pub waits : awaitsSweep (tablesIn (after₇ .lent) .words) 2 ≡ true
+unfolding machine
+waits = refl
+
+pub as-printed : 26624 ∷ 25600 ∷ 24576 ∷ [] ≡ printedChain (tablesIn (after₇ .lent)) (foundBy p (after₇ .lent) (quiet (ask Nothing)) .heap) 2
+unfolding stepOf In
+as-printed =
+    printed-is-built (tablesIn (after₇ .lent)) (foundBy p (after₇ .lent) (quiet (ask Nothing)) .heap) 1 1024 8 0 Nothing 2 _ waits
+    (subst (In (swept 2 (26624 ∷ 25600 ∷ 24576 ∷ []))) (sym last-events) (inl refl))

@@ -14,4 +14,5 @@ pub mod Never
 pub mod Released
 pub mod Searches
 pub mod Refused
+pub mod Printed
 pub mod Example

@@ -1,15 +1,15 @@
 -- The whole listing, from what stands after the lines of a trace.
 use mathlib.Core.Path.{_≡_, refl, ap}
-use mathlib.Core.List.{List, [], _∷_, _++_, map, flatMap}
+use mathlib.Core.List.{List, [], _∷_, _++_, map}
 use Prim.Native.Nat.{ℕ, _≤_}
 use native.Mathlib.Omega.{arith}
 use lib.ListN.{length, take, replicate, length-take}
 use Rattle.model.specs.declared.Params.{Params}
 use Rattle.model.specs.Params.{Lent, wordCount}
 use Rattle.model.specs.Calls.{Reply}
-use Rattle.model.specs.Tables.{Words, tablesOf, view}
+use Rattle.model.specs.Tables.{tablesOf, view}
 use Rattle.model.specs.Sound.{stateOf}
-use Rattle.model.specs.Census.{section, occupied, blockRow, freeRows, linesOf, censusParams, censusLent, runLines, Ran, listing, census}
+use Rattle.model.specs.Census.{section, occupied, blockRow, freeSection, linesOf, censusParams, censusLent, runLines, Ran, listing, census}
 use Rattle.listing.specs.Print.{refusedRows}
 use Rattle.model.specs.Text.{placeAfter, Printed}
 use Rattle.laws.proofs.Text.{printed-append, length-printed}
@@ -22,27 +22,22 @@ use Rattle.model.specs.Text.{Listed}
 use Rattle.trace.specs.Census.{listedFrom, listingText}
 
 -- printed one behind the other
-pub three-printed : {h h′ h″ h‴ : List ℕ} {r b f : ℕ} (lines numbers words states heap : List ℕ)
+pub three-printed : {h h′ h″ h‴ : List ℕ} {r b f : ℕ} (lines numbers words states marks heap : List ℕ)
     → Printed h h′ 0 r (section (114 ∷ 101 ∷ 102 ∷ 117 ∷ 115 ∷ 101 ∷ 100 ∷ []) (refusedRows lines numbers))
-    → Printed h′ h″ r b (blocksText words states) → Printed h″ h‴ b f (freeText words states heap)
-    → Printed h h‴ 0 f (listingText lines numbers words states heap)
+    → Printed h′ h″ r b (blocksText words states) → Printed h″ h‴ b f (freeText words states marks heap)
+    → Printed h h‴ 0 f (listingText lines numbers words states marks heap)
 unfolding listingText
-three-printed lines numbers words states heap p q r = printed-append p (printed-append q r)
+three-printed lines numbers words states marks heap p q r = printed-append p (printed-append q r)
 
--- no row looks at a mark
-free-rows-same : (w : Words) (s m m′ h bs : List ℕ) → flatMap (freeRows (tablesOf w s m) h) bs ≡ flatMap (freeRows (tablesOf w s m′) h) bs
-unfolding flatMap freeRows
-free-rows-same w s m m′ h [] = refl
-free-rows-same w s m m′ h (b ∷ bs) = rw (free-rows-same w s m m′ h bs)
-
+-- no block's row looks at a mark
 sections-same : (w s m h : List ℕ) (rows : List (List ℕ)) (name : List ℕ)
-    → section name rows ++ (blocksText w s ++ freeText w s h) ≡ section name rows ++ (section (98 ∷ 108 ∷ 111 ∷ 99 ∷ 107 ∷ 115 ∷ []) (map (blockRow (tablesOf (view w) s m)) (occupied (tablesOf (view w) s m))) ++ section (102 ∷ 114 ∷ 101 ∷ 101 ∷ []) (flatMap (freeRows (tablesOf (view w) s m) h) (occupied (tablesOf (view w) s m))))
+    → section name rows ++ (blocksText w s ++ freeText w s m h) ≡ section name rows ++ (section (98 ∷ 108 ∷ 111 ∷ 99 ∷ 107 ∷ 115 ∷ []) (map (blockRow (tablesOf (view w) s m)) (occupied (tablesOf (view w) s m))) ++ section (102 ∷ 114 ∷ 101 ∷ 101 ∷ []) (freeSection (tablesOf (view w) s m) h))
 unfolding blocksText freeText tablesRead blockRow occupied stateOf
-sections-same w s m h rows name = rw (free-rows-same (view w) s [] m h _)
+sections-same w s m h rows name = refl
 
 -- what the run leaves is what is listed
 pub same-listing : (ran : Ran) (n : ℕ) (w s m h : List ℕ) (lines numbers : List ℕ) → TraceRan ran n (lend w s m h) lines numbers
-    → listingText (take n lines) (take n numbers) w s h ≡ listing ran
+    → listingText (take n lines) (take n numbers) w s m h ≡ listing ran
 unfolding listingText listing refusedRows
 same-listing ran n w s m h lines numbers t =
     rw (← t .lent, ← t .refusals) (sections-same w s m h _ _)
@@ -54,7 +49,7 @@ kept-count n l f = omega (arith, length-take n l, f)
 -- set-up, the run and the listing, one after the other
 pub listed : {h h′ : List ℕ} {r n : ℕ} {p : Params} {reply : Reply} (l l₁ : Lent) (trace w s m heap lines numbers : List ℕ)
     → p ≡ censusParams → SetUpPromised p l reply l₁ → TraceRan (runLines 1 (linesOf trace) l₁) n (lend w s m heap) lines numbers
-    → Printed h h′ 0 r (listingText (take n lines) (take n numbers) w s heap) → Printed h h′ 0 r (listedFrom l trace)
+    → Printed h h′ 0 r (listingText (take n lines) (take n numbers) w s m heap) → Printed h h′ 0 r (listedFrom l trace)
 unfolding listedFrom
 listed {n = n} l l₁ trace w s m heap lines numbers e u t q =
     rw (← e, ← u .lent) (rw (same-listing _ n w s m heap lines numbers t) at q)

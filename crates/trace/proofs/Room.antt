@@ -1,5 +1,5 @@
 -- How long a listing can be: a buffer of 20,000 bytes holds each. Calls keep tables sound, so in the end an occupied block has
--- at most 512 cells, and a free cell's row at most 8 bytes; a refused line's row has at most 7. Every other number is taken to
+-- at most 512 cells, along its chain or by its marks, and a free cell's row at most 8 bytes; a refused line's row has at most 7. Every other number is taken to
 -- have twenty digits. Assumes nothing.
 use mathlib.Core.Path.{_≡_, refl, sym, ap, _∙_}
 use mathlib.Core.Logic.{_≢_, inl, inr, ⊎-elim}
@@ -7,7 +7,7 @@ use mathlib.Core.Bool.{Bool, true, false, not, _&&_}
 use mathlib.Core.List.{List, [], _∷_, _++_, map, flatten, flatMap}
 use mathlib.Core.Option.{Option, some, none}
 use Prim.Native.Nat.{ℕ, zero, suc, _+_, _-_, _*_, _/_, _%_, _^_, _≤_, _<_}
-use native.Mathlib.Nat.{pow-suc, div-le-of-le-mul}
+use native.Mathlib.Nat.{pow-suc, suc-mul, div-mul-le-self, div-le-of-le-mul}
 use native.Mathlib.Omega.{arith}
 use lib.Dec.{eqb, ltb, leb}
 use lib.ListN.{length, getD, take, length-append, length-take}
@@ -16,14 +16,14 @@ use Rattle.model.specs.declared.Refusal.{Refusal}
 use Rattle.model.specs.declared.Refusal.the-variants.{BadSetup, BadTables, WrongPhase, BadHolder, BadRequest, TooBig, BadOffer, BadLink, Exhausted, BadObject, BadLine}
 use Rattle.model.specs.Base.{filter, In}
 use Rattle.model.specs.Params.{Lent, heapBytes, fits, start}
-use Rattle.model.specs.Memory.{load}
+use Rattle.model.specs.Memory.{load, marked}
 use Rattle.model.specs.Tables.{Tables, tablesOf, view, flat}
 use Rattle.model.specs.SizeClasses.{cellBytes}
-use Rattle.model.specs.Block.{cellCount, isCell, chainFrom, freeChain}
-use Rattle.model.specs.Global.{freshWords, freshTables}
+use Rattle.model.specs.Block.{cellCount, isCell, cellsDown, keeps, sweepChain, chainFrom, freeChain}
+use Rattle.model.specs.Global.{Marking, freshWords, freshTables}
 use Rattle.model.specs.Sound.{stateOf, binNamed, sizeOk, sound}
 use Rattle.model.specs.Calls.{refusalNumber, Call, says, step, Result, tablesIn, call, setUp}
-use Rattle.model.specs.Census.{digits, decimal, spaced, section, RefusedLine, refusedRow, upTo, occupied, blockRow, freeRows, censusParams, linesOf, Ran, runLines, lineResult, lineOf, pieces, newline, space, dropBlankEnd, censusLent, listing, census}
+use Rattle.model.specs.Census.{digits, decimal, spaced, section, RefusedLine, refusedRow, upTo, occupied, blockRow, awaitsSweep, printedChain, freeRows, freeSection, censusParams, linesOf, Ran, runLines, lineResult, lineOf, pieces, newline, space, dropBlankEnd, censusLent, listing, census}
 use Rattle.laws.proofs.Base.{if-cases, and-right, in-append, in-filter}
 use Rattle.laws.proofs.Below.{true-not-false}
 use Rattle.laws.proofs.Params.{Bounds, good-bounds, start-in}
@@ -271,12 +271,29 @@ chain-rows (suc k) h b s a low =
     (λ e. omega (arith, length-append (cellRow b a) (flatten (map (cellRow b) next)), cell-few b s a low e, chain-rows k h b s (load censusParams h a) low))
     (λ e. omega arith)
 
+-- the rows of the lowest k cells that a sweep frees
+swept-rows : (k : ℕ) (kept : ℕ → Bool) (b s : ℕ) → b < 4 → k * s ≤ 4096
+    → length (flatten (map (cellRow b) (cellsDown kept (start censusParams b) s k))) ≤ 8 * k
+unfolding cellsDown flatten censusParams
+swept-rows zero kept b s low fits = omega arith
+swept-rows (suc k) kept b s low fits =
+    let next : List ℕ = cellsDown kept (start censusParams b) s k in
+    let a : ℕ = start censusParams b + k * s in
+    let room : k * s ≤ 4096 = omega (arith, suc-mul k s, fits) in
+    let at : start censusParams b ≡ 16384 + b * 4096 = start-in censusParams b low in
+    let more : length (flatten (map (cellRow b) next)) ≤ 8 * k = swept-rows k kept b s low room in
+    if-cases (λ (l : List ℕ). length (flatten (map (cellRow b) l)) ≤ 8 * suc k) (kept a) (λ e. omega arith)
+    (λ e. omega (arith, length-append (cellRow b a) (flatten (map (cellRow b) next)), pair-short 0 4 b a (omega arith) (omega arith)))
+
 -- those of one block
 rows-few : (t : Tables) (h : List ℕ) (b : ℕ) → b < 4 → 8 ≤ getD (t .words .size) b 0 → length (flatten (freeRows t h b)) ≤ 4096
-unfolding freeRows freeChain cellCount censusParams
+unfolding freeRows printedChain sweepChain freeChain cellCount censusParams
 rows-few t h b low size =
     let s : ℕ = getD (t .words .size) b 0 in
-    omega (arith, chain-rows (4096 / s) h b s (getD (t .words .free) b 0) low, div-le-of-le-mul s {m = 4096} {n = 512} (omega arith))
+    let cells : 4096 / s ≤ 512 = div-le-of-le-mul s {m = 4096} {n = 512} (omega arith) in
+    if-cases (λ (l : List ℕ). length (flatten (map (cellRow b) l)) ≤ 4096) (awaitsSweep (t .words) b)
+    (λ e. omega (arith, swept-rows (4096 / s) (keeps censusParams (marked censusParams (t .marks)) s) b s low (div-mul-le-self 4096 s)))
+    (λ e. omega (arith, chain-rows (4096 / s) h b s (getD (t .words .free) b 0) low))
 
 -- those of the blocks bs
 free-few : (t : Tables) (h : List ℕ) (bs : List ℕ) → ((b : ℕ) → In b bs → length (flatten (freeRows t h b)) ≤ 4096)
@@ -292,6 +309,13 @@ free-few t h (b ∷ bs) f =
       free-few t h bs (λ c i. f c (inr i)),
     )
 
+-- in Marking none
+section-rows : (t : Tables) (h : List ℕ) → Kept censusParams B t → length (flatten (freeSection t h)) ≤ 16384
+unfolding freeSection flatten
+section-rows t h K =
+    if-cases (λ (rows : List (List ℕ)). length (flatten rows) ≤ 16384) (eqb (t .words .phase) Marking) (λ e. omega arith)
+    (λ e. omega (arith, free-few t h (occupied t) (λ b i. rows-few t h b (occupied-low t b i) (occupied-size t b K i)), occupied-few t))
+
 -- ---- a listing
 
 -- with as many bytes of refused rows as 256 lines can have, and sound tables
@@ -302,17 +326,17 @@ listing-few r f K =
     let h : List ℕ = r .lent .heap in
     let refused : List ℕ = section (114 ∷ 101 ∷ 102 ∷ 117 ∷ 115 ∷ 101 ∷ 100 ∷ []) (map refusedRow (r .refusals)) in
     let blocks : List ℕ = section (98 ∷ 108 ∷ 111 ∷ 99 ∷ 107 ∷ 115 ∷ []) (map (blockRow t) (occupied t)) in
-    let free : List ℕ = section (102 ∷ 114 ∷ 101 ∷ 101 ∷ []) (flatMap (freeRows t h) (occupied t)) in
+    let free : List ℕ = section (102 ∷ 114 ∷ 101 ∷ 101 ∷ []) (freeSection t h) in
     omega (
       arith,
       length-append refused (blocks ++ free),
       length-append blocks free,
       section-few (114 ∷ 101 ∷ 102 ∷ 117 ∷ 115 ∷ 101 ∷ 100 ∷ []) (map refusedRow (r .refusals)),
       section-few (98 ∷ 108 ∷ 111 ∷ 99 ∷ 107 ∷ 115 ∷ []) (map (blockRow t) (occupied t)),
-      section-few (102 ∷ 114 ∷ 101 ∷ 101 ∷ []) (flatMap (freeRows t h) (occupied t)),
+      section-few (102 ∷ 114 ∷ 101 ∷ 101 ∷ []) (freeSection t h),
       f,
       flatten-few 86 (blockRow t) (block-few t) (occupied t),
-      free-few t h (occupied t) (λ b i. rows-few t h b (occupied-low t b i) (occupied-size t b K i)),
+      section-rows t h K,
       occupied-few t,
     )
 

@@ -1,9 +1,9 @@
--- The two sections on tables and heap, as the model's listing has them: no mark is looked at. Their laws are of two kinds:
--- the walk along a free chain, and a loop over the numbers that pass a test. Assumes nothing.
+-- The two sections on tables and heap, as the model's listing has them. Their laws are of three kinds: the walk along a free
+-- chain, the walk down the cells that a sweep would free, and a loop over the numbers that pass a test. Assumes nothing.
 use mathlib.Core.Path.{_≡_, refl, sym, ap, _∙_}
 use mathlib.Core.Bool.{Bool, true, false, not, _&&_}
-use mathlib.Core.Logic.{⊎-elim}
-use mathlib.Core.List.{List, [], _∷_, _++_, map, append-assoc, flatten, flatMap}
+use mathlib.Core.Logic.{_≢_, ⊎-elim}
+use mathlib.Core.List.{List, [], _∷_, _++_, map, append-assoc, append-nil, flatten, flatMap}
 use Prim.Native.Nat.{ℕ, zero, suc, _+_, _-_, _*_, _/_, _≤_, _<_}
 use native.Mathlib.Nat.{not-suc-le-zero, suc-mul, mul-le-mul-right, div-le-self}
 use native.Mathlib.Numerals.{add-one}
@@ -11,30 +11,28 @@ use native.Mathlib.Omega.{arith}
 use lib.Dec.{ltb}
 use lib.ListN.{length, getD, drop, length-append, length-map, drop-of-length-le, List·getD-append}
 use lib.Seq.{drop-cons, getD-at}
-use borrow.Author.Tests.{lt-ltb, ltb-true}
+use borrow.Author.Tests.{lt-ltb, ltb-true, eq-eqb, ne-eqb, not-true, not-false}
 use Rattle.model.specs.declared.Params.{Params}
 use Rattle.model.specs.declared.Block.{Block}
 use Rattle.model.specs.declared.ChainWalk.{ChainWalk}
-use Rattle.model.specs.Base.{filter, anyBelow}
-use Rattle.model.specs.Params.{powerOfTwo, lowerOk, heapBytes, heapEnd, goodParams}
+use Rattle.model.specs.Base.{filter, anyBelow, member}
+use Rattle.model.specs.Params.{powerOfTwo, lowerOk, heapBytes, heapEnd, goodParams, start}
 use Rattle.model.specs.Tables.{Words, view}
-use Rattle.model.specs.Memory.{load}
+use Rattle.model.specs.Memory.{load, marked}
 use Rattle.model.specs.Block.{Unallocated, cellCount, isCell, chainFrom, freeChain, firstCell, moreCells, nextCell}
+use Rattle.model.specs.Block.{cellsDown, keeps, sweepChain, cellAt, freesCell}
 use Rattle.model.specs.Sound.{stateOf, setNamed}
 use Rattle.model.specs.Census.{censusParams, decimal, spaced, section, upTo, occupied, letter}
-use Rattle.model.specs.Census.{blockRow, freeRows}
+use Rattle.model.specs.Census.{blockRow, awaitsSweep, printedChain, freeRows, freeSection}
 use Rattle.model.specs.Text.{Printed}
 use Rattle.laws.proofs.Text.{Remains, remains-start, remains-end}
 use Rattle.laws.proofs.Below.{and-left, and-right}
 use Rattle.laws.proofs.Base.{below-last, if-cases}
+use Rattle.laws.proofs.Cells.{length-cellsDown, cellsDown-kept, cellsDown-freed}
 use Rattle.listing.proofs.PrintLaws.{rows-round}
-use Rattle.trace.specs.Sections.{blocksText, freeText, isOccupied, occupiedIn, tablesRead}
+use Rattle.trace.specs.Sections.{blocksText, cellRows, chainSwept, freeText, isOccupied, occupiedIn, tablesRead}
 
 -- ---- the free cells of one block
-
--- the rows of cells of the block b
-unfoldable pub cellRows : ℕ → List ℕ → List (List ℕ)
-cellRows b cells = map (λ a. spaced (decimal b ∷ decimal a ∷ [])) cells
 
 -- the census's parameters are good
 pub fine : goodParams censusParams ≡ true
@@ -154,9 +152,171 @@ module _ (words heap : List ℕ) (b : ℕ) (w : ChainWalk) {h h′ : List ℕ} {
   cells-round y e p =
       rw e (rows-round _ (cellRows b (cellsOf heap (nextCell censusParams heap w))) (rw (cells-more heap w y) at r) p)
 
-  pub cells-printed : moreCells censusParams w ≡ false → Printed h h′ at at′ (flatten (freeRows (tablesRead words []) heap b))
-  unfolding cellRows flatten freeRows tablesRead
+  pub cells-printed : moreCells censusParams w ≡ false → Printed h h′ at at′ (flatten (cellRows b (freeChain censusParams heap b (view words))))
+  unfolding cellRows flatten
   cells-printed z = remains-end (rw (cells-end heap w z) at r)
+
+-- ---- the cells of one block that a sweep would free
+
+-- of the lowest k cells of s bytes
+abbrev pub sweptOf : List ℕ → ℕ → ℕ → ℕ → List ℕ
+sweptOf marks b s k = cellsDown (keeps censusParams (marked censusParams marks) s) (start censusParams b) s k
+
+-- of all of them: where the walk begins
+pub swept-first : {w : ChainWalk} (words marks : List ℕ) (b : Block) → w ≡ firstCell censusParams (view words) b
+    → sweptOf marks (b .0) (w .size) (w .left) ≡ chainSwept words marks (b .0)
+unfolding firstCell sweepChain
+swept-first words marks b e = rw e
+
+-- the walk begins at the top of a block of cells of its size
+pub walk-count : {w : ChainWalk} (words : List ℕ) (b : Block) → w ≡ firstCell censusParams (view words) b → w .left ≡ cellCount censusParams (w .size)
+unfolding firstCell
+walk-count words b e = rw e
+
+pub count-few : {n : ℕ} (s : ℕ) → n ≡ cellCount censusParams s → n ≤ 4096
+unfolding cellCount censusParams
+count-few s e = omega (arith, e, div-le-self 4096 s)
+
+module _ (marks : List ℕ) (b s k : ℕ) (l : k < cellCount censusParams s) where
+  pub cell-here : {p : Params} {a : ℕ} → p ≡ censusParams → a ≡ cellAt p b s k → a ≡ start censusParams b + k * s
+  unfolding cellAt
+  cell-here e f = f ∙ rw (e, fine, lt-ltb k (cellCount censusParams s) l)
+
+  frees-here : {p : Params} {r : Bool} → p ≡ censusParams → r ≡ freesCell p marks b s k
+      → r ≡ not (keeps censusParams (marked censusParams marks) s (start censusParams b + k * s))
+  unfolding freesCell
+  frees-here e f = f ∙ rw (e, fine, lt-ltb k (cellCount censusParams s) l)
+
+  pub swept-yes : {p : Params} {r : Bool} → p ≡ censusParams → r ≡ freesCell p marks b s k → r ≡ true
+      → sweptOf marks b s (k + 1) ≡ (start censusParams b + k * s) ∷ sweptOf marks b s k
+  swept-yes e f y = sym (cellsDown-freed _ (start censusParams b) s k refl (not-true _ (sym (frees-here e f) ∙ y)))
+
+  pub swept-no : {p : Params} {r : Bool} → p ≡ censusParams → r ≡ freesCell p marks b s k → r ≡ false
+      → sweptOf marks b s (k + 1) ≡ sweptOf marks b s k
+  swept-no e f z = sym (cellsDown-kept _ (start censusParams b) s k refl (not-false _ (sym (frees-here e f) ∙ z)))
+
+-- a loop that counts them, from the highest of n₀ cells down: k are left, n were freed
+pub record SweptCounted (marks : List ℕ) (b s n₀ k n : ℕ) : Type 0 where
+  pub all : n + length (sweptOf marks b s k) ≡ length (sweptOf marks b s n₀)
+  pub few : n + k ≤ n₀
+
+pub swept-start : (marks : List ℕ) (b s n₀ : ℕ) → SweptCounted marks b s n₀ n₀ 0
+swept-start marks b s n₀ = record { all = omega arith; few = omega arith }
+
+module _ (marks : List ℕ) (b s n₀ k n : ℕ) (c : SweptCounted marks b s n₀ k n) (e : n₀ ≡ cellCount censusParams s) (l : 0 < k) where
+  under : k - 1 < cellCount censusParams s
+  under = omega (arith, c .few, e, l)
+
+  again : (k - 1) + 1 ≡ k
+  again = omega (arith, l)
+
+  pub swept-room : n < 4096
+  swept-room = omega (arith, c .few, l, count-few s e)
+
+  pub swept-count-yes : {p : Params} {r : Bool} → p ≡ censusParams → r ≡ freesCell p marks b s (k - 1) → r ≡ true → SweptCounted marks b s n₀ (k - 1) (n + 1)
+  swept-count-yes ep f y =
+      record {
+        all = omega (arith, ap (λ (x : ℕ). length (sweptOf marks b s x)) again, ap length (swept-yes marks b s (k - 1) under ep f y), c .all);
+        few = omega (arith, c .few, l);
+      }
+
+  pub swept-count-no : {p : Params} {r : Bool} → p ≡ censusParams → r ≡ freesCell p marks b s (k - 1) → r ≡ false → SweptCounted marks b s n₀ (k - 1) n
+  swept-count-no ep f z =
+      record {
+        all = omega (arith, ap (λ (x : ℕ). length (sweptOf marks b s x)) again, ap length (swept-no marks b s (k - 1) under ep f z), c .all);
+        few = omega (arith, c .few, l);
+      }
+
+swept-none : (marks : List ℕ) (b s : ℕ) {k : ℕ} → k ≡ 0 → sweptOf marks b s k ≡ []
+unfolding cellsDown
+swept-none marks b s q = rw q
+
+pub swept-count-end : {w : ChainWalk} (words marks : List ℕ) (b : Block) (k n : ℕ) → w ≡ firstCell censusParams (view words) b
+    → SweptCounted marks (b .0) (w .size) (w .left) k n → k ≤ 0 → n ≡ length (chainSwept words marks (b .0))
+swept-count-end {w} words marks b k n e c z =
+    let low : k ≡ 0 = omega (arith, z) in
+    omega (arith, ap length (swept-none marks (b .0) (w .size) low), c .all, ap length (swept-first words marks b e))
+
+-- a loop that prints them: the rows of those that are left, printed here, make all printed there
+pub record SweptLeft (marks : List ℕ) (b s n₀ k : ℕ) (h h′ : List ℕ) (at at′ : ℕ) : Type 0 where
+  pub rows : Remains h h′ at at′ (flatten (cellRows b (sweptOf marks b s n₀))) (flatten (cellRows b (sweptOf marks b s k)))
+  pub few : k ≤ n₀
+
+pub left-start : (marks : List ℕ) (b s n₀ : ℕ) (h : List ℕ) (at : ℕ) → SweptLeft marks b s n₀ n₀ h h at at
+left-start marks b s n₀ h at = record { rows = remains-start h at _; few = omega arith }
+
+module _ (marks : List ℕ) (b s n₀ k : ℕ) {h h′ : List ℕ} {at at′ : ℕ} (c : SweptLeft marks b s n₀ k h h′ at at′)
+    (e : n₀ ≡ cellCount censusParams s) (l : 0 < k) where
+  below : k - 1 < cellCount censusParams s
+  below = omega (arith, c .few, e, l)
+
+  -- with the highest of them in sight
+  split : Remains h h′ at at′ (flatten (cellRows b (sweptOf marks b s n₀))) (flatten (cellRows b (sweptOf marks b s ((k - 1) + 1))))
+  split = let q : (k - 1) + 1 ≡ k = omega (arith, l) in rw q (c .rows)
+
+  pub left-yes : {p : Params} {r : Bool} {a : ℕ} {h″ : List ℕ} {at″ : ℕ} → p ≡ censusParams → r ≡ freesCell p marks b s (k - 1) → r ≡ true → a ≡ cellAt p b s (k - 1)
+      → Printed h′ h″ at′ at″ (spaced (decimal b ∷ decimal a ∷ [])) → SweptLeft marks b s n₀ (k - 1) h h″ at at″
+  unfolding cellRows
+  left-yes ep f y ea q =
+      record {
+        rows = rows-round _ (cellRows b (sweptOf marks b s (k - 1))) (rw (swept-yes marks b s (k - 1) below ep f y) at split)
+            (rw (cell-here marks b s (k - 1) below ep ea) at q);
+        few = omega (arith, c .few);
+      }
+
+  pub left-no : {p : Params} {r : Bool} → p ≡ censusParams → r ≡ freesCell p marks b s (k - 1) → r ≡ false → SweptLeft marks b s n₀ (k - 1) h h′ at at′
+  left-no ep f z =
+      record { rows = rw (swept-no marks b s (k - 1) below ep f z) at split; few = omega (arith, c .few) }
+
+pub left-end : {w : ChainWalk} (words marks : List ℕ) (b : Block) (k : ℕ) {h h′ : List ℕ} {at at′ : ℕ} → w ≡ firstCell censusParams (view words) b
+    → SweptLeft marks (b .0) (w .size) (w .left) k h h′ at at′ → k ≤ 0
+    → Printed h h′ at at′ (flatten (cellRows (b .0) (chainSwept words marks (b .0))))
+unfolding cellRows flatten cellsDown
+left-end {w} words marks b k e c z =
+    let low : k ≡ 0 = omega (arith, z) in
+    rw (← swept-first words marks b e) (remains-end (rw low at (c .rows)))
+
+-- ---- which of the two is printed
+
+-- by the letter of the list
+module _ (w : Words) (b : ℕ) {l : ℕ} (e : l ≡ letter (setNamed w b)) where
+  pub awaits-local : l ≡ 85 → true ≡ awaitsSweep w b
+  unfolding awaitsSweep member
+  awaits-local f = rw (← e, f)
+
+  pub awaits-abandoned : l ≡ 117 → true ≡ awaitsSweep w b
+  unfolding awaitsSweep member
+  awaits-abandoned f = rw (← e, f)
+
+  pub awaits-gc : l ≡ 103 → true ≡ awaitsSweep w b
+  unfolding awaitsSweep member
+  awaits-gc f = rw (← e, f)
+
+  pub awaits-none : l ≢ 85 → l ≢ 117 → l ≢ 103 → false ≡ awaitsSweep w b
+  unfolding awaitsSweep member
+  awaits-none f g i = rw (← e, ne-eqb l 85 f, ne-eqb l 117 g, ne-eqb l 103 i)
+
+module _ (words states marks heap : List ℕ) (b : ℕ) where
+  pub printed-swept : awaitsSweep (view words) b ≡ true → printedChain (tablesRead words states marks) heap b ≡ chainSwept words marks b
+  unfolding printedChain tablesRead
+  printed-swept y = rw y
+
+  pub printed-standing : awaitsSweep (view words) b ≡ false → printedChain (tablesRead words states marks) heap b ≡ freeChain censusParams heap b (view words)
+  unfolding printedChain tablesRead
+  printed-standing z = rw z
+
+  pub rows-printed : {chain : List ℕ} → printedChain (tablesRead words states marks) heap b ≡ chain
+      → flatten (cellRows b chain) ≡ flatten (freeRows (tablesRead words states marks) heap b)
+  unfolding freeRows cellRows
+  rows-printed e = rw e
+
+-- no more than a block of cells of one byte has
+pub printed-few : (words marks heap : List ℕ) (b : ℕ) → length (printedChain (tablesRead words [] marks) heap b) ≤ 4096
+unfolding printedChain tablesRead sweepChain
+printed-few words marks heap b =
+    if-cases (λ (l : List ℕ). length l ≤ 4096) (awaitsSweep (view words) b)
+    (λ y. let s : ℕ = getD (view words .size) b 0 in omega (arith, length-cellsDown (keeps censusParams (marked censusParams marks) s) (start censusParams b) s (cellCount censusParams s), count-few s refl))
+    (λ z. chain-few (view words) heap b)
 
 -- ---- a loop over the numbers below n that pass a test: those from i on
 
@@ -262,27 +422,44 @@ module _ (f : ℕ → Bool) (g : ℕ → List ℕ) (n : ℕ) {h h′ : List ℕ}
 
 -- ---- the blocks that are not Unallocated, by their state bytes
 
-occupied-in : (words states : List ℕ) → occupied (tablesRead words states) ≡ occupiedIn states
+occupied-in : (words states marks : List ℕ) → occupied (tablesRead words states marks) ≡ occupiedIn states
 unfolding occupied tablesRead stateOf isOccupied occupiedIn censusParams
-occupied-in words states = refl
+occupied-in words states marks = refl
 
 pub blocks-section : (words states : List ℕ)
-    → section (98 ∷ 108 ∷ 111 ∷ 99 ∷ 107 ∷ 115 ∷ []) (map (blockRow (tablesRead words states)) (occupiedIn states))
+    → section (98 ∷ 108 ∷ 111 ∷ 99 ∷ 107 ∷ 115 ∷ []) (map (blockRow (tablesRead words states [])) (occupiedIn states))
     ≡ blocksText words states
 unfolding blocksText
-blocks-section words states = rw (occupied-in words states)
+blocks-section words states = rw (occupied-in words states [])
 
-pub free-section : (words states heap : List ℕ)
-    → section (102 ∷ 114 ∷ 101 ∷ 101 ∷ []) (flatMap (freeRows (tablesRead words states) heap) (occupiedIn states))
-    ≡ freeText words states heap
-unfolding freeText
-free-section words states heap = rw (occupied-in words states)
+phase-read : (words states marks : List ℕ) → tablesRead words states marks .words .phase ≡ view words .phase
+unfolding tablesRead
+phase-read words states marks = refl
+
+module _ (words states marks heap : List ℕ) {phase : ℕ} (e : phase ≡ view words .phase) where
+  rows-then : phase ≢ 1
+      → freeSection (tablesRead words states marks) heap ≡ flatMap (freeRows (tablesRead words states marks) heap) (occupied (tablesRead words states marks))
+  unfolding freeSection
+  rows-then f = rw (phase-read words states marks, ne-eqb (view words .phase) 1 (λ q. f (e ∙ q)))
+
+  pub free-section : phase ≢ 1
+      → section (102 ∷ 114 ∷ 101 ∷ 101 ∷ []) (flatMap (freeRows (tablesRead words states marks) heap) (occupiedIn states))
+      ≡ freeText words states marks heap
+  unfolding freeText
+  free-section f =
+      ap (λ (bs : List ℕ). section (102 ∷ 114 ∷ 101 ∷ 101 ∷ []) (flatMap (freeRows (tablesRead words states marks) heap) bs)) (sym (occupied-in words states marks))
+      ∙ ap (section (102 ∷ 114 ∷ 101 ∷ 101 ∷ [])) (sym (rows-then f))
+
+  pub free-none : phase ≡ 1 → spaced ((102 ∷ 114 ∷ 101 ∷ 101 ∷ []) ∷ decimal 0 ∷ []) ≡ freeText words states marks heap
+  unfolding freeText freeSection section flatten
+  free-none f =
+      rw (phase-read words states marks, eq-eqb (view words .phase) 1 (sym e ∙ f)) (sym (append-nil _))
 
 -- ---- their rows
 
 pub blocks-count : (words states : List ℕ) {n : ℕ} → n ≡ length (occupiedIn states)
-    → n ≡ length (map (blockRow (tablesRead words states)) (occupiedIn states))
-blocks-count words states e = e ∙ sym (length-map (occupiedIn states) (blockRow (tablesRead words states)))
+    → n ≡ length (map (blockRow (tablesRead words states [])) (occupiedIn states))
+blocks-count words states e = e ∙ sym (length-map (occupiedIn states) (blockRow (tablesRead words states [])))
 
 pub total-ones : (bs : List ℕ) → total (λ b. 1) bs ≡ length bs
 unfolding total
@@ -294,31 +471,31 @@ module _ (words states : List ℕ) (b : ℕ) {state size set list holder : ℕ} 
   pub block-text : state ≡ getD states b 0 → size ≡ getD (view words .size) b 0 → set ≡ setNamed (view words) b
       → list ≡ letter set → holder ≡ getD (view words .tls) b 0
       → spaced (decimal b ∷ decimal state ∷ decimal size ∷ (list ∷ []) ∷ decimal holder ∷ [])
-      ≡ blockRow (tablesRead words states) b
+      ≡ blockRow (tablesRead words states []) b
   unfolding blockRow tablesRead stateOf
   block-text st si se li ho = rw (st, si, li, se, ho)
 
 -- ---- the rows of their free cells
 
 -- of the block b: how many, and their text; its state is not looked at
-abbrev pub cellsIn : List ℕ → List ℕ → ℕ → ℕ
-cellsIn words heap b = length (freeChain censusParams heap b (view words))
+abbrev pub cellsIn : List ℕ → List ℕ → List ℕ → ℕ → ℕ
+cellsIn words marks heap b = length (printedChain (tablesRead words [] marks) heap b)
 
-abbrev pub cellText : List ℕ → List ℕ → ℕ → List ℕ
-cellText words heap b = flatten (freeRows (tablesRead words []) heap b)
+abbrev pub cellText : List ℕ → List ℕ → List ℕ → ℕ → List ℕ
+cellText words marks heap b = flatten (freeRows (tablesRead words [] marks) heap b)
 
 pub flatten-append : (xs ys : List (List ℕ)) → flatten (xs ++ ys) ≡ flatten xs ++ flatten ys
 unfolding flatten
 flatten-append [] ys = refl
 flatten-append (x ∷ xs) ys = rw (flatten-append xs ys) (sym (append-assoc x (flatten xs) (flatten ys)))
 
-module _ (words states heap : List ℕ) where
-  pub total-cells : (bs : List ℕ) → total (cellsIn words heap) bs ≡ length (flatMap (freeRows (tablesRead words states) heap) bs)
-  unfolding total flatMap freeRows tablesRead
+module _ (words states marks heap : List ℕ) where
+  pub total-cells : (bs : List ℕ) → total (cellsIn words marks heap) bs ≡ length (flatMap (freeRows (tablesRead words states marks) heap) bs)
+  unfolding total flatMap freeRows tablesRead printedChain
   total-cells [] = refl
   total-cells (b ∷ bs) = rw (total-cells bs, length-append, length-map)
 
-  pub texts-cells : (bs : List ℕ) → texts (cellText words heap) bs ≡ flatten (flatMap (freeRows (tablesRead words states) heap) bs)
-  unfolding flatten flatMap freeRows tablesRead
+  pub texts-cells : (bs : List ℕ) → texts (cellText words marks heap) bs ≡ flatten (flatMap (freeRows (tablesRead words states marks) heap) bs)
+  unfolding flatten flatMap freeRows tablesRead printedChain
   texts-cells [] = refl
-  texts-cells (b ∷ bs) = rw (texts-cells bs) (sym (flatten-append (freeRows (tablesRead words states) heap b) _))
+  texts-cells (b ∷ bs) = rw (texts-cells bs) (sym (flatten-append (freeRows (tablesRead words states marks) heap b) _))

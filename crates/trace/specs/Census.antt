@@ -7,11 +7,11 @@ use Rattle.model.specs.Census.{section, linesOf, censusParams, runLines, listin
 use Rattle.listing.specs.Print.{refusedRows}
 use Rattle.trace.specs.Sections.{blocksText, freeText}
 
--- the three sections: the refused lines as they are kept, words, states and heap
-unfoldable pub listingText : List ℕ → List ℕ → List ℕ → List ℕ → List ℕ → List ℕ
-listingText lines numbers words states heap =
+-- the three sections: the refused lines as they are kept, words, states, marks and heap
+unfoldable pub listingText : List ℕ → List ℕ → List ℕ → List ℕ → List ℕ → List ℕ → List ℕ
+listingText lines numbers words states marks heap =
     section (114 ∷ 101 ∷ 102 ∷ 117 ∷ 115 ∷ 101 ∷ 100 ∷ []) (refusedRows lines numbers)
-    ++ (blocksText words states ++ freeText words states heap)
+    ++ (blocksText words states ++ freeText words states marks heap)
 
 -- the listing of a trace, run after a set-up on this
 unfoldable pub listedFrom : Lent → List ℕ → List ℕ

@@ -23,13 +23,14 @@ fn listing(
     numbers: &[usize],
     words: &[usize],
     states: &[u8],
+    marks: &[u8],
     heap: &[u8],
 ) -> usize
-    ensures { λ r. ⌜ Printed (now (out .entry)) (now (out .exit)) 0 r (listingText (now (lines .entry)) (now (numbers .entry)) (now (words .entry)) (now (states .entry)) (now (heap .entry))) ⌝ }
+    ensures { λ r. ⌜ Printed (now (out .entry)) (now (out .exit)) 0 r (listingText (now (lines .entry)) (now (numbers .entry)) (now (words .entry)) (now (states .entry)) (now (marks .entry)) (now (heap .entry))) ⌝ }
 {
     let refused = print::refused_section(out, 0, lines, numbers);
     let blocks = sections::blocks_section(out, refused, words, states);
-    sections::free_section(out, blocks, words, states, heap)
+    sections::free_section(out, blocks, words, states, marks, heap)
 }
 
 // Sets up on what is lent, runs the trace and lists what stands then.
@@ -48,7 +49,7 @@ fn run_and_list(
 {
     global::set_up(run::params(), words, states, marks, heap);
     let n = run::run(trace, words, states, marks, heap, lines, numbers);
-    listing(out, &lines[..n], &numbers[..n], words, states, heap)
+    listing(out, &lines[..n], &numbers[..n], words, states, marks, heap)
 }
 
 // The listing of a trace, as many of its bytes as the buffer holds. The answer is how many.

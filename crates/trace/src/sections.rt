@@ -5,11 +5,11 @@ use model::Block;
 use words::states;
 use words::tables;
 ghost use mathlib.Core.Path.{_≡_};
-ghost use mathlib.Core.List.{map, flatten, flatMap};
+ghost use mathlib.Core.List.{[], map, flatten, flatMap};
 ghost use lib.ListN.{length};
 ghost use Rattle.model.specs.Tables.{view};
 ghost use Rattle.model.specs.Sound.{setNamed};
-ghost use Rattle.model.specs.Census.{blockRow, freeRows};
+ghost use Rattle.model.specs.Census.{blockRow, awaitsSweep, printedChain, freeRows};
 ghost use Rattle.model.specs.Text.{Printed};
 ghost use Rattle.trace.specs.Sections.{tablesRead, isOccupied, occupiedIn, blocksText, freeText};
 
@@ -54,7 +54,7 @@ fn set_named(words: &[usize], b: Block) -> usize
 }
 
 fn block_row(out: &mut [u8], at: usize, words: &[usize], states: &[u8], b: Block) -> usize
-    ensures { λ r. ⌜ Printed (now (out .entry)) (now (out .exit)) at r (blockRow (tablesRead (now (words .entry)) (now (states .entry))) (b .0)) ⌝ }
+    ensures { λ r. ⌜ Printed (now (out .entry)) (now (out .exit)) at r (blockRow (tablesRead (now (words .entry)) (now (states .entry)) []) (b .0)) ⌝ }
 {
     let state = wide(states::state(states, b.0));
     let size = tables::size(words, b.0);
@@ -64,7 +64,7 @@ fn block_row(out: &mut [u8], at: usize, words: &[usize], states: &[u8], b: Block
 }
 
 fn block_rows(out: &mut [u8], at: usize, words: &[usize], states: &[u8]) -> usize
-    ensures { λ r. ⌜ Printed (now (out .entry)) (now (out .exit)) at r (flatten (map (blockRow (tablesRead (now (words .entry)) (now (states .entry)))) (occupiedIn (now (states .entry))))) ⌝ }
+    ensures { λ r. ⌜ Printed (now (out .entry)) (now (out .exit)) at r (flatten (map (blockRow (tablesRead (now (words .entry)) (now (states .entry)) [])) (occupiedIn (now (states .entry))))) ⌝ }
 {
     let mut place = at;
     let mut next: usize = 0;
@@ -87,8 +87,44 @@ pub(crate) fn blocks_section(out: &mut [u8], at: usize, words: &[usize], states:
     block_rows(out, place, words, states)
 }
 
-fn count_cells(words: &[usize], states: &[u8], heap: &[u8]) -> usize
-    ensures { λ r. ⌜ r ≡ length (flatMap (freeRows (tablesRead (now (words .entry)) (now (states .entry))) (now (heap .entry))) (occupiedIn (now (states .entry)))) ⌝ }
+// Whether the block is on list U, u or g.
+fn awaits_sweep(words: &[usize], b: Block) -> bool
+    ensures { λ r. ⌜ r ≡ awaitsSweep (view (now (words .entry))) (b .0) ⌝ }
+{
+    let list = print::list_letter(set_named(words, b));
+    if list == 85 {
+        return true;
+    }
+    if list == 117 {
+        return true;
+    }
+    if list == 103 {
+        return true;
+    }
+    false
+}
+
+// The choice, of which cells are printed for a block, is made here and in `rows_of`.
+fn count_of(words: &[usize], marks: &[u8], heap: &[u8], b: Block) -> usize
+    ensures { λ r. ⌜ r ≡ length (printedChain (tablesRead (now (words .entry)) [] (now (marks .entry))) (now (heap .entry)) (b .0)) ⌝ }
+{
+    if awaits_sweep(words, b) {
+        return chain::count_swept(words, marks, b);
+    }
+    chain::count(words, heap, b)
+}
+
+fn rows_of(out: &mut [u8], at: usize, words: &[usize], marks: &[u8], heap: &[u8], b: Block) -> usize
+    ensures { λ r. ⌜ Printed (now (out .entry)) (now (out .exit)) at r (flatten (freeRows (tablesRead (now (words .entry)) [] (now (marks .entry))) (now (heap .entry)) (b .0))) ⌝ }
+{
+    if awaits_sweep(words, b) {
+        return chain::rows_swept(out, at, words, marks, b);
+    }
+    chain::rows(out, at, words, heap, b)
+}
+
+fn count_cells(words: &[usize], states: &[u8], marks: &[u8], heap: &[u8]) -> usize
+    ensures { λ r. ⌜ r ≡ length (flatMap (freeRows (tablesRead (now (words .entry)) (now (states .entry)) (now (marks .entry))) (now (heap .entry))) (occupiedIn (now (states .entry)))) ⌝ }
 {
     let mut n: usize = 0;
     let mut next: usize = 0;
@@ -96,14 +132,21 @@ fn count_cells(words: &[usize], states: &[u8], heap: &[u8]) -> usize
         let b = Block(next);
         next = next + 1;
         if is_occupied(states, b) {
-            n = n + chain::count(words, heap, b);
+            n = n + count_of(words, marks, heap, b);
         }
     }
     n
 }
 
-fn cell_rows(out: &mut [u8], at: usize, words: &[usize], states: &[u8], heap: &[u8]) -> usize
-    ensures { λ r. ⌜ Printed (now (out .entry)) (now (out .exit)) at r (flatten (flatMap (freeRows (tablesRead (now (words .entry)) (now (states .entry))) (now (heap .entry))) (occupiedIn (now (states .entry))))) ⌝ }
+fn cell_rows(
+    out: &mut [u8],
+    at: usize,
+    words: &[usize],
+    states: &[u8],
+    marks: &[u8],
+    heap: &[u8],
+) -> usize
+    ensures { λ r. ⌜ Printed (now (out .entry)) (now (out .exit)) at r (flatten (flatMap (freeRows (tablesRead (now (words .entry)) (now (states .entry)) (now (marks .entry))) (now (heap .entry))) (occupiedIn (now (states .entry))))) ⌝ }
 {
     let mut place = at;
     let mut next: usize = 0;
@@ -111,23 +154,27 @@ fn cell_rows(out: &mut [u8], at: usize, words: &[usize], states: &[u8], heap: &[
         let b = Block(next);
         next = next + 1;
         if is_occupied(states, b) {
-            place = chain::rows(out, place, words, heap, b);
+            place = rows_of(out, place, words, marks, heap, b);
         }
     }
     place
 }
 
-// The free cells of each, along its chain.
+// The free cells of each; none while marking goes on.
 pub(crate) fn free_section(
     out: &mut [u8],
     at: usize,
     words: &[usize],
     states: &[u8],
+    marks: &[u8],
     heap: &[u8],
 ) -> usize
-    ensures { λ r. ⌜ Printed (now (out .entry)) (now (out .exit)) at r (freeText (now (words .entry)) (now (states .entry)) (now (heap .entry))) ⌝ }
+    ensures { λ r. ⌜ Printed (now (out .entry)) (now (out .exit)) at r (freeText (now (words .entry)) (now (states .entry)) (now (marks .entry)) (now (heap .entry))) ⌝ }
 {
-    let n = count_cells(words, states, heap);
+    if tables::phase(words) == 1 {
+        return print::free_head(out, at, 0);
+    }
+    let n = count_cells(words, states, marks, heap);
     let place = print::free_head(out, at, n);
-    cell_rows(out, place, words, states, heap)
+    cell_rows(out, place, words, states, marks, heap)
 }

@@ -26,10 +26,10 @@ same-length c = search needs
 
 -- src/lib.rt:19:1
 --@ returns c =
---@     three-printed _ _ _ _ _ (@refused-section .ensures) (@blocks-section .ensures) (@free-section .ensures)
+--@     three-printed _ _ _ _ _ _ (@refused-section .ensures) (@blocks-section .ensures) (@free-section .ensures)
 returns : tie.Need-returns
 returns c =
-    three-printed _ _ _ _ _ (c .before .before .before .before .before .before .before .before .before .before .refused-section .ensures) (c .before .before .before .before .before .before .blocks-section .ensures) (c .before .before .free-section .ensures)
+    three-printed _ _ _ _ _ _ (c .before .before .before .before .before .before .before .before .before .before .refused-section .ensures) (c .before .before .before .before .before .before .blocks-section .ensures) (c .before .before .free-section .ensures)
 
 pub listing-spec : {M : Type 1} → statement M
 listing-spec =

@@ -1,5 +1,6 @@
 -- `sections::block_rows` prints the occupied blocks' rows. The loop's invariant: the rows left, printed here, make all.
 use Prim.Native.Nat.{_-_}
+use mathlib.Core.List.{[]}
 use mathlib.Core.Path.{sym, _∙_}
 use borrow.Author.Count.{falls}
 use Rattle.model.specs.Census.{blockRow}
@@ -11,7 +12,7 @@ use Rattle.trace.proofs.sections.block_rows.Tie as tie
 
 abbrev Inv-loop : tie.InvT-loop
 Inv-loop out₀ at words states place₀ next₀ out place next =
-    TextsLeft (isOccupied states) (blockRow (tablesRead words states)) 4 out₀ out at place next
+    TextsLeft (isOccupied states) (blockRow (tablesRead words states [])) 4 out₀ out at place next
 
 abbrev μ-loop : tie.MeasureT-loop
 μ-loop out₀ at words states place₀ next₀ out place next = 4 - next

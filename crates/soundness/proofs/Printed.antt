@@ -1,0 +1,128 @@
+-- What the listing prints for a block on U, u or g is what its sweep builds, if the next alloc sweeps it. A search keeps sizes
+-- and marks, and every sweep in it goes by them. Rides on the walk of the search. Assumes nothing.
+use mathlib.Core.Path.{_≡_, refl, sym, ap, _∙_, subst}
+use mathlib.Core.Logic.{⊎-elim}
+use mathlib.Core.Bool.{Bool, true, false, not}
+use mathlib.Core.List.{List, [], _∷_, _++_}
+use Prim.Native.Nat.{ℕ}
+use lib.Dec.{eqb}
+use lib.ListN.{getD}
+use Rattle.model.specs.declared.Params.{Params}
+use Rattle.model.specs.declared.Offer.{Offer}
+use Rattle.model.specs.declared.Offer.the-variants.{Nothing, Fresh}
+use Rattle.model.specs.Base.{In}
+use Rattle.model.specs.Tables.{Words, Tables, setFree, setTls}
+use Rattle.model.specs.SizeClasses.{binOf, raised}
+use Rattle.model.specs.BlockList.{push, pop}
+use Rattle.model.specs.Block.{sweepChain, sweptWords}
+use Rattle.model.specs.Events.{Event, initialised, swept, released, taken}
+use Rattle.model.specs.FreeListAllocator.{sweepOf, Found, inFound, Search, acquireFresh, findBlock}
+use Rattle.model.specs.Global.{Running, isBound}
+use Rattle.model.specs.Sound.{sound, linkOk}
+use Rattle.model.specs.Calls.{alloc, goodRequest, tooBig, goodOffer, Plan, takePlan, planAlloc, planSound, plan, End, says, takes, Step, takeCell, finish, step}
+use Rattle.model.specs.Census.{censusParams, awaitsSweep, printedChain, PrintedIsBuilt}
+use Rattle.laws.proofs.Base.{if-cases, in-append}
+use Rattle.laws.proofs.Frame.{links-refl, push-links, pop-links}
+use Rattle.laws.proofs.Walks.{Files, Steps, find-keeps}
+
+module _ (p : Params) (ms sz : List ℕ) where
+  -- a sweep built its chain from these marks and sizes; of other events nothing is said
+  unfoldable pub Built : Event → Type 0
+  Built (initialised b l) = Unit {0}
+  Built (swept b l) = l ≡ sweepChain p ms b (getD sz b 0)
+  Built (released b) = Unit {0}
+  Built (taken a s) = Unit {0}
+
+  abbrev pub AllBuilt : List Event → Type 0
+  AllBuilt es = (e : Event) → In e es → Built e
+
+  none-built : AllBuilt []
+  unfolding In
+  none-built e i = absurd i
+
+  one-more : (es : List Event) (e : Event) → AllBuilt es → Built e → AllBuilt (es ++ (e ∷ []))
+  unfolding In
+  one-more es e f g x i =
+      ⊎-elim (f x) (λ j. ⊎-elim (λ q. subst Built (sym q) g) (λ z. absurd z) j) (in-append x es (e ∷ []) i)
+
+  -- of a search: the sizes are as they were, and what it swept so far was built so
+  record So (es : List Event) (w : Words) : Type 0 where
+    size : w .size ≡ sz
+    built : AllBuilt es
+
+  out : (l : ℕ) {es : List Event} {w : Words} → So es w → So es (pop p l w .words)
+  out l {w = w} o = record { size = pop-links p l w (links-refl w) .size ∙ o .size; built = o .built }
+
+  onto : (l b : ℕ) {es : List Event} {w : Words} → So es w → So es (push p l b w)
+  onto l b {w = w} o = record { size = push-links p l b w (links-refl w) .size ∙ o .size; built = o .built }
+
+  mine : (b h : ℕ) {es : List Event} {w : Words} → So es w → So es (setTls b h w)
+  unfolding setTls
+  mine b h o = record { size = o .size; built = o .built }
+
+  sweep : (b : ℕ) {es : List Event} {w : Words} → So es w → So (es ++ (sweepOf p ms b w ∷ [])) (sweptWords p ms b w)
+  unfolding sweptWords setFree Built
+  sweep b {es} {w} o =
+      record { size = o .size; built = one-more es _ (o .built) (ap (λ (z : List ℕ). sweepChain p ms b (getD z b 0)) (o .size)) }
+
+  module _ (h bin : ℕ) where
+    file : {es : List Event} {a : ℕ} {w : Words} → So es w → Files p ms h bin (λ es w. So es w) (λ es a w. So es w) es a w
+    file o = record { full = λ e. onto _ _ o; has = λ e. onto _ _ o }
+
+    steps : Steps p ms h bin (λ es w. So es w) (λ es a w. So es w)
+    steps =
+        record {
+          moved = λ es w o f e. onto _ _ (out _ o);
+          seen = λ es w o f e. o;
+          recycled = λ es w o f. file (sweep _ (out _ o));
+          over = λ es w o f. file (mine _ h (out _ o));
+          swept = λ es w o e f. file (sweep _ (mine _ h (out _ o)));
+        }
+
+module _ (p : Params) (t : Tables) where
+  abbrev All : List Event → Type 0
+  All es = AllBuilt p (t .marks) (t .words .size) es
+
+  fresh-built : (h bin : ℕ) (offer : Offer) (f : Found) → All (f .events) → All (acquireFresh p h bin offer f t .events)
+  unfolding acquireFresh Built
+  fresh-built h bin Nothing f a = a
+  fresh-built h bin (Fresh b) f a = one-more p (t .marks) (t .words .size) (f .events) _ a tt
+
+  find-built : (h bin : ℕ) (offer : Offer) → All (findBlock p h bin offer t .events)
+  find-built h bin offer =
+      find-keeps p h bin t _ _ (steps p (t .marks) (t .words .size) h bin) (λ (s : Search). All (s .events)) offer
+      (λ f z o. fresh-built h bin offer f (o .built)) (λ f z o. o .built)
+      (record { size = refl; built = none-built p (t .marks) (t .words .size) })
+
+  plan-built : (h size align offset : ℕ) (offer : Offer) → All (plan p t (alloc h size align offset offer) .events)
+  unfolding plan planSound planAlloc takePlan
+  plan-built h size align offset offer =
+      if-cases Q (sound p t)
+      (λ s. if-cases Q (not (eqb (t .words .phase) Running)) no
+      (λ a. if-cases Q (not (isBound (t .words) h)) no
+      (λ b. if-cases Q (not (goodRequest p size align offset)) no
+      (λ c. if-cases Q (tooBig p size align) no
+      (λ d. if-cases Q (not (goodOffer p t offer)) no (λ e. find-built h (binOf p (raised p size align)) offer))))))
+      no
+    where
+      Q : Plan → Type 0
+      Q q = All (q .events)
+
+      no : {b : Bool} {c : Bool} → b ≡ c → All []
+      no e = none-built p (t .marks) (t .words .size)
+
+  finish-built : (u : Tables) (es : List Event) (h : List ℕ) (e : End) → All es → All (finish p u es h e .events)
+  unfolding finish takeCell Built
+  finish-built u es h (says r) a = a
+  finish-built u es h (takes b align offset fresh) a =
+      if-cases (λ (s : Step). All (s .events)) (linkOk p (u .words) b _)
+      (λ y. one-more p (t .marks) (t .words .size) es _ a tt) (λ z. a)
+
+  pub alloc-built : (h size align offset : ℕ) (offer : Offer) (heap : List ℕ) → All (step p t heap (alloc h size align offset offer) .events)
+  unfolding step
+  alloc-built h size align offset offer heap = finish-built _ _ _ _ (plan-built h size align offset offer)
+
+pub printed-is-built : PrintedIsBuilt
+unfolding printedChain Built
+printed-is-built t heap holder size align offset offer b chain y i =
+    rw y (alloc-built censusParams t holder size align offset offer heap (swept b chain) i)
