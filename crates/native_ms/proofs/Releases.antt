@@ -14,7 +14,7 @@ use mir.Syntax.{w64}
 use mir.Val.{Fits}
 use Rattle.model.specs.declared.Params.{Params}
 use Rattle.model.specs.Base.{eachBelow, filter}
-use Rattle.model.specs.Params.{goodParams, blockAt, listOf, available, unswept, consumed, localSets}
+use Rattle.model.specs.Params.{goodParams, blockAt, abandoned, available, unswept, consumed, localSets}
 use Rattle.model.specs.Tables.{Words}
 use Rattle.model.specs.BlockList.{remove, append}
 use Rattle.model.specs.Block.{Unallocated, Unmarked, clearBlock}
@@ -192,9 +192,9 @@ shows-append p l o f {n} {t} {t₁} {s} e q =
 
 -- ---- one bin
 
-module _ (p : Params) (owner bin : ℕ) {a u c : ℕ} (t : Words) (s : List ℕ) (ea : a ≡ listOf owner bin) (eu : u ≡ listOf (owner + 1) bin) (ec : c ≡ listOf (owner + 2) bin) where
+module _ (p : Params) (owner bin : ℕ) {a u c : ℕ} (t : Words) (s : List ℕ) (ea : a ≡ available owner bin) (eu : u ≡ unswept owner bin) (ec : c ≡ consumed owner bin) where
   pub bin-total : {n m : ℕ} {t₁ t₂ t₃ t₄ : Words} {s₁ s₃ : List ℕ} → out n t₁ s₁ ≡ total (releaseFrom (p .blocks) p a (getD (t .first) a 0) t s) → t₂ ≡ append p u a t₁ → out m t₃ s₃ ≡ total (releaseFrom (p .blocks) p c (getD (t₂ .first) c 0) t₂ s₁) → t₄ ≡ append p u c t₃ → out (n + m) t₄ s₃ ≡ total (releaseBin p owner bin (freed t s))
-  unfolding releaseBin available unswept consumed
+  unfolding releaseBin
   bin-total e₁ e₂ e₃ e₄ =
       let f₁ : Freed = releaseBlocks p a (freed t s) in
       let f₂ : Freed = appendTo p u a f₁ in
@@ -214,9 +214,9 @@ appends-bin p owner bin =
     (appends-blocks p c))
     (appends-append p u c)
 
-module _ (p : Params) (bin : ℕ) {a u c : ℕ} (t : Words) (s : List ℕ) (ea : a ≡ listOf 24 bin) (eu : u ≡ listOf 25 bin) (ec : c ≡ listOf 26 bin) where
+module _ (p : Params) (bin : ℕ) {a u c : ℕ} (t : Words) (s : List ℕ) (ea : a ≡ available abandoned bin) (eu : u ≡ unswept abandoned bin) (ec : c ≡ consumed abandoned bin) where
   pub later-total : {n m o : ℕ} {t₁ t₂ t₃ t₄ t₅ : Words} {s₁ s₂ s₃ : List ℕ} → out n t₁ s₁ ≡ total (releaseFrom (p .blocks) p a (getD (t .first) a 0) t s) → out m t₂ s₂ ≡ total (releaseFrom (p .blocks) p c (getD (t₁ .first) c 0) t₁ s₁) → out o t₃ s₃ ≡ total (releaseFrom (p .blocks) p u (getD (t₂ .first) u 0) t₂ s₂) → t₄ ≡ append p u a t₃ → t₅ ≡ append p u c t₄ → out (n + m + o) t₅ s₃ ≡ total (sweepLaterBin p bin (freed t s))
-  unfolding sweepLaterBin available unswept consumed
+  unfolding sweepLaterBin
   later-total e₁ e₂ e₃ e₄ e₅ =
       let f₁ : Freed = releaseBlocks p a (freed t s) in
       let f₂ : Freed = releaseBlocks p c f₁ in
@@ -229,9 +229,9 @@ module _ (p : Params) (bin : ℕ) {a u c : ℕ} (t : Words) (s : List ℕ) (ea :
 appends-later : (p : Params) (bin : ℕ) → Appends (sweepLaterBin p bin)
 unfolding sweepLaterBin
 appends-later p bin =
-    let a = available 24 bin in
-    let u = unswept 24 bin in
-    let c = consumed 24 bin in
+    let a = available abandoned bin in
+    let u = unswept abandoned bin in
+    let c = consumed abandoned bin in
     let rb = releaseBlocks p in
     appends-both (λ f. appendTo p u a (rb u (rb c (rb a f)))) (appendTo p u c)
     (appends-both (λ f. rb u (rb c (rb a f))) (appendTo p u a)
@@ -348,9 +348,9 @@ few-bin p owner bin =
 few-later : (p : Params) (bin : ℕ) → AddsAtMost (p .blocks + p .blocks + p .blocks + 0 + 0) (sweepLaterBin p bin)
 unfolding sweepLaterBin
 few-later p bin =
-    let a = available 24 bin in
-    let u = unswept 24 bin in
-    let c = consumed 24 bin in
+    let a = available abandoned bin in
+    let u = unswept abandoned bin in
+    let c = consumed abandoned bin in
     let rb = releaseBlocks p in
     few-both (p .blocks + p .blocks + p .blocks + 0) 0 (λ f. appendTo p u a (rb u (rb c (rb a f)))) (appendTo p u c)
     (few-both (p .blocks + p .blocks + p .blocks) 0 (λ f. rb u (rb c (rb a f))) (appendTo p u a)

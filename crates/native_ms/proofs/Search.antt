@@ -16,7 +16,8 @@ use Rattle.model.specs.BlockList.{popped, pop, push}
 use Rattle.model.specs.Events.{eventHeap, eventsHeap, isSweep, sweeps}
 use Rattle.model.specs.FreeListAllocator.{findFreeBlockWith, recycleLocalBlocks}
 use Rattle.native_ms.specs.Block.{Swept}
-use Rattle.native_ms.specs.Closing.{ListNumber, Filed, seen, closed}
+use Rattle.native_ms.specs.Space.{ListNumber}
+use Rattle.native_ms.specs.Closing.{Filed, seen, closed}
 
 -- ---- list numbers
 

@@ -14,7 +14,7 @@ use lib.Seq.{ext-getD, getD-set-same, getD-set-other}
 use Rattle.model.specs.declared.Params.{Params}
 use Rattle.model.specs.declared.Refusal.the-variants.{BadSetup, WrongPhase, BadHolder, BadObject}
 use Rattle.model.specs.Base.{eachBelow, flag}
-use Rattle.model.specs.Params.{goodParams, fits, wordCount, heapBytes, start, minusLower, inHeap, localSets, listOf, available, unswept, consumed}
+use Rattle.model.specs.Params.{goodParams, fits, wordCount, heapBytes, start, minusLower, inHeap, localSets, available, unswept, consumed}
 use Rattle.model.specs.Memory.{marked, setMark, cleared}
 use Rattle.model.specs.Tables.{Words, Tables, tablesOf, view, flat, setBound, setPhase, setReleased, withReleased}
 use Rattle.model.specs.Events.{releases}
@@ -108,23 +108,8 @@ destroy-done {p} {w} n {owner} {t₁} a l eo e₁ v =
 
 -- ---- lists of an owner, bin by bin
 
-pub list-low : (k bin : ℕ) {l : ℕ} → k < 30 → bin < 49 → l ≡ listOf k bin → l < 1470
-unfolding listOf
-list-low k bin hk hb e = omega arith
-
--- an owner's three sets
-module _ {owner : ℕ} (h : owner ≤ 27) where
-  pub owner-first : owner < 30
-  owner-first = omega arith
-
-  pub owner-second : owner + 1 < 30
-  owner-second = omega arith
-
-  pub owner-third : owner + 2 < 30
-  owner-third = omega arith
-
-pub abandon-bin : (p : Params) (to from bin : ℕ) {a u c fa fu fc : ℕ} (t : Words) {t₁ t₂ t₃ : Words} → a ≡ listOf to bin → u ≡ listOf (to + 1) bin → c ≡ listOf (to + 2) bin → fa ≡ listOf from bin → fu ≡ listOf (from + 1) bin → fc ≡ listOf (from + 2) bin → t₁ ≡ append p a fa t → t₂ ≡ append p c fc t₁ → t₃ ≡ append p u fu t₂ → t₃ ≡ abandonBin p to from bin t
-unfolding abandonBin available unswept consumed
+pub abandon-bin : (p : Params) (to from bin : ℕ) {a u c fa fu fc : ℕ} (t : Words) {t₁ t₂ t₃ : Words} → a ≡ available to bin → u ≡ unswept to bin → c ≡ consumed to bin → fa ≡ available from bin → fu ≡ unswept from bin → fc ≡ consumed from bin → t₁ ≡ append p a fa t → t₂ ≡ append p c fc t₁ → t₃ ≡ append p u fu t₂ → t₃ ≡ abandonBin p to from bin t
+unfolding abandonBin
 abandon-bin p to from bin t ea eu ec eda edu edc e₁ e₂ e₃ = rw (e₃, e₂, e₁, ea, eu, ec, eda, edu, edc)
 
 pub each-none : {A : Type 0} (f : ℕ → A → A) (x : A) → x ≡ eachBelow 0 f x

@@ -13,11 +13,6 @@ use Rattle.model.specs.BlockList.{push}
 use Rattle.model.specs.Events.{eventsHeap, sweeps}
 use Rattle.model.specs.FreeListAllocator.{Found}
 
--- r is the number l of a list
-pub record ListNumber (r l : ℕ) : Type 0 where
-  pub same : r ≡ l
-  pub low : r < 1470
-
 -- the block b was put on the list `avail` if r, that it has a free cell, and else on the list `full`
 pub record Filed (p : Params) (avail full b : ℕ) (t : Words) (r : Bool) (t₁ : Words) : Type 0 where
   pub none : eqb (getD (t .free) b 0) 0 ≡ not r

@@ -1,11 +1,13 @@
 // Where blocks stand, which block an address lies in, and how lists are numbered.
 use model::Address;
+use model::BINS;
 use model::Block;
 use model::Params;
 ghost use mathlib.Core.Path.{_≡_};
 ghost use mathlib.Core.Bool.{true};
 ghost use Prim.Native.Nat.{_<_, _≤_};
-ghost use Rattle.model.specs.Params.{goodParams, start, blockAt, inHeap, isStart, listOf, listWord, localSets};
+ghost use Rattle.model.specs.Params.{goodParams, start, blockAt, inHeap, isStart, listOf, listWord, localSets, available, unswept, consumed};
+ghost use Rattle.native_ms.specs.Space.{ListNumber};
 
 // The address of a block's first byte, and 0 if there is no such block.
 pub(crate) fn start(p: Params, b: Block) -> Address
@@ -72,7 +74,7 @@ pub(crate) fn list_of(set: usize, bin: usize) -> usize
     requires { ⌜ (set < 30) × (bin < 49) ⌝ }
     ensures { λ r. ⌜ r ≡ listOf set bin ⌝ }
 {
-    49 * set + bin
+    BINS * set + bin
 }
 
 // The word that a block holds for the list l.
@@ -89,4 +91,28 @@ pub(crate) fn local_sets(h: usize) -> usize
     ensures { λ r. ⌜ r ≡ localSets h ⌝ }
 {
     3 * (h - 1)
+}
+
+// The owner's list of blocks that may have free cells.
+pub(crate) fn available(owner: usize, bin: usize) -> usize
+    requires { ⌜ (owner < 28) × (bin < 49) ⌝ }
+    ensures { λ r. ⌜ ListNumber r (available owner bin) ⌝ }
+{
+    list_of(owner, bin)
+}
+
+// Its list of blocks that wait for a sweep.
+pub(crate) fn unswept(owner: usize, bin: usize) -> usize
+    requires { ⌜ (owner < 28) × (bin < 49) ⌝ }
+    ensures { λ r. ⌜ ListNumber r (unswept owner bin) ⌝ }
+{
+    list_of(owner + 1, bin)
+}
+
+// Its list of blocks with no free cell.
+pub(crate) fn consumed(owner: usize, bin: usize) -> usize
+    requires { ⌜ (owner < 28) × (bin < 49) ⌝ }
+    ensures { λ r. ⌜ ListNumber r (consumed owner bin) ⌝ }
+{
+    list_of(owner + 2, bin)
 }

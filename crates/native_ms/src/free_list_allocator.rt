@@ -24,13 +24,13 @@ ghost use mathlib.Core.Bool.{true};
 ghost use mathlib.Core.List.{List};
 ghost use Prim.Native.Nat.{ℕ, _<_, _≤_};
 ghost use Rattle.model.specs.Base.{flag};
-ghost use Rattle.model.specs.Params.{goodParams, available, unswept, consumed};
+ghost use Rattle.model.specs.Params.{goodParams};
 ghost use Rattle.model.specs.Tables.{Words, view, tablesOf};
 ghost use Rattle.model.specs.BlockList.{popped};
 ghost use Rattle.model.specs.FreeListAllocator.{findFreeBlockWith, recycleLocalBlocks, acquireAbandoned, findBlock};
 ghost use Rattle.model.specs.Calls.{goodOffer, alloc};
 ghost use Rattle.model.specs.Answers.{allocReply};
-ghost use Rattle.native_ms.specs.Closing.{ListNumber, Filed, seen, closed, Searched};
+ghost use Rattle.native_ms.specs.Closing.{Filed, seen, closed, Searched};
 ghost use Rattle.model.specs.Promise.{lend, Promised};
 ghost use Rattle.native_ms.specs.Abandoned.{nextOf, popAbandoned, TakenOver};
 ghost use Rattle.native_ms.specs.Ending.{ended, closedSearch, acquireGlobal, Freshened, stepped, servedBy, Ready};
@@ -60,30 +60,6 @@ pub(crate) enum Checked {
 pub(crate) struct Abandoned {
     pub at: Address,
     pub unswept: bool,
-}
-
-// The owner's list of blocks that may have free cells.
-fn available(owner: usize, bin: usize) -> usize
-    requires { ⌜ (owner < 28) × (bin < 49) ⌝ }
-    ensures { λ r. ⌜ ListNumber r (available owner bin) ⌝ }
-{
-    address::list_of(owner, bin)
-}
-
-// Its list of blocks that wait for a sweep.
-fn unswept(owner: usize, bin: usize) -> usize
-    requires { ⌜ (owner < 28) × (bin < 49) ⌝ }
-    ensures { λ r. ⌜ ListNumber r (unswept owner bin) ⌝ }
-{
-    address::list_of(owner + 1, bin)
-}
-
-// Its list of blocks with no free cell.
-fn consumed(owner: usize, bin: usize) -> usize
-    requires { ⌜ (owner < 28) × (bin < 49) ⌝ }
-    ensures { λ r. ⌜ ListNumber r (consumed owner bin) ⌝ }
-{
-    address::list_of(owner + 2, bin)
 }
 
 // The first block of the list avail with a free cell. Those before it go to the list full.
@@ -137,9 +113,9 @@ pub(crate) fn recycle_local_blocks(
     requires { ⌜ (goodParams p ≡ true) × (owner < 28) × (bin < 49) ⌝ }
     ensures { λ r. ⌜ Searched (p .blocks) (seen (r .at .0) (r .swept) (view (now (w .exit))) (now (h .exit))) (closed p 0 (now (h .entry)) (recycleLocalBlocks (p .blocks) p (now (m .entry)) owner bin (view (now (w .entry))))) ⌝ }
 {
-    let from = unswept(owner, bin);
-    let avail = available(owner, bin);
-    let full = consumed(owner, bin);
+    let from = address::unswept(owner, bin);
+    let avail = address::available(owner, bin);
+    let full = address::consumed(owner, bin);
     let mut k = p.blocks;
     let mut n: usize = 0;
     while 0 < k {
@@ -172,8 +148,8 @@ fn pop_abandoned(p: Params, w: &mut [usize], bin: usize) -> Abandoned
     requires { ⌜ (goodParams p ≡ true) × (bin < 49) ⌝ }
     ensures { λ r. ⌜ nextOf (r .at .0) (r .unswept) (view (now (w .exit))) ≡ popAbandoned p bin (view (now (w .entry))) ⌝ }
 {
-    let first = available(ABANDONED, bin);
-    let second = unswept(ABANDONED, bin);
+    let first = address::available(ABANDONED, bin);
+    let second = address::unswept(ABANDONED, bin);
     let f = block_list::pop(p, w, first);
     let v = f.0;
     if v != 0 {
@@ -205,8 +181,8 @@ fn take_over(
 {
     let i = b.0;
     let owner = address::local_sets(holder);
-    let avail = available(owner, bin);
-    let full = consumed(owner, bin);
+    let avail = address::available(owner, bin);
+    let full = address::consumed(owner, bin);
     tables::set_tls(w, i, holder);
     if unswept {
         block::sweep(p, w, m, h, b);
@@ -280,7 +256,7 @@ fn acquire_fresh(
 {
     let i = b.0;
     let owner = address::local_sets(holder);
-    let avail = available(owner, bin);
+    let avail = address::available(owner, bin);
     let s = size_class::class_bytes(bin);
     block_list::push(p, w, avail, b);
     block::init_block(p, w, h, b, s, holder);
@@ -346,8 +322,8 @@ pub(crate) fn find_block(
     ensures { λ r. ⌜ ended (r .at .0) (r .swept) (r .fresh) (tablesOf (view (now (w .exit))) (now (st .exit)) (now (m .entry))) (now (h .exit)) ≡ closedSearch p 0 (now (h .entry)) (findBlock p holder bin offer (tablesOf (view (now (w .entry))) (now (st .entry)) (now (m .entry)))) ⌝ }
 {
     let owner = address::local_sets(holder);
-    let avail = available(owner, bin);
-    let full = consumed(owner, bin);
+    let avail = address::available(owner, bin);
+    let full = address::consumed(owner, bin);
     let a = find_free_block_with(p, w, avail, full);
     let v = a.0;
     if v != 0 {

@@ -16,10 +16,12 @@ use crate::sound;
 use model::ABANDONED;
 use model::Address;
 use model::Answer;
+use model::BINS;
 use model::Block;
 use model::HOLDERS;
 use model::IN_GC;
 use model::MarkAnswer;
+use model::PARTS;
 use model::Params;
 use model::Refusal;
 use model::ReleaseAnswer;
@@ -31,7 +33,7 @@ ghost use mathlib.Core.Bool.{true, not, _&&_, _||_};
 ghost use mathlib.Core.List.{List, [], map};
 ghost use Prim.Native.Nat.{ℕ, _<_, _≤_, _^_};
 ghost use lib.ListN.{length, getD, replicate};
-ghost use Rattle.model.specs.Params.{goodParams, minusLower};
+ghost use Rattle.model.specs.Params.{goodParams, minusLower, abandoned, inGc};
 ghost use Rattle.model.specs.Tables.{Words, view, tablesOf, withReleased};
 ghost use Rattle.model.specs.Global.{freed, abandonBin, abandonBlocks, unmarkedState, releaseFrom, releaseBin, releaseHolder, sweepLaterBin, sweepLater, isHolder, isBound, hasReleased, allReleased, partReleased};
 ghost use Rattle.model.specs.Calls.{bind, destroy, prepare, mark, release, sharedRelease, goodObject, mayRelease};
@@ -244,15 +246,15 @@ fn abandon_bin(p: Params, w: &mut [usize], to: usize, from: usize, bin: usize)
     requires { ⌜ (goodParams p ≡ true) × (to ≤ 27) × (from ≤ 27) × (bin < 49) ⌝ }
     ensures { λ _. ⌜ view (now (w .exit)) ≡ abandonBin p to from bin (view (now (w .entry))) ⌝ }
 {
-    let a = address::list_of(to, bin);
-    let u = address::list_of(to + 1, bin);
-    let c = address::list_of(to + 2, bin);
-    let fa = address::list_of(from, bin);
-    let fu = address::list_of(from + 1, bin);
-    let fc = address::list_of(from + 2, bin);
-    block_list::append(p, w, a, fa);
-    block_list::append(p, w, c, fc);
-    block_list::append(p, w, u, fu);
+    let available = address::available(to, bin);
+    let unswept = address::unswept(to, bin);
+    let consumed = address::consumed(to, bin);
+    let from_available = address::available(from, bin);
+    let from_unswept = address::unswept(from, bin);
+    let from_consumed = address::consumed(from, bin);
+    block_list::append(p, w, available, from_available);
+    block_list::append(p, w, consumed, from_consumed);
+    block_list::append(p, w, unswept, from_unswept);
 }
 
 // All lists of one owner, by its first set, go behind another's.
@@ -261,7 +263,7 @@ fn abandon_blocks(p: Params, w: &mut [usize], to: usize, from: usize)
     ensures { λ _. ⌜ view (now (w .exit)) ≡ abandonBlocks p to from (view (now (w .entry))) ⌝ }
 {
     let mut bin: usize = 0;
-    while bin < 49 {
+    while bin < BINS {
         abandon_bin(p, w, to, from, bin);
         bin = bin + 1;
     }
@@ -294,10 +296,10 @@ pub fn destroy(
 fn unmarked_state(s: u8) -> u8
     ensures { λ r. ⌜ r ≡ unmarkedState s ⌝ }
 {
-    if s == 0 {
-        return 0;
+    if s == block::UNALLOCATED {
+        return block::UNALLOCATED;
     }
-    255
+    block::UNMARKED
 }
 
 // Occupied blocks become Unmarked.
@@ -373,7 +375,7 @@ fn good_object(p: Params, st: &[u8], place: Address, b: Block) -> bool
         return false;
     }
     let s = states::state(st, i);
-    if s == 0 {
+    if s == block::UNALLOCATED {
         return false;
     }
     let a = minus_lower(p, place);
@@ -420,7 +422,7 @@ pub fn mark(
             if memory::is_marked(p, marks, place) {
                 return MarkAnswer::Marked { new: false };
             }
-            states::set_state(states, block.0, 254);
+            states::set_state(states, block.0, block::MARKED);
             memory::set_mark(p, marks, place);
             MarkAnswer::Marked { new: true }
         }
@@ -436,7 +438,7 @@ fn attempt_release(p: Params, w: &mut [usize], st: &mut [u8], l: usize, b: Block
 {
     let i = b.0;
     let s = states::state(st, i);
-    if s != 255 {
+    if s != block::UNMARKED {
         return 0;
     }
     block_list::remove(p, w, l, b);
@@ -469,13 +471,13 @@ fn release_bin(p: Params, w: &mut [usize], st: &mut [u8], owner: usize, bin: usi
     requires { ⌜ (goodParams p ≡ true) × (owner ≤ 27) × (bin < 49) ⌝ }
     ensures { λ r. ⌜ out r (view (now (w .exit))) (now (st .exit)) ≡ total (releaseBin p owner bin (freed (view (now (w .entry))) (now (st .entry)))) ⌝ }
 {
-    let a = address::list_of(owner, bin);
-    let u = address::list_of(owner + 1, bin);
-    let c = address::list_of(owner + 2, bin);
-    let n = release_blocks(p, w, st, a);
-    block_list::append(p, w, u, a);
-    let m = release_blocks(p, w, st, c);
-    block_list::append(p, w, u, c);
+    let available = address::available(owner, bin);
+    let unswept = address::unswept(owner, bin);
+    let consumed = address::consumed(owner, bin);
+    let n = release_blocks(p, w, st, available);
+    block_list::append(p, w, unswept, available);
+    let m = release_blocks(p, w, st, consumed);
+    block_list::append(p, w, unswept, consumed);
     n + m
 }
 
@@ -485,7 +487,7 @@ fn release_bins(p: Params, w: &mut [usize], st: &mut [u8], owner: usize) -> usiz
 {
     let mut bin: usize = 0;
     let mut n: usize = 0;
-    while bin < 49 {
+    while bin < BINS {
         n = n + release_bin(p, w, st, owner, bin);
         bin = bin + 1;
     }
@@ -508,14 +510,14 @@ fn sweep_later_bin(p: Params, w: &mut [usize], st: &mut [u8], bin: usize) -> usi
     requires { ⌜ (goodParams p ≡ true) × (bin < 49) ⌝ }
     ensures { λ r. ⌜ out r (view (now (w .exit))) (now (st .exit)) ≡ total (sweepLaterBin p bin (freed (view (now (w .entry))) (now (st .entry)))) ⌝ }
 {
-    let a = address::list_of(24, bin);
-    let u = address::list_of(25, bin);
-    let c = address::list_of(26, bin);
-    let n = release_blocks(p, w, st, a);
-    let m = release_blocks(p, w, st, c);
-    let o = release_blocks(p, w, st, u);
-    block_list::append(p, w, u, a);
-    block_list::append(p, w, u, c);
+    let available = address::available(ABANDONED, bin);
+    let unswept = address::unswept(ABANDONED, bin);
+    let consumed = address::consumed(ABANDONED, bin);
+    let n = release_blocks(p, w, st, available);
+    let m = release_blocks(p, w, st, consumed);
+    let o = release_blocks(p, w, st, unswept);
+    block_list::append(p, w, unswept, available);
+    block_list::append(p, w, unswept, consumed);
     n + m + o
 }
 
@@ -526,7 +528,7 @@ fn sweep_later(p: Params, w: &mut [usize], st: &mut [u8]) -> usize
 {
     let mut bin: usize = 0;
     let mut n: usize = 0;
-    while bin < 49 {
+    while bin < BINS {
         n = n + sweep_later_bin(p, w, st, bin);
         bin = bin + 1;
     }
@@ -536,7 +538,7 @@ fn sweep_later(p: Params, w: &mut [usize], st: &mut [u8]) -> usize
 // The in-gc lists go behind the abandoned ones.
 fn merge(p: Params, w: &mut [usize])
     requires { ⌜ goodParams p ≡ true ⌝ }
-    ensures { λ _. ⌜ view (now (w .exit)) ≡ abandonBlocks p 24 27 (view (now (w .entry))) ⌝ }
+    ensures { λ _. ⌜ view (now (w .exit)) ≡ abandonBlocks p abandoned inGc (view (now (w .entry))) ⌝ }
 {
     abandon_blocks(p, w, ABANDONED, IN_GC);
 }
@@ -546,7 +548,7 @@ fn clear_released(w: &mut [usize])
     ensures { λ _. ⌜ view (now (w .exit)) ≡ withReleased (replicate 9 0) (view (now (w .entry))) ⌝ }
 {
     let mut i: usize = 0;
-    while i < 9 {
+    while i < PARTS {
         tables::set_released(w, i, 0);
         i = i + 1;
     }

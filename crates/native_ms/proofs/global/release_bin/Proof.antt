@@ -1,45 +1,35 @@
 -- `global::release_bin` is `releaseBin`, its events counted. Assumes nothing.
 use mathlib.Core.Path.{_∙_}
-use Rattle.native_ms.proofs.SpaceCalls.{list-low, owner-first, owner-second, owner-third}
 use Rattle.native_ms.proofs.Releases.{blocks-low, two-fit, bin-total}
 use Rattle.model.specs.Tables.{view}
 use borrow.Author.Needs.{needs}
 use Rattle.native_ms.proofs.global.release_bin.Statement.{statement}
 use Rattle.native_ms.proofs.global.release_bin.Tie as tie
 
---@ list-of-requires c κs = (owner-first (@pre .1), @pre .2)
-list-of-requires : tie.Need-list-of-requires
-list-of-requires c κs = (owner-first (c .before .before .pre .1), c .before .before .pre .2)
+available-requires : tie.Need-available-requires
+available-requires c κs = search needs
 
-add-list-of : tie.Need-add-list-of
-add-list-of c = search needs
+unswept-requires : tie.Need-unswept-requires
+unswept-requires c κs = search needs
 
---@ list-of-requires-2 c κs = (owner-second (@pre .1), @pre .2)
-list-of-requires-2 : tie.Need-list-of-requires-2
-list-of-requires-2 c κs = (owner-second (c .before .before .before .pre .1), c .before .before .before .pre .2)
+consumed-requires : tie.Need-consumed-requires
+consumed-requires c κs = search needs
 
-add-list-of-2 : tie.Need-add-list-of-2
-add-list-of-2 c = search needs
-
---@ list-of-requires-3 c κs = (owner-third (@pre .1), @pre .2)
-list-of-requires-3 : tie.Need-list-of-requires-3
-list-of-requires-3 c κs = (owner-third (c .before .before .before .before .pre .1), c .before .before .before .before .pre .2)
-
---@ release-blocks-requires c κs = (@pre .0, list-low _ _ (owner-first (@pre .1)) (@pre .2) (@list-of .ensures))
+--@ release-blocks-requires c κs = (@pre .0, @available .ensures .low)
 release-blocks-requires : tie.Need-release-blocks-requires
-release-blocks-requires c κs = (c .before .before .before .before .before .before .before .pre .0, list-low _ _ (owner-first (c .before .before .before .before .before .before .before .pre .1)) (c .before .before .before .before .before .before .before .pre .2) (c .before .before .before .before .list-of .ensures))
+release-blocks-requires c κs = (c .before .before .before .before .before .before .before .pre .0, c .before .before .before .before .available .ensures .low)
 
---@ append-requires c κs = (@pre .0, list-low _ _ (owner-second (@pre .1)) (@pre .2) (@list-of2 .ensures))
+--@ append-requires c κs = (@pre .0, @unswept .ensures .low)
 append-requires : tie.Need-append-requires
-append-requires c κs = (c .before .before .before .before .before .before .before .before .before .before .before .before .before .pre .0, list-low _ _ (owner-second (c .before .before .before .before .before .before .before .before .before .before .before .before .before .pre .1)) (c .before .before .before .before .before .before .before .before .before .before .before .before .before .pre .2) (c .before .before .before .before .before .before .before .before .before .list-of2 .ensures))
+append-requires c κs = (c .before .before .before .before .before .before .before .before .before .before .before .before .before .pre .0, c .before .before .before .before .before .before .before .before .before .unswept .ensures .low)
 
---@ release-blocks-requires-2 c κs = (@pre .0, list-low _ _ (owner-third (@pre .1)) (@pre .2) (@list-of3 .ensures))
+--@ release-blocks-requires-2 c κs = (@pre .0, @consumed .ensures .low)
 release-blocks-requires-2 : tie.Need-release-blocks-requires-2
-release-blocks-requires-2 c κs = (c .before .before .before .before .before .before .before .before .before .before .before .before .before .before .before .before .before .before .pre .0, list-low _ _ (owner-third (c .before .before .before .before .before .before .before .before .before .before .before .before .before .before .before .before .before .before .pre .1)) (c .before .before .before .before .before .before .before .before .before .before .before .before .before .before .before .before .before .before .pre .2) (c .before .before .before .before .before .before .before .before .before .before .before .before .before .list-of3 .ensures))
+release-blocks-requires-2 c κs = (c .before .before .before .before .before .before .before .before .before .before .before .before .before .before .before .before .before .before .pre .0, c .before .before .before .before .before .before .before .before .before .before .before .before .before .consumed .ensures .low)
 
---@ append-requires-2 c κs = (@pre .0, list-low _ _ (owner-second (@pre .1)) (@pre .2) (@list-of2 .ensures))
+--@ append-requires-2 c κs = (@pre .0, @unswept .ensures .low)
 append-requires-2 : tie.Need-append-requires-2
-append-requires-2 c κs = (c .before .before .before .before .before .before .before .before .before .before .before .before .before .before .before .before .before .before .before .before .before .before .before .before .pre .0, list-low _ _ (owner-second (c .before .before .before .before .before .before .before .before .before .before .before .before .before .before .before .before .before .before .before .before .before .before .before .before .pre .1)) (c .before .before .before .before .before .before .before .before .before .before .before .before .before .before .before .before .before .before .before .before .before .before .before .before .pre .2) (c .before .before .before .before .before .before .before .before .before .before .before .before .before .before .before .before .before .before .before .before .list-of2 .ensures))
+append-requires-2 c κs = (c .before .before .before .before .before .before .before .before .before .before .before .before .before .before .before .before .before .before .before .before .before .before .before .before .pre .0, c .before .before .before .before .before .before .before .before .before .before .before .before .before .before .before .before .before .before .before .before .unswept .ensures .low)
 
 --@ add-result c = two-fit (blocks-low (@args .p) (@pre .0) _ _ _ _ (@release-blocks .ensures)) (blocks-low (@args .p) (@pre .0) _ _ _ _ (@release-blocks2 .ensures))
 add-result : tie.Need-add-result
@@ -53,19 +43,17 @@ same-length c = c .before .before .append2 .kept .1 .0 ∙ c .before .before .be
 same-length-2 : tie.Need-same-length-2
 same-length-2 c = c .before .before .before .before .before .before .before .before .release-blocks2 .kept .1 .1 .0 ∙ c .before .before .before .before .before .before .before .before .before .before .before .before .before .before .before .before .before .before .before .release-blocks .kept .1 .1 .0
 
---@ returns c = bin-total (@args .p) (@args .owner) (@args .bin) (view (@args .w .now)) (@args .st .now) (@list-of .ensures) (@list-of2 .ensures) (@list-of3 .ensures) (@release-blocks .ensures) (@append .ensures) (@release-blocks2 .ensures) (@append2 .ensures)
+--@ returns c = bin-total (@args .p) (@args .owner) (@args .bin) (view (@args .w .now)) (@args .st .now) (@available .ensures .same) (@unswept .ensures .same) (@consumed .ensures .same) (@release-blocks .ensures) (@append .ensures) (@release-blocks2 .ensures) (@append2 .ensures)
 returns : tie.Need-returns
-returns c = bin-total (c .before .before .before .before .before .before .before .before .before .before .before .before .before .before .before .before .before .before .before .before .before .before .before .before .before .before .before .args .p) (c .before .before .before .before .before .before .before .before .before .before .before .before .before .before .before .before .before .before .before .before .before .before .before .before .before .before .before .args .owner) (c .before .before .before .before .before .before .before .before .before .before .before .before .before .before .before .before .before .before .before .before .before .before .before .before .before .before .before .args .bin) (view (c .before .before .before .before .before .before .before .before .before .before .before .before .before .before .before .before .before .before .before .before .before .before .before .before .before .before .before .args .w .now)) (c .before .before .before .before .before .before .before .before .before .before .before .before .before .before .before .before .before .before .before .before .before .before .before .before .before .before .before .args .st .now) (c .before .before .before .before .before .before .before .before .before .before .before .before .before .before .before .before .before .before .before .before .before .before .before .before .list-of .ensures) (c .before .before .before .before .before .before .before .before .before .before .before .before .before .before .before .before .before .before .before .before .before .before .before .list-of2 .ensures) (c .before .before .before .before .before .before .before .before .before .before .before .before .before .before .before .before .before .before .before .before .before .before .list-of3 .ensures) (c .before .before .before .before .before .before .before .before .before .before .before .before .before .before .before .before .before .before .before .release-blocks .ensures) (c .before .before .before .before .before .before .before .before .before .before .before .before .before .append .ensures) (c .before .before .before .before .before .before .before .before .release-blocks2 .ensures) (c .before .before .append2 .ensures)
+returns c = bin-total (c .before .before .before .before .before .before .before .before .before .before .before .before .before .before .before .before .before .before .before .before .before .before .before .before .before .before .before .args .p) (c .before .before .before .before .before .before .before .before .before .before .before .before .before .before .before .before .before .before .before .before .before .before .before .before .before .before .before .args .owner) (c .before .before .before .before .before .before .before .before .before .before .before .before .before .before .before .before .before .before .before .before .before .before .before .before .before .before .before .args .bin) (view (c .before .before .before .before .before .before .before .before .before .before .before .before .before .before .before .before .before .before .before .before .before .before .before .before .before .before .before .args .w .now)) (c .before .before .before .before .before .before .before .before .before .before .before .before .before .before .before .before .before .before .before .before .before .before .before .before .before .before .before .args .st .now) (c .before .before .before .before .before .before .before .before .before .before .before .before .before .before .before .before .before .before .before .before .before .before .before .before .available .ensures .same) (c .before .before .before .before .before .before .before .before .before .before .before .before .before .before .before .before .before .before .before .before .before .before .before .unswept .ensures .same) (c .before .before .before .before .before .before .before .before .before .before .before .before .before .before .before .before .before .before .before .before .before .before .consumed .ensures .same) (c .before .before .before .before .before .before .before .before .before .before .before .before .before .before .before .before .before .before .before .release-blocks .ensures) (c .before .before .before .before .before .before .before .before .before .before .before .before .before .append .ensures) (c .before .before .before .before .before .before .before .before .release-blocks2 .ensures) (c .before .before .append2 .ensures)
 
 pub release-bin-spec : {M : Type 1} → statement M
 release-bin-spec =
     tie.close
     (tie.spec
-    list-of-requires
-    add-list-of
-    list-of-requires-2
-    add-list-of-2
-    list-of-requires-3
+    available-requires
+    unswept-requires
+    consumed-requires
     release-blocks-requires
     append-requires
     release-blocks-requires-2

@@ -1,8 +1,8 @@
 -- The number of the list is that of `available`, and there is such a list.
 use Rattle.native_ms.proofs.Search.{number-available}
 use borrow.Author.Needs.{needs}
-use Rattle.native_ms.proofs.free_list_allocator.available.Statement.{statement}
-use Rattle.native_ms.proofs.free_list_allocator.available.Tie as tie
+use Rattle.native_ms.proofs.address.available.Statement.{statement}
+use Rattle.native_ms.proofs.address.available.Tie as tie
 
 list-of-requires : tie.Need-list-of-requires
 list-of-requires c κs = search needs

@@ -1,8 +1,8 @@
 -- The number of the list is that of `consumed`, and there is such a list.
 use Rattle.native_ms.proofs.Search.{number-consumed}
 use borrow.Author.Needs.{needs}
-use Rattle.native_ms.proofs.free_list_allocator.consumed.Statement.{statement}
-use Rattle.native_ms.proofs.free_list_allocator.consumed.Tie as tie
+use Rattle.native_ms.proofs.address.consumed.Statement.{statement}
+use Rattle.native_ms.proofs.address.consumed.Tie as tie
 
 add-list-of : tie.Need-add-list-of
 add-list-of c = search needs

@@ -1,8 +1,8 @@
 -- The number of the list is that of `unswept`, and there is such a list.
 use Rattle.native_ms.proofs.Search.{number-unswept}
 use borrow.Author.Needs.{needs}
-use Rattle.native_ms.proofs.free_list_allocator.unswept.Statement.{statement}
-use Rattle.native_ms.proofs.free_list_allocator.unswept.Tie as tie
+use Rattle.native_ms.proofs.address.unswept.Statement.{statement}
+use Rattle.native_ms.proofs.address.unswept.Tie as tie
 
 add-list-of : tie.Need-add-list-of
 add-list-of c = search needs
