@@ -8,7 +8,7 @@ use Rattle.model.specs.Params.{powerOfTwo, lowerOk, biased, plusLower, m
 use Rattle.model.specs.Memory.{loadBytes, bytesOf, overwrite, load, store, zeroed, bitOf, setBit, markIndex, marked, setMark, cleared}
 use Rattle.model.specs.Tables.{view, flat, setFirst, setLast, setBound, setReleased, setNext, setPrev, setFree, setSize, setList, setTls, setPhase, withReleased}
 use Rattle.model.specs.SizeClasses.{fours, classWords, cellBytes, wordsIn, highestBit, binInOctave, binOf, raised, shift, alignAllocation}
-use Rattle.model.specs.BlockList.{push, popHead, pop, removeBetween, remove, relabel, link, append, walk, blocksOn}
+use Rattle.model.specs.BlockList.{push, popHead, pop, removeBetween, remove, relabel, link, append, walk, blocksOn, appended}
 use Rattle.model.specs.Block.{cellCount, isCell, cellsDown, linkAll, initChain, initBlock, simple, keeps, sweepChain, sweptWords, clearBlock, chainFrom, freeChain}
 use Rattle.model.specs.Events.{eventHeap, eventsHeap, isSweep, isRelease, sweeps, releases}
 use Rattle.model.specs.FreeListAllocator.{findFreeBlockWith, recycleLocalBlocks, acquireAbandoned, acquireFresh, findBlock}
@@ -19,7 +19,7 @@ use Rattle.model.specs.Census.{before, pieces, dropBlankEnd, linesOf, is
 use Rattle.model.specs.Cases.{leastClass, classesRight, firstAlloc, cases, exampleTrace, exampleListing, same, allRight, collectedTrace, collectedListing, markingTrace, markingListing}
 
 pub cases-hold : allRight cases ≡ true
-unfolding cases allRight same firstAlloc leadingZeros allBelow anyBelow member filter eachBelow flag powerOfTwo lowerOk biased plusLower minusLower heapBytes heapEnd goodParams wordCount fits start blockAt inHeap isStart listOf listWord localSets available unswept consumed loadBytes bytesOf overwrite load store zeroed bitOf setBit markIndex marked setMark cleared view flat setFirst setLast setBound setReleased setNext setPrev setFree setSize setList setTls setPhase withReleased fours classWords cellBytes wordsIn highestBit binInOctave binOf raised shift alignAllocation push popHead pop headD removeBetween remove relabel link append walk blocksOn cellCount isCell cellsDown linkAll initChain initBlock simple keeps sweepChain sweptWords clearBlock chainFrom freeChain eventHeap eventsHeap isSweep isRelease sweeps releases findFreeBlockWith recycleLocalBlocks acquireAbandoned acquireFresh findBlock freshWords freshTables isHolder isBound bindHolder abandonBin abandonBlocks destroyHolder unmarkedState prepared markPlace releaseFrom releaseBlocks appendTo releaseBin releaseHolder sweepLaterBin sweepLater hasReleased allReleased partReleased stateOf stateKnown blockClear listNamed binNamed setNamed onListNamed sizeOk linkOk tlsOk blockSound linkedFrom linked ownerEmpty unboundEmpty inGcEmpty phaseKnown flagsKnown releasedFew releasedSome releasedEmpty sound refusalNumber goodRequest tooBig goodOffer goodObject takePlan planAlloc mayRelease releasePlan planSound plan takeCell finish step call setUp before pieces dropBlankEnd linesOf isDigit valueOf isNumber isWord numbersTo isLine arg isAlloc offerOf lineOf censusParams censusLent lineResult runLines digits decimal spaced section refusedRow upTo occupied letter blockRow awaitsSweep printedChain freeRows freeSection flatten flatMap listing census
+unfolding cases allRight same firstAlloc leadingZeros allBelow anyBelow member filter eachBelow flag powerOfTwo lowerOk biased plusLower minusLower heapBytes heapEnd goodParams wordCount fits start blockAt inHeap isStart listOf listWord localSets available unswept consumed loadBytes bytesOf overwrite load store zeroed bitOf setBit markIndex marked setMark cleared view flat setFirst setLast setBound setReleased setNext setPrev setFree setSize setList setTls setPhase withReleased fours classWords cellBytes wordsIn highestBit binInOctave binOf raised shift alignAllocation push popHead pop headD removeBetween remove relabel link append walk blocksOn appended cellCount isCell cellsDown linkAll initChain initBlock simple keeps sweepChain sweptWords clearBlock chainFrom freeChain eventHeap eventsHeap isSweep isRelease sweeps releases findFreeBlockWith recycleLocalBlocks acquireAbandoned acquireFresh findBlock freshWords freshTables isHolder isBound bindHolder abandonBin abandonBlocks destroyHolder unmarkedState prepared markPlace releaseFrom releaseBlocks appendTo releaseBin releaseHolder sweepLaterBin sweepLater hasReleased allReleased partReleased stateOf stateKnown blockClear listNamed binNamed setNamed onListNamed sizeOk linkOk tlsOk blockSound linkedFrom linked ownerEmpty unboundEmpty inGcEmpty phaseKnown flagsKnown releasedFew releasedSome releasedEmpty sound refusalNumber goodRequest tooBig goodOffer goodObject takePlan planAlloc mayRelease releasePlan planSound plan takeCell finish step call setUp before pieces dropBlankEnd linesOf isDigit valueOf isNumber isWord numbersTo isLine arg isAlloc offerOf lineOf censusParams censusLent lineResult runLines digits decimal spaced section refusedRow upTo occupied letter blockRow awaitsSweep printedChain freeRows freeSection flatten flatMap listing census
 cases-hold = refl
 
 -- the whole rule of the classes, once over all counts of words

@@ -12,6 +12,8 @@ use Rattle.model.specs.declared.AllocAnswer.{AllocAnswer}
 use Rattle.model.specs.declared.AllocAnswer.the-variants as Alloc
 use Rattle.model.specs.declared.MarkAnswer.{MarkAnswer}
 use Rattle.model.specs.declared.MarkAnswer.the-variants as Mark
+use Rattle.model.specs.declared.DestroyAnswer.{DestroyAnswer}
+use Rattle.model.specs.declared.DestroyAnswer.the-variants as Destroy
 use Rattle.model.specs.declared.ReleaseAnswer.{ReleaseAnswer}
 use Rattle.model.specs.declared.ReleaseAnswer.the-variants as Release
 use Rattle.model.specs.declared.PagesAnswer.{PagesAnswer}
@@ -20,7 +22,7 @@ use Rattle.model.specs.Base.{flag}
 use Rattle.model.specs.Params.{Lent}
 use Rattle.model.specs.Calls.{Reply, answered, refused, Call, bind, destroy, alloc, prepare, mark, release, sharedRelease, Result}
 
--- set-up, bind, destroy, prepare
+-- set-up, bind, prepare
 unfoldable pub replyOf : Answer → Reply
 replyOf = elim [ Simple.Done ↦ answered [] | Simple.Refused r ↦ refused r ]
 
@@ -32,9 +34,13 @@ allocReply = elim [ Alloc.Served a size fresh swept ↦ answered (a .0 ∷ size 
 unfoldable pub markReply : MarkAnswer → Reply
 markReply = elim [ Mark.Marked new ↦ answered (flag new ∷ []) | Mark.Refused r ↦ refused r ]
 
--- release and shared release: the blocks released
+-- destroy: the blocks that went over to abandoned (02, R-6)
+unfoldable pub destroyReply : DestroyAnswer → Reply
+destroyReply = elim [ Destroy.Destroyed n ↦ answered (n ∷ []) | Destroy.Refused r ↦ refused r ]
+
+-- release and shared release: the blocks released, and those merged from in-gc (02, R-6)
 unfoldable pub releaseReply : ReleaseAnswer → Reply
-releaseReply = elim [ Release.Released n ↦ answered (n ∷ []) | Release.Refused r ↦ refused r ]
+releaseReply = elim [ Release.Released n m ↦ answered (n ∷ m ∷ []) | Release.Refused r ↦ refused r ]
 
 -- pages used
 unfoldable pub pagesReply : PagesAnswer → Reply

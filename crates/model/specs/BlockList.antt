@@ -84,6 +84,11 @@ walk (suc k) p next a = if eqb a 0 then [] else (blockAt p a ∷ walk k p next (
 unfoldable pub blocksOn : Params → ℕ → Words → List ℕ
 blocksOn p l t = walk (p .blocks) p (t .next) (getD (t .first) l 0)
 
+-- 02, R-6: "Appending one list to another must also give the number of blocks appended, zero for an empty one": those on `other`
+-- before
+unfoldable pub appended : Params → ℕ → Words → ℕ
+appended p other t = length (blocksOn p other t)
+
 -- the walk meets only block starts and ends, by a 0, within k blocks
 unfoldable pub ends : ℕ → Params → List ℕ → ℕ → Bool
 ends zero p next a = eqb a 0

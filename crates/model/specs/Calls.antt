@@ -13,7 +13,7 @@ use Rattle.model.specs.declared.Offer.the-variants.{Nothing, Fresh}
 use Rattle.model.specs.declared.Refusal.{Refusal}
 use Rattle.model.specs.declared.Refusal.the-variants.{BadSetup, BadTables, WrongPhase, BadHolder, BadRequest, TooBig, BadOffer, BadLink, Exhausted, BadObject, BadLine}
 use Rattle.model.specs.Base.{if_then_else_, flag}
-use Rattle.model.specs.Params.{goodParams, powerOfTwo, Lent, fits, wordCount, heapEnd, inHeap, start, blockAt, minusLower}
+use Rattle.model.specs.Params.{goodParams, powerOfTwo, Lent, fits, wordCount, heapEnd, inHeap, start, blockAt, minusLower, localSets, abandoned}
 use Rattle.model.specs.Memory.{load, marked}
 use Rattle.model.specs.Tables.{Words, Tables, tablesOf, withWords, view, flat, setFree}
 use Rattle.model.specs.SizeClasses.{binOf, raised, alignAllocation}
@@ -21,7 +21,7 @@ use Rattle.model.specs.BlockList.{pagesUsed, pagesEnd}
 use Rattle.model.specs.Block.{Unallocated}
 use Rattle.model.specs.Events.{Event, taken, eventHeap, eventsHeap, sweeps, releases}
 use Rattle.model.specs.FreeListAllocator.{Search, findBlock}
-use Rattle.model.specs.Global.{Running, Marking, Releasing, freshTables, isHolder, isBound, hasReleased, bindHolder, destroyHolder, prepared, markPlace, Freed, releaseHolder, sweepLater, partReleased}
+use Rattle.model.specs.Global.{Running, Marking, Releasing, freshTables, isHolder, isBound, hasReleased, bindHolder, abandonedBlocks, destroyHolder, prepared, markPlace, Freed, releaseHolder, sweepLater, partReleased, merged}
 use Rattle.model.specs.Sound.{sound, stateOf, linkOk}
 
 -- ---- refusals and replies
@@ -124,11 +124,11 @@ planAlloc p t h size align offset offer =
 unfoldable pub mayRelease : Words → Bool
 mayRelease w = eqb (w .phase) Marking || eqb (w .phase) Releasing
 
--- blocks were released, and so a part is done
+-- blocks were released, and so a part is done. The answer: blocks released, blocks merged
 unfoldable pub releasePlan : Params → ℕ → Tables → Freed → Plan
 releasePlan p part t f =
     let tables : Tables = tablesOf (partReleased p part (f .words)) (f .states) (t .marks) in
-    record { tables = tables; events = f .events; end = says (answered (releases (f .events) ∷ [])) }
+    record { tables = tables; events = f .events; end = says (answered (releases (f .events) ∷ merged p part (f .words) ∷ [])) }
 
 unfoldable pub planSound : Params → Tables → Call → Plan
 planSound p t (bind h) =
@@ -138,7 +138,7 @@ planSound p t (bind h) =
 planSound p t (destroy h) =
     if not (eqb (t .words .phase) Running) then refuses t WrongPhase
     else if not (isBound (t .words) h) then refuses t BadHolder
-    else changes (destroyHolder p h t) []
+    else changes (destroyHolder p h t) (abandonedBlocks p abandoned (localSets h) (t .words) ∷ [])
 planSound p t (alloc h size align offset offer) = planAlloc p t h size align offset offer
 planSound p t prepare =
     if not (eqb (t .words .phase) Running) then refuses t WrongPhase

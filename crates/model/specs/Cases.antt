@@ -12,7 +12,7 @@ use Rattle.model.specs.Params.{Lent, start}
 use Rattle.model.specs.Memory.{marked, setMark}
 use Rattle.model.specs.Tables.{Words}
 use Rattle.model.specs.SizeClasses.{cellBytes, binOf, raised, shift}
-use Rattle.model.specs.BlockList.{push}
+use Rattle.model.specs.BlockList.{push, appended}
 use Rattle.model.specs.Block.{initChain, sweepChain}
 use Rattle.model.specs.Events.{releases}
 use Rattle.model.specs.Global.{freshWords, releaseFrom}
@@ -67,6 +67,8 @@ cases =
     ∷ gives (initChain censusParams 2 1280) (27136 ∷ 25856 ∷ 24576 ∷ [])
     -- two Unmarked blocks of one list are both released: next is read before a block is removed
     ∷ gives (releases (releaseFrom 4 censusParams 1 (start censusParams 1) twoBlocks (255 ∷ 255 ∷ 0 ∷ 0 ∷ []) .events) ∷ []) (2 ∷ [])
+    -- an append of these two blocks gives 2, one of an empty list 0 (02, R-6)
+    ∷ gives (appended censusParams 1 twoBlocks ∷ appended censusParams 2 twoBlocks ∷ []) (2 ∷ 0 ∷ [])
     ∷ gives (firstAlloc 4096 8 ∷ firstAlloc 4096 16 ∷ firstAlloc 4088 16 ∷ []) (0 ∷ 6 ∷ 0 ∷ [])
     ∷ []
 

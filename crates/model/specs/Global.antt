@@ -10,17 +10,17 @@
 -- | release        | Marking, Releasing | Unmarked blocks released, its unswept lists apart; the rest to in-gc      | Releasing, |
 -- | shared release | Marking, Releasing | abandoned Unmarked blocks released; the rest unswept                      | Releasing, |
 -- |                |                    | the last of these: in-gc merged into abandoned                            | or Running |
-use Prim.Native.Nat.{ℕ, zero, suc, _-_, _*_, _/_}
+use Prim.Native.Nat.{ℕ, zero, suc, _+_, _-_, _*_, _/_}
 use mathlib.Core.Bool.{Bool, true, false, not, _&&_, _||_}
 use mathlib.Core.List.{List, [], _∷_, _++_, map}
 use lib.Dec.{eqb, leb}
 use lib.ListN.{getD, set, replicate}
 use Rattle.model.specs.declared.Params.{Params}
-use Rattle.model.specs.Base.{if_then_else_, allBelow, eachBelow}
+use Rattle.model.specs.Base.{if_then_else_, allBelow, sumBelow, eachBelow}
 use Rattle.model.specs.Params.{wordCount, blockAt, heapBytes, localSets, abandoned, inGc, available, unswept, consumed, bins}
 use Rattle.model.specs.Memory.{marked, setMark, cleared}
 use Rattle.model.specs.Tables.{Words, view, Tables, tablesOf, withWords, setPhase, setBound, setReleased, withReleased}
-use Rattle.model.specs.BlockList.{remove, append}
+use Rattle.model.specs.BlockList.{remove, append, appended}
 use Rattle.model.specs.Block.{Unallocated, Unmarked, Marked, clearBlock}
 use Rattle.model.specs.Events.{Event, released}
 
@@ -62,6 +62,20 @@ abandonBin p to from bin t =
 
 unfoldable pub abandonBlocks : Params → ℕ → ℕ → Words → Words
 abandonBlocks p to from t = eachBelow bins (abandonBin p to from) t
+
+-- 02, R-6: "Destroy answers the sum over its lists". The blocks of one bin, each list counted where it is appended
+unfoldable pub abandonedBin : Params → ℕ → ℕ → ℕ → Words → ℕ
+abandonedBin p to from bin t =
+    let t₁ : Words = append p (available to bin) (available from bin) t in
+    let t₂ : Words = append p (consumed to bin) (consumed from bin) t₁ in
+    appended p (available from bin) t + appended p (consumed from bin) t₁ + appended p (unswept from bin) t₂
+
+-- and of the bins below n, each on the words that the bins before it left
+unfoldable pub abandonedBelow : ℕ → Params → ℕ → ℕ → Words → ℕ
+abandonedBelow n p to from t = sumBelow n (λ bin. abandonedBin p to from bin (eachBelow bin (abandonBin p to from) t))
+
+unfoldable pub abandonedBlocks : Params → ℕ → ℕ → Words → ℕ
+abandonedBlocks p to from t = abandonedBelow bins p to from t
 
 -- "Destroy (Running) hands lists to abandoned."
 unfoldable pub destroyHolder : Params → ℕ → Tables → Tables
@@ -155,3 +169,9 @@ unfoldable pub partReleased : Params → ℕ → Words → Words
 partReleased p part t =
     let t₁ : Words = setReleased part 1 (setPhase Releasing t) in
     if allReleased t₁ then setPhase Running (withReleased (replicate 9 0) (abandonBlocks p abandoned inGc t₁)) else t₁
+
+-- 02, R-6: "the last release answers the number merged from in-gc"; one that is not the last merges none
+unfoldable pub merged : Params → ℕ → Words → ℕ
+merged p part t =
+    let t₁ : Words = setReleased part 1 (setPhase Releasing t) in
+    if allReleased t₁ then abandonedBlocks p abandoned inGc t₁ else 0

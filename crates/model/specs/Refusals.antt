@@ -1,15 +1,16 @@
 -- Demand 1, of any call on anything lent: it "gives its result or document 01's refusal; on a refusal changes nothing, save that
--- after BadLink and Exhausted the block moves and sweeps already made stand." And demand 2's count of released blocks, by the
--- state bytes before and after.
+-- after BadLink and Exhausted the block moves and sweeps already made stand." And demand 2's count of released blocks and R-6's of
+-- those that went over, by state bytes and list words before and after.
 --
--- Both are about `call` (Calls.antt), for all parameters, buffers and calls: that buffers fit and that tables are sound is
--- tested by the call itself and is no premise. `RefusalKeeps`, `ReleasedCounts` and `NoBadTables` are proved in the crate soundness.
-use Prim.Native.Nat.{ℕ}
+-- They are about `call` (Calls.antt), for all parameters, buffers and calls: that buffers fit and that tables are sound is
+-- tested by the call itself and is no premise. `RefusalKeeps`, `ReleasedCounts`, `DestroyedCounts` and `NoBadTables` are proved in
+-- the crate soundness.
+use Prim.Native.Nat.{ℕ, _+_}
 use mathlib.Core.Path.{_≡_}
 use mathlib.Core.Logic.{_≢_, _⊎_}
 use mathlib.Core.Bool.{Bool, true, false, not, _&&_, _||_}
 use mathlib.Core.List.{List, [], _∷_}
-use lib.Dec.{eqb}
+use lib.Dec.{eqb, ltb, leb}
 use lib.ListN.{getD}
 use Rattle.model.specs.declared.Params.{Params}
 use Rattle.model.specs.declared.Refusal.the-variants.{BadTables, BadLink, Exhausted}
@@ -19,7 +20,7 @@ use Rattle.model.specs.Memory.{load}
 use Rattle.model.specs.Tables.{Words, view}
 use Rattle.model.specs.SizeClasses.{binOf, raised}
 use Rattle.model.specs.Block.{Unallocated, sweepChain}
-use Rattle.model.specs.Sound.{linkOk}
+use Rattle.model.specs.Sound.{setNamed, linkOk}
 use Rattle.model.specs.Calls.{refusalNumber, answered, Call, bind, destroy, alloc, prepare, mark, release, sharedRelease, Result, call, setUp, badSetup}
 use Rattle.model.specs.Runs.{Turn, begun, Seen, trace}
 
@@ -136,10 +137,35 @@ madeUnallocated p l m =
     sumBelow (p .blocks)
     (λ b. flag (not (eqb (getD (l .states) b 0) Unallocated) && eqb (getD (m .states) b 0) Unallocated))
 
--- what a release or a shared release answers is that number, whatever is lent
+-- ---- 02, R-6: "how many blocks went over", counted by the blocks themselves
+
+-- the block b is in use, and the list that it names is of the owner with this first set
+unfoldable pub isOf : ℕ → Lent → ℕ → Bool
+isOf owner l b =
+    not (eqb (getD (l .states) b 0) Unallocated)
+    && (leb owner (setNamed (view (l .words)) b) && ltb (setNamed (view (l .words)) b) (owner + 3))
+
+-- the blocks of a holder
+unfoldable pub blocksOf : Params → Lent → ℕ → ℕ
+blocksOf p l h = sumBelow (p .blocks) (λ b. flag (isOf (localSets h) l b))
+
+-- the blocks that are on an abandoned list after a call and were on none before it
+unfoldable pub wentOver : Params → Lent → Lent → ℕ
+wentOver p l m = sumBelow (p .blocks) (λ b. flag (not (isOf abandoned l b) && isOf abandoned m b))
+
+-- "Destroy answers the sum over its lists": as many as name a list of the holder, and all of them go over
+unfoldable pub DestroyedCounts : Type 0
+DestroyedCounts =
+    (p : Params) (l : Lent) (h : ℕ) → call p l (destroy h) .reply .number ≡ 0
+    → (call p l (destroy h) .reply .values ≡ blocksOf p l h ∷ [])
+    × (call p l (destroy h) .reply .values ≡ wentOver p l (call p l (destroy h) .lent) ∷ [])
+
+-- What a release or a shared release answers, whatever is lent: the blocks made Unallocated, and those that went over: "the last
+-- release answers the number merged from in-gc". By one that is not the last no block goes over
 unfoldable pub CountsReleased : Params → Lent → Call → Type 0
 CountsReleased p l c =
-    call p l c .reply .number ≡ 0 → call p l c .reply .values ≡ madeUnallocated p l (call p l c .lent) ∷ []
+    call p l c .reply .number ≡ 0
+    → call p l c .reply .values ≡ madeUnallocated p l (call p l c .lent) ∷ wentOver p l (call p l c .lent) ∷ []
 
 unfoldable pub ReleasedCounts : Type 0
 ReleasedCounts = (p : Params) (l : Lent) → ((h : ℕ) → CountsReleased p l (release h)) × CountsReleased p l sharedRelease

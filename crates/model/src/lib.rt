@@ -146,7 +146,7 @@ pub enum Refusal {
     BadLine,
 }
 
-// The answer of set-up, bind, destroy and prepare.
+// The answer of set-up, bind and prepare.
 pub enum Answer {
     Done,
     Refused(Refusal),
@@ -169,9 +169,15 @@ pub enum MarkAnswer {
     Refused(Refusal),
 }
 
-// The answer of release and shared release: how many blocks it made Unallocated.
+// The answer of destroy: how many blocks went over to abandoned.
+pub enum DestroyAnswer {
+    Destroyed { blocks: usize },
+    Refused(Refusal),
+}
+
+// The answer of release and shared release: how many blocks it made Unallocated, and how many it merged from in-gc.
 pub enum ReleaseAnswer {
-    Released { blocks: usize },
+    Released { blocks: usize, merged: usize },
     Refused(Refusal),
 }
 

@@ -25,6 +25,10 @@ use Rattle.native_ms.specs.Counted.{binsIn, countOf, counted, countedBin
 
 -- ---- one list
 
+-- one block more is counted, and one fewer is left
+pub count-again : (n k b : ℕ) → 0 < k → n + k ≡ b → n + 1 + (k - 1) ≡ b
+count-again n k b h e = omega arith
+
 pub walk-few : (k : ℕ) (p : Params) (next : List ℕ) (a : ℕ) → length (walk k p next a) ≤ k
 unfolding walk
 walk-few zero p next a = omega arith

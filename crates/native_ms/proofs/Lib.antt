@@ -1,5 +1,6 @@
 pub mod RaisedLaws
 pub mod CountedLaws
+pub mod MovedLaws
 pub mod RecordsLaws
 pub mod SoundWalkLaws
 pub mod SoundLaws

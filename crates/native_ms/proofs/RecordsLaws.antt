@@ -7,13 +7,14 @@ use lib.ListN.{length, getD, length-map, List·getD-map}
 use Rattle.model.specs.declared.Address.{Address}
 use Rattle.model.specs.declared.Params.{Params}
 use Rattle.model.specs.Tables.{Words, view, setFirst, setLast}
-use Rattle.model.specs.BlockList.{Popped, popped, pop, append}
+use Rattle.model.specs.BlockList.{Popped, popped, pop}
 use Rattle.model.specs.Calls.{pages}
 use Rattle.native_ms.specs.declared.block_list.BlockList.{BlockList}
 use Rattle.native_ms.specs.declared.block_list.Counted.{Counted}
 use Rattle.native_ms.specs.Counted.{countedBins, setFits, binsIn, pagesSaid}
 use Rattle.native_ms.proofs.CountedLaws.{pages-said}
-use Rattle.native_ms.specs.Records.{appendOn, appended, firsts, held, heldBoth, heldPopped, onRecord, popOn, recordAt, withRecord}
+use Rattle.native_ms.specs.Moved.{Moved, moved, appendMoves}
+use Rattle.native_ms.specs.Records.{appendOn, appendBoth, firsts, held, heldBoth, heldPopped, onRecord, popOn, recordAt, withRecord}
 
 -- ---- the two, store by store and read by read
 
@@ -44,13 +45,14 @@ module _ (l : ℕ) (r : BlockList) (t : Words) {t₁ t₂ : Words} (e₁ : t₁ 
       let v : popped a t₂ ≡ pop p l (withRecord l r t) = e₂ ∙ ap (pop p l) e₁ in
       λ i. heldPopped ((e ∙ ap (λ (q : Popped). recordAt l (r .size) (q .words)) v) i) (v i)
 
-  pub append-on : (p : Params) (o : ℕ) (k : BlockList) {t₃ : Words} {s u : BlockList} → t₂ ≡ withRecord o k t₁
-      → t₃ ≡ append p l o t₂
-      → s ≡ recordAt l (r .size) t₃ → u ≡ recordAt o (k .size) t₃ → heldBoth s u t₃ ≡ appendOn p l o r k t
+  pub append-on : (p : Params) (o : ℕ) (k : BlockList) {n : ℕ} {t₃ : Words} {s u : BlockList} → t₂ ≡ withRecord o k t₁
+      → moved n t₃ ≡ appendMoves p l o t₂
+      → s ≡ recordAt l (r .size) t₃ → u ≡ recordAt o (k .size) t₃ → heldBoth s u (moved n t₃) ≡ appendOn p l o r k t
   unfolding appendOn
-  append-on p o k {t₃} e₂ e₃ e e′ =
-      let v : t₃ ≡ appended p l o r k t = e₃ ∙ ap (append p l o) (e₂ ∙ ap (withRecord o k) e₁) in
-      λ i. heldBoth ((e ∙ ap (recordAt l (r .size)) v) i) ((e′ ∙ ap (recordAt o (k .size)) v) i) (v i)
+  append-on p o k {n} {t₃} e₂ e₃ e e′ =
+      let v : moved n t₃ ≡ appendBoth p l o r k t = e₃ ∙ ap (appendMoves p l o) (e₂ ∙ ap (withRecord o k) e₁) in
+      λ i. heldBoth ((e ∙ ap (λ (q : Moved). recordAt l (r .size) (q .words)) v) i)
+      ((e′ ∙ ap (λ (q : Moved). recordAt o (k .size) (q .words)) v) i) (v i)
 
 -- ---- firsts, by number
 

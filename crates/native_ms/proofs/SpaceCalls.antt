@@ -14,25 +14,25 @@ use lib.Seq.{ext-getD, getD-set-same, getD-set-other}
 use Rattle.model.specs.declared.Params.{Params}
 use Rattle.model.specs.declared.Refusal.the-variants.{BadSetup, WrongPhase, BadHolder, BadObject}
 use Rattle.model.specs.Base.{eachBelow, flag}
-use Rattle.model.specs.Params.{goodParams, fits, wordCount, heapBytes, start, minusLower, inHeap, localSets, available, unswept, consumed}
+use Rattle.model.specs.Params.{goodParams, fits, wordCount, heapBytes, start, minusLower, inHeap, localSets}
 use Rattle.model.specs.Memory.{marked, setMark, cleared}
 use Rattle.model.specs.Tables.{Words, Tables, tablesOf, view, flat, setBound, setPhase, setReleased, withReleased}
 use Rattle.model.specs.Events.{releases}
-use Rattle.model.specs.BlockList.{append}
-use Rattle.model.specs.Global.{freshWords, freshTables, isHolder, isBound, hasReleased, bindHolder, destroyHolder, abandonBin, abandonBlocks, unmarkedState, prepared, markPlace, Freed, releaseHolder, sweepLater, allReleased, partReleased}
+use Rattle.model.specs.Global.{freshWords, freshTables, isHolder, isBound, hasReleased, bindHolder, destroyHolder, abandonedBlocks, unmarkedState, prepared, markPlace, Freed, releaseHolder, sweepLater, partReleased, merged}
 use Rattle.model.specs.Sound.{stateOf}
 use Rattle.model.specs.Calls.{answered, refused, Call, bind, destroy, prepare, mark, release, sharedRelease, says, changes, goodObject, mayRelease, releasePlan, planSound, setUp}
 use Rattle.laws.proofs.Below.{and-left, and-right, or-left}
-use Rattle.laws.proofs.Base.{if-true, if-false}
 use Rattle.laws.proofs.Params.{good-bounds, start-in, block-small}
 use Rattle.laws.proofs.Tables.{flat-view}
 use Rattle.model.specs.Promise.{lend, Promised, SetUpPromised}
 use Rattle.native_ms.specs.Released.{Out, out, total}
-use Rattle.native_ms.specs.Space.{lengthsFit, inBlock, collected}
+use Rattle.native_ms.specs.Moved.{Moved, moved, binsMove, partMoves}
+use Rattle.native_ms.specs.Space.{lengthsFit, inBlock}
 use Rattle.native_ms.specs.declared.global.Tested.the-variants.{Passed}
 use Rattle.native_ms.specs.Checked.{refusedIf, phaseTest, boundTests, bindTests, markTests, releaseTests, sharedTests}
 use Rattle.native_ms.proofs.Tests.{fit-words, fits-same, passed-if, passed-not, last-passed, Passing, says-so, says-done, planAfter, plan-one, plan-two}
 use Rattle.native_ms.proofs.Releases.{Quiet}
+use Rattle.native_ms.proofs.MovedLaws.{over-words, over-number}
 
 -- ---- holders
 
@@ -87,30 +87,29 @@ bind-done n a l v = says-done (a .open-to) (bind n) (a .plan-is) l v refl refl
 -- ---- destroy
 
 pub destroy-plan : (p : Params) (t : Tables) (n : ℕ)
-    → planSound p t (destroy n) ≡ planAfter t (boundTests (t .words) n) (changes (destroyHolder p n t) [])
+    → planSound p t (destroy n) ≡ planAfter t (boundTests (t .words) n) (changes (destroyHolder p n t) (abandonedBlocks p 24 (localSets n) (t .words) ∷ []))
 unfolding planSound boundTests phaseTest
 destroy-plan p t n =
-    plan-two t (changes (destroyHolder p n t) []) (not (eqb (t .words .phase) 0)) (not (isBound (t .words) n))
+    plan-two t (changes (destroyHolder p n t) (abandonedBlocks p 24 (localSets n) (t .words) ∷ [])) (not (eqb (t .words .phase) 0)) (not (isBound (t .words) n))
     WrongPhase BadHolder
 
 pub bound-by : (t : Words) (n : ℕ) → boundTests t n ≡ Passed → isBound t n ≡ true
 unfolding boundTests
 bound-by t n e = passed-not (isBound t n) BadHolder (last-passed (phaseTest t 0) _ e)
 
-pub destroy-done : {p : Params} {w s m h : List ℕ} (n : ℕ) {owner : ℕ} {t₁ : Words} {w′ : List ℕ}
-    → Passing p w s m h (destroy n) (changes (destroyHolder p n (tablesOf (view w) s m)) []) → length w′ ≡ length w
-    → owner ≡ localSets n → t₁ ≡ abandonBlocks p 24 owner (view w) → view w′ ≡ setBound (n - 1) 0 t₁
-    → Promised p (lend w s m h) (destroy n) (answered []) (lend w′ s m h)
+pub destroy-done : {p : Params} {w s m h : List ℕ} (n : ℕ) {owner k : ℕ} {t₁ : Words} {w′ : List ℕ}
+    → Passing p w s m h (destroy n) (changes (destroyHolder p n (tablesOf (view w) s m)) (abandonedBlocks p 24 (localSets n) (view w) ∷ []))
+    → length w′ ≡ length w
+    → owner ≡ localSets n → moved k t₁ ≡ binsMove 49 p 24 owner (view w) → view w′ ≡ setBound (n - 1) 0 t₁
+    → Promised p (lend w s m h) (destroy n) (answered (k ∷ [])) (lend w′ s m h)
 unfolding destroyHolder
-destroy-done {p} {w} n {owner} {t₁} a l eo e₁ v =
-    says-done (a .open-to) (destroy n) (a .plan-is) l
-    (v ∙ ap (setBound (n - 1) 0) (e₁ ∙ ap (λ (k : ℕ). abandonBlocks p 24 k (view w)) eo)) refl refl
+destroy-done {p} {w} {s} {m} n {owner} {k} {t₁} a l eo e₁ v =
+    let e : moved k t₁ ≡ binsMove 49 p 24 (localSets n) (view w) = e₁ ∙ ap (λ (x : ℕ). binsMove 49 p 24 x (view w)) eo in
+    let d : planSound p (tablesOf (view w) s m) (destroy n) ≡ changes (destroyHolder p n (tablesOf (view w) s m)) (k ∷ []) =
+    a .plan-is ∙ ap (λ (x : ℕ). changes (destroyHolder p n (tablesOf (view w) s m)) (x ∷ [])) (sym (over-number p 24 (localSets n) (view w) e)) in
+    says-done (a .open-to) (destroy n) d l (v ∙ ap (setBound (n - 1) 0) (over-words p 24 (localSets n) (view w) e)) refl refl
 
--- ---- lists of an owner, bin by bin
-
-pub abandon-bin : (p : Params) (to from bin : ℕ) {a u c fa fu fc : ℕ} (t : Words) {t₁ t₂ t₃ : Words} → a ≡ available to bin → u ≡ unswept to bin → c ≡ consumed to bin → fa ≡ available from bin → fu ≡ unswept from bin → fc ≡ consumed from bin → t₁ ≡ append p a fa t → t₂ ≡ append p c fc t₁ → t₃ ≡ append p u fu t₂ → t₃ ≡ abandonBin p to from bin t
-unfolding abandonBin
-abandon-bin p to from bin t ea eu ec eda edu edc e₁ e₂ e₃ = rw (e₃, e₂, e₁, ea, eu, ec, eda, edu, edc)
+-- ---- bin by bin
 
 pub each-none : {A : Type 0} (f : ℕ → A → A) (x : A) → x ≡ eachBelow 0 f x
 unfolding eachBelow
@@ -337,18 +336,19 @@ shared-plan p t =
     plan-one t (releasePlan p 0 t (sweepLater p (t .words) (t .states)))
     (not (mayRelease (t .words)) || hasReleased (t .words) 0) WrongPhase
 
-pub release-done : {p : Params} {w s m h : List ℕ} (c : Call) (part : ℕ) (f : Freed) {n : ℕ} {t₁ : Words} {w′ s′ : List ℕ}
+pub release-done : {p : Params} {w s m h : List ℕ} (c : Call) (part : ℕ) (f : Freed) {n k : ℕ} {t₁ : Words} {w′ s′ : List ℕ}
     → Passing p w s m h c (releasePlan p part (tablesOf (view w) s m) f) → Quiet p (f .events) → out n t₁ s′ ≡ total f
-    → length w′ ≡ length w → view w′ ≡ partReleased p part t₁
-    → Promised p (lend w s m h) c (answered (n ∷ [])) (lend w′ s′ m h)
-unfolding releasePlan Quiet total
-release-done {p} {w} {s} {m} {h} c part f {n} {t₁} {w′} {s′} a quiet q l v =
+    → length w′ ≡ length w → moved k (view w′) ≡ partMoves p part t₁
+    → Promised p (lend w s m h) c (answered (n ∷ k ∷ [])) (lend w′ s′ m h)
+unfolding releasePlan Quiet total partMoves
+release-done {p} {w} {s} {m} {h} c part f {n} {k} {t₁} {w′} {s′} a quiet q l v =
     let en : n ≡ releases (f .events) = ap (λ (x : Out). x .number) q in
     let ew : t₁ ≡ f .words = ap (λ (x : Out). x .words) q in
     let es : s′ ≡ f .states = ap (λ (x : Out). x .states) q in
-    let d : planSound p (tablesOf (view w) s m) c ≡ record { tables = tablesOf (partReleased p part (f .words)) (f .states) m; events = f .events; end = says (answered (n ∷ [])) } =
-    a .plan-is ∙ rw (← en) in
-    says-so (a .open-to) c d (quiet h) l (v ∙ ap (partReleased p part) ew) es refl
+    let ek : k ≡ merged p part (f .words) = ap (λ (x : Moved). x .number) v ∙ ap (merged p part) ew in
+    let d : planSound p (tablesOf (view w) s m) c ≡ record { tables = tablesOf (partReleased p part (f .words)) (f .states) m; events = f .events; end = says (answered (n ∷ k ∷ [])) } =
+    a .plan-is ∙ rw (← en, ← ek) in
+    says-so (a .open-to) c d (quiet h) l (ap (λ (x : Moved). x .words) v ∙ ap (partReleased p part) ew) es refl
 
 -- ---- the end of a collection
 
@@ -390,21 +390,3 @@ pub unreleased-end : (w : List ℕ) (i : ℕ) {u : Words} → 2958 ≤ length w 
 unreleased-end w i h l g e =
     let q : i ≡ 9 = omega arith in
     e ∙ ap (λ (k : ℕ). unreleased k (view w)) q ∙ unreleased-all (view w) (released-nine w h)
-
-pub collected-at : (p : Params) (t : Words) {t₁ t₂ t₃ : Words} → t₁ ≡ abandonBlocks p 24 27 t → t₂ ≡ withReleased (replicate 9 0) t₁ → t₃ ≡ setPhase 0 t₂ → t₃ ≡ collected p t
-unfolding collected
-collected-at p t e₁ e₂ e₃ = e₃ ∙ ap (setPhase 0) (e₂ ∙ ap (withReleased (replicate 9 0)) e₁)
-
-module _ (p : Params) (part : ℕ) (t : Words) {t₁ t₂ : Words} {b : Bool} (e₁ : t₁ ≡ setPhase 2 t) (e₂ : t₂ ≡ setReleased part 1 t₁) (eb : b ≡ allReleased t₂) where
-  part-at : t₂ ≡ setReleased part 1 (setPhase 2 t)
-  part-at = e₂ ∙ ap (setReleased part 1) e₁
-
-  pub part-last : {t₃ : Words} → b ≡ true → t₃ ≡ collected p t₂ → t₃ ≡ partReleased p part t
-  unfolding partReleased collected
-  part-last z e₃ =
-      e₃ ∙ ap (collected p) part-at
-      ∙ sym (if-true _ _ _ (sym (ap allReleased part-at) ∙ sym eb ∙ z))
-
-  pub part-due : b ≡ false → t₂ ≡ partReleased p part t
-  unfolding partReleased
-  part-due z = part-at ∙ sym (if-false _ _ _ (sym (ap allReleased part-at) ∙ sym eb ∙ z))

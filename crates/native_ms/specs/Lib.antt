@@ -1,6 +1,8 @@
 pub mod Raised
 pub mod Block
 pub mod Counted
+pub mod Space
+pub mod Moved
 pub mod Records
 pub mod SoundWalk
 pub mod Closing
@@ -8,5 +10,4 @@ pub mod Ending
 pub mod Checked
 pub mod Abandoned
 pub mod Released
-pub mod Space
 pub mod SoundLent

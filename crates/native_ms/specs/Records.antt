@@ -5,7 +5,8 @@ use mathlib.Core.List.{List, map}
 use lib.ListN.{getD}
 use Rattle.model.specs.declared.Params.{Params}
 use Rattle.model.specs.Tables.{Words, setFirst, setLast}
-use Rattle.model.specs.BlockList.{Popped, pop, append}
+use Rattle.model.specs.BlockList.{Popped, pop}
+use Rattle.native_ms.specs.Moved.{Moved, appendMoves}
 use Rattle.native_ms.specs.declared.block_list.BlockList.{BlockList}
 
 -- the words with the record's ends at the list l
@@ -39,21 +40,22 @@ heldPopped r q = record { list = r; taken = q }
 unfoldable pub popOn : Params → ℕ → BlockList → Words → HeldPopped
 popOn p l r t = heldPopped (recordAt l (r .size) (pop p l (withRecord l r t) .words)) (pop p l (withRecord l r t))
 
--- the same for append, which has two records
+-- the same for append, which has two records and gives the number of blocks appended beside the words
 pub record HeldBoth : Type 0 where
   pub list : BlockList
   pub other : BlockList
-  pub words : Words
+  pub gone : Moved
 
-abbrev pub heldBoth : BlockList → BlockList → Words → HeldBoth
-heldBoth r s t = record { list = r; other = s; words = t }
+abbrev pub heldBoth : BlockList → BlockList → Moved → HeldBoth
+heldBoth r s q = record { list = r; other = s; gone = q }
 
-abbrev pub appended : Params → ℕ → ℕ → BlockList → BlockList → Words → Words
-appended p l o r s t = append p l o (withRecord o s (withRecord l r t))
+abbrev pub appendBoth : Params → ℕ → ℕ → BlockList → BlockList → Words → Moved
+appendBoth p l o r s t = appendMoves p l o (withRecord o s (withRecord l r t))
 
 unfoldable pub appendOn : Params → ℕ → ℕ → BlockList → BlockList → Words → HeldBoth
 appendOn p l o r s t =
-    heldBoth (recordAt l (r .size) (appended p l o r s t)) (recordAt o (s .size) (appended p l o r s t)) (appended p l o r s t)
+    let q : Moved = appendBoth p l o r s t in
+    heldBoth (recordAt l (r .size) (q .words)) (recordAt o (s .size) (q .words)) q
 
 -- where the records' lists start
 unfoldable pub firsts : List BlockList → List ℕ

@@ -14,10 +14,11 @@ ghost use Prim.Native.Nat.{_<_, _≤_, _*_};
 ghost use lib.ListN.{length};
 ghost use Rattle.model.specs.Params.{goodParams};
 ghost use Rattle.model.specs.Tables.{view};
-ghost use Rattle.model.specs.BlockList.{popped, push, pop, remove, relabel, link, append};
+ghost use Rattle.model.specs.BlockList.{popped, push, pop, remove, relabel, link, walk};
 ghost use Rattle.model.specs.Calls.{pages};
 ghost use Rattle.model.specs.Answers.{pagesReply};
 ghost use Rattle.native_ms.specs.Counted.{countedFrom, countedBins, countOf, countedMore, setFits, binsIn, pagesSaid};
+ghost use Rattle.native_ms.specs.Moved.{moved, appendMoves};
 ghost use Rattle.native_ms.specs.Records.{withRecord, recordAt, held, onRecord, heldPopped, popOn, heldBoth, appendOn, firsts};
 
 // Adds the block at the head of the list l.
@@ -155,19 +156,42 @@ pub(crate) fn link(p: Params, w: &mut [usize], l: usize, other: usize)
     }
 }
 
-// Moves the blocks of the list `other` behind those of the list l.
-pub(crate) fn append(p: Params, w: &mut [usize], l: usize, other: usize)
+// How many blocks stand from the one at `at` on.
+fn count_from(p: Params, w: &[usize], at: Address) -> usize
+    requires { ⌜ goodParams p ≡ true ⌝ }
+    ensures { λ r. ⌜ r ≡ length (walk (p .blocks) p (view (now (w .entry)) .next) (at .0)) ⌝ }
+{
+    let mut k = p.blocks;
+    let mut met: usize = 0;
+    let mut a = at.0;
+    while 0 < k {
+        if a == 0 {
+            return met;
+        }
+        let b = address::block_at(p, Address(a));
+        let i = b.0;
+        a = tables::next(w, i);
+        met = met + 1;
+        k = k - 1;
+    }
+    met
+}
+
+// Moves the blocks of the list `other` behind those of the list l, and says how many they are.
+pub(crate) fn append(p: Params, w: &mut [usize], l: usize, other: usize) -> usize
     requires { ⌜ (goodParams p ≡ true) × (l < 1470) ⌝ }
-    ensures { λ _. ⌜ view (now (w .exit)) ≡ append p l other (view (now (w .entry))) ⌝ }
+    ensures { λ r. ⌜ moved r (view (now (w .exit))) ≡ appendMoves p l other (view (now (w .entry))) ⌝ }
 {
     let f = tables::first(w, other);
     if f == 0 {
-        return;
+        return 0;
     }
+    let n = count_from(p, w, Address(f)); // before link, which leads the last block on
     link(p, w, l, other);
     relabel(p, w, l, Address(f));
     tables::set_first(w, other, 0);
     tables::set_last(w, other, 0);
+    n
 }
 
 // How many blocks a walk passes, or that it meets a link that is no block start or does not end.
@@ -289,10 +313,11 @@ fn popped_record(r: BlockList, p: Params, w: &mut [usize], l: usize) -> PoppedRe
     PoppedRecord { list, at }
 }
 
-// The two records that append leaves.
+// The two records that append leaves, and how many blocks went over.
 struct AppendedRecords {
     list: BlockList,
     other: BlockList,
+    blocks: usize,
 }
 
 fn appended(
@@ -304,14 +329,18 @@ fn appended(
     other: usize,
 ) -> AppendedRecords
     requires { ⌜ (goodParams p ≡ true) × (l < 1470) ⌝ }
-    ensures { λ s. ⌜ heldBoth (s .list) (s .other) (view (now (w .exit))) ≡ appendOn p l other r o (view (now (w .entry))) ⌝ }
+    ensures { λ s. ⌜ heldBoth (s .list) (s .other) (moved (s .blocks) (view (now (w .exit)))) ≡ appendOn p l other r o (view (now (w .entry))) ⌝ }
 {
     put_record(w, l, r);
     put_record(w, other, o);
-    append(p, w, l, other);
+    let blocks = append(p, w, l, other);
     let list = record_at(w, l, r);
     let other = record_at(w, other, o);
-    AppendedRecords { list, other }
+    AppendedRecords {
+        list,
+        other,
+        blocks,
+    }
 }
 
 // The four operations on the records that the caller lends. The words keep their ends too, at the lists' numbers.
@@ -346,14 +375,15 @@ impl BlockList {
         w: &mut [usize],
         l: usize,
         o: usize,
-    )
+    ) -> usize
         requires { ⌜ (goodParams p ≡ true) × (l < 1470) ⌝ }
-        ensures { λ _. ⌜ heldBoth (now (self .exit)) (now (other .exit)) (view (now (w .exit)))
+        ensures { λ r. ⌜ heldBoth (now (self .exit)) (now (other .exit)) (moved r (view (now (w .exit))))
             ≡ appendOn p l o (now (self .entry)) (now (other .entry)) (view (now (w .entry))) ⌝ }
     {
         let r = appended(*self, *other, p, w, l, o);
         *self = r.list;
         *other = r.other;
+        r.blocks
     }
 }
 

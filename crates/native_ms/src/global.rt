@@ -18,6 +18,7 @@ use model::Address;
 use model::Answer;
 use model::BINS;
 use model::Block;
+use model::DestroyAnswer;
 use model::HOLDERS;
 use model::IN_GC;
 use model::MarkAnswer;
@@ -35,12 +36,13 @@ ghost use Prim.Native.Nat.{ℕ, _<_, _≤_, _^_};
 ghost use lib.ListN.{length, getD, replicate};
 ghost use Rattle.model.specs.Params.{goodParams, minusLower, abandoned, inGc};
 ghost use Rattle.model.specs.Tables.{Words, view, tablesOf, withReleased};
-ghost use Rattle.model.specs.Global.{freed, abandonBin, abandonBlocks, unmarkedState, releaseFrom, releaseBin, releaseHolder, sweepLaterBin, sweepLater, isHolder, isBound, hasReleased, allReleased, partReleased};
+ghost use Rattle.model.specs.Global.{freed, unmarkedState, releaseFrom, releaseBin, releaseHolder, sweepLaterBin, sweepLater, isHolder, isBound, hasReleased, allReleased};
 ghost use Rattle.model.specs.Calls.{bind, destroy, prepare, mark, release, sharedRelease, goodObject, mayRelease};
-ghost use Rattle.model.specs.Answers.{replyOf, markReply, releaseReply};
+ghost use Rattle.model.specs.Answers.{replyOf, destroyReply, markReply, releaseReply};
 ghost use Rattle.model.specs.Promise.{lend, Promised, SetUpPromised};
-ghost use Rattle.native_ms.specs.Space.{lengthsFit, inBlock, collected};
+ghost use Rattle.native_ms.specs.Space.{lengthsFit, inBlock};
 ghost use Rattle.native_ms.specs.Checked.{andThen, lentTests, phaseTest, boundTests, bindTests, markTests, releaseTests, sharedTests};
+ghost use Rattle.native_ms.specs.Moved.{moved, binMoves, binsMove, endMoves, partMoves};
 ghost use Rattle.native_ms.specs.Released.{out, total, attemptRelease, releasedBins};
 
 // The phases.
@@ -241,10 +243,10 @@ pub fn bind(
     }
 }
 
-// One bin of three lists goes behind another owner's.
-fn abandon_bin(p: Params, w: &mut [usize], to: usize, from: usize, bin: usize)
+// One bin of three lists goes behind another owner's. The answer is how many blocks went over.
+fn abandon_bin(p: Params, w: &mut [usize], to: usize, from: usize, bin: usize) -> usize
     requires { ⌜ (goodParams p ≡ true) × (to ≤ 27) × (from ≤ 27) × (bin < 49) ⌝ }
-    ensures { λ _. ⌜ view (now (w .exit)) ≡ abandonBin p to from bin (view (now (w .entry))) ⌝ }
+    ensures { λ r. ⌜ moved r (view (now (w .exit))) ≡ binMoves p to from bin (view (now (w .entry))) ⌝ }
 {
     let available = address::available(to, bin);
     let unswept = address::unswept(to, bin);
@@ -252,24 +254,27 @@ fn abandon_bin(p: Params, w: &mut [usize], to: usize, from: usize, bin: usize)
     let from_available = address::available(from, bin);
     let from_unswept = address::unswept(from, bin);
     let from_consumed = address::consumed(from, bin);
-    block_list::append(p, w, available, from_available);
-    block_list::append(p, w, consumed, from_consumed);
-    block_list::append(p, w, unswept, from_unswept);
+    let free = block_list::append(p, w, available, from_available);
+    let full = block_list::append(p, w, consumed, from_consumed);
+    let kept = block_list::append(p, w, unswept, from_unswept);
+    free + full + kept
 }
 
-// All lists of one owner, by its first set, go behind another's.
-fn abandon_blocks(p: Params, w: &mut [usize], to: usize, from: usize)
+// All lists of one owner, by its first set, go behind another's. The answer is how many blocks went over.
+fn abandon_blocks(p: Params, w: &mut [usize], to: usize, from: usize) -> usize
     requires { ⌜ (goodParams p ≡ true) × (to ≤ 27) × (from ≤ 27) ⌝ }
-    ensures { λ _. ⌜ view (now (w .exit)) ≡ abandonBlocks p to from (view (now (w .entry))) ⌝ }
+    ensures { λ r. ⌜ moved r (view (now (w .exit))) ≡ binsMove 49 p to from (view (now (w .entry))) ⌝ }
 {
     let mut bin: usize = 0;
+    let mut n: usize = 0;
     while bin < BINS {
-        abandon_bin(p, w, to, from, bin);
+        n = n + abandon_bin(p, w, to, from, bin);
         bin = bin + 1;
     }
+    n
 }
 
-// Hands a holder's lists to abandoned; the holder is bound no more.
+// Hands a holder's lists to abandoned; the holder is bound no more. The answer is how many blocks it left behind.
 pub fn destroy(
     p: Params,
     words: &mut [usize],
@@ -277,16 +282,16 @@ pub fn destroy(
     marks: &[u8],
     heap: &[u8],
     holder: usize,
-) -> Answer
-    ensures { λ r. ⌜ Promised p (lend (now (words .entry)) (now (states .entry)) (now (marks .entry)) (now (heap .entry))) (destroy holder) (replyOf r) (lend (now (words .exit)) (now (states .entry)) (now (marks .entry)) (now (heap .entry))) ⌝ }
+) -> DestroyAnswer
+    ensures { λ r. ⌜ Promised p (lend (now (words .entry)) (now (states .entry)) (now (marks .entry)) (now (heap .entry))) (destroy holder) (destroyReply r) (lend (now (words .exit)) (now (states .entry)) (now (marks .entry)) (now (heap .entry))) ⌝ }
 {
     match check_bound(p, words, states, marks.len(), heap.len(), holder) {
-        Tested::Refused(r) => Answer::Refused(r),
+        Tested::Refused(r) => DestroyAnswer::Refused(r),
         Tested::Passed => {
             let from = address::local_sets(holder);
-            abandon_blocks(p, words, ABANDONED, from);
+            let count = abandon_blocks(p, words, ABANDONED, from);
             tables::set_bound(words, holder - 1, 0);
-            Answer::Done
+            DestroyAnswer::Destroyed { blocks: count }
         }
     }
 }
@@ -536,11 +541,11 @@ fn sweep_later(p: Params, w: &mut [usize], st: &mut [u8]) -> usize
 }
 
 // The in-gc lists go behind the abandoned ones.
-fn merge(p: Params, w: &mut [usize])
+fn merge(p: Params, w: &mut [usize]) -> usize
     requires { ⌜ goodParams p ≡ true ⌝ }
-    ensures { λ _. ⌜ view (now (w .exit)) ≡ abandonBlocks p abandoned inGc (view (now (w .entry))) ⌝ }
+    ensures { λ r. ⌜ moved r (view (now (w .exit))) ≡ binsMove 49 p abandoned inGc (view (now (w .entry))) ⌝ }
 {
-    abandon_blocks(p, w, ABANDONED, IN_GC);
+    abandon_blocks(p, w, ABANDONED, IN_GC)
 }
 
 fn clear_released(w: &mut [usize])
@@ -554,27 +559,29 @@ fn clear_released(w: &mut [usize])
     }
 }
 
-// Nothing is due any more: back to Running.
-fn end_of_gc(p: Params, w: &mut [usize])
+// Nothing is due any more: back to Running. The answer is how many blocks were merged.
+fn end_of_gc(p: Params, w: &mut [usize]) -> usize
     requires { ⌜ (goodParams p ≡ true) × (2958 ≤ length (now w)) ⌝ }
-    ensures { λ _. ⌜ view (now (w .exit)) ≡ collected p (view (now (w .entry))) ⌝ }
+    ensures { λ r. ⌜ moved r (view (now (w .exit))) ≡ endMoves p (view (now (w .entry))) ⌝ }
 {
-    merge(p, w);
+    let n = merge(p, w);
     clear_released(w);
     tables::set_phase(w, RUNNING);
+    n
 }
 
-// A part has released; the last one ends the collection.
-fn part_released(p: Params, w: &mut [usize], part: usize)
+// A part has released; the last one ends the collection. The answer is how many blocks were merged, 0 if parts are due.
+fn part_released(p: Params, w: &mut [usize], part: usize) -> usize
     requires { ⌜ (goodParams p ≡ true) × (2958 ≤ length (now w)) ⌝ }
-    ensures { λ _. ⌜ view (now (w .exit)) ≡ partReleased p part (view (now (w .entry))) ⌝ }
+    ensures { λ r. ⌜ moved r (view (now (w .exit))) ≡ partMoves p part (view (now (w .entry))) ⌝ }
 {
     tables::set_phase(w, RELEASING);
     tables::set_released(w, part, 1);
     let done = all_released(w);
     if done {
-        end_of_gc(p, w);
+        return end_of_gc(p, w);
     }
+    0 // the others are due
 }
 
 fn may_release(w: &[usize]) -> bool
@@ -638,8 +645,11 @@ pub fn release(
         Tested::Refused(r) => ReleaseAnswer::Refused(r),
         Tested::Passed => {
             let count = release_holder(p, words, states, holder);
-            part_released(p, words, holder);
-            ReleaseAnswer::Released { blocks: count }
+            let merged = part_released(p, words, holder);
+            ReleaseAnswer::Released {
+                blocks: count,
+                merged,
+            }
         }
     }
 }
@@ -675,8 +685,8 @@ pub fn shared_release(
         Tested::Refused(r) => ReleaseAnswer::Refused(r),
         Tested::Passed => {
             let n = sweep_later(p, words, states);
-            part_released(p, words, 0);
-            ReleaseAnswer::Released { blocks: n }
+            let merged = part_released(p, words, 0);
+            ReleaseAnswer::Released { blocks: n, merged }
         }
     }
 }

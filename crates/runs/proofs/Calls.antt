@@ -77,7 +77,7 @@ module _ (p : Params) (fine : goodParams p ≡ true) where
     planned-sound (destroy d) s =
         if-cases (λ q. Planned p B t h sh bk (destroy d) q) (not (eqb (t .words .phase) 0)) (λ e. refuses-planned p B t h sh bk I (destroy d) WrongPhase)
         (λ run. if-cases (λ q. Planned p B t h sh bk (destroy d) q) (not (isBound (t .words) d)) (λ e. refuses-planned p B t h sh bk I (destroy d) BadHolder)
-        (λ e. let r = bound-range (t .words) d (not-false _ e) in destroy-planned p B t h sh bk I d (r .0) (r .1)))
+        (λ e. let r = bound-range (t .words) d (not-false _ e) in destroy-planned p B t h sh bk I d (r .0) (r .1) _))
     planned-sound (alloc d size align offset offer) s = planned-alloc d size align offset offer s
     planned-sound prepare s =
         if-cases (λ q. Planned p B t h sh bk prepare q) (not (eqb (t .words .phase) 0)) (λ e. refuses-planned p B t h sh bk I prepare WrongPhase)

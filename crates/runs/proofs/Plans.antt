@@ -461,9 +461,9 @@ module _ (p : Params) (B : Bounds p) where
       subst (Leaving w) (sym (append-none p (unswept abandoned bin) (unswept (3 * j) bin) _ (N .idle j bin lj lb))) N
 
   module _ (t : Tables) (h : List ℕ) (sh : List (List ℕ)) (bk : Book) (I : Inv t h sh bk) where
-    pub destroy-planned : (d : ℕ) → 1 ≤ d → d ≤ 8 → Planned t h sh bk (destroy d) (changes (destroyHolder p d t) [])
+    pub destroy-planned : (d : ℕ) → 1 ≤ d → d ≤ 8 → (vs : List ℕ) → Planned t h sh bk (destroy d) (changes (destroyHolder p d t) vs)
     unfolding EndOk Serves bookFor bookAnswer eventsHeap shadowEvents bookEvents destroyHolder setBound abandonBlocks localSets Steady
-    destroy-planned d lo hi =
+    destroy-planned d lo hi vs =
         let L : Leaving (t .words) (eachBelow bins (abandonBin p abandoned (3 * (d - 1))) (t .words)) =
         each-keeps (Leaving (t .words)) bins (abandonBin p abandoned (3 * (d - 1)))
         (λ bin lb x X. bin-leaving (t .words) (d - 1) (omega arith) bin lb x X) (t .words)

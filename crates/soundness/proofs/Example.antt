@@ -1,6 +1,6 @@
 -- Refused calls, computed on the machine, of which the theorems of Refused.antt and Released.antt speak: a mark out of its
 -- phase, an alloc that is Exhausted after it has swept and moved a block, one that meets a bad link in a block that it took over;
--- and a release that makes one block Unallocated.
+-- and a release that makes one block Unallocated, a destroy and a last release by which one block goes over.
 use Prim.Native.Nat.{ℕ}
 use native.Mathlib.Omega.{arith}
 use mathlib.Core.Path.{_≡_, refl, sym, ap, _∙_}
@@ -10,22 +10,22 @@ use lib.ListN.{set, replicate}
 use Rattle.model.specs.declared.Params.{Params}
 use Rattle.model.specs.declared.Refusal.the-variants.{WrongPhase, BadLink, Exhausted}
 use Rattle.model.specs.declared.Offer.the-variants.{Nothing}
-use Rattle.model.specs.Base.{allBelow, anyBelow, member, filter, eachBelow, flag}
+use Rattle.model.specs.Base.{allBelow, anyBelow, member, filter, sumBelow, eachBelow, flag}
 use Rattle.model.specs.Params.{Lent, powerOfTwo, lowerOk, biased, plusLower, minusLower, heapBytes, heapEnd, goodParams, wordCount, fits, start, blockAt, inHeap, isStart, listOf, listWord, localSets, available, unswept, consumed}
 use Rattle.model.specs.Memory.{loadBytes, bytesOf, overwrite, load, store, zeroed, bitOf, setBit, markIndex, marked, setMark, cleared}
 use Rattle.model.specs.Tables.{Words, view, flat, setFirst, setLast, setBound, setReleased, setNext, setPrev, setFree, setSize, setList, setTls, setPhase, withReleased}
 use Rattle.model.specs.SizeClasses.{fours, classWords, cellBytes, wordsIn, highestBit, binInOctave, binOf, raised, shift, alignAllocation}
-use Rattle.model.specs.BlockList.{push, popHead, pop, removeBetween, remove, relabel, link, append, walk, blocksOn}
+use Rattle.model.specs.BlockList.{push, popHead, pop, removeBetween, remove, relabel, link, append, walk, blocksOn, appended}
 use Rattle.model.specs.Block.{cellCount, isCell, cellsDown, linkAll, initChain, initBlock, simple, keeps, sweepChain, sweptWords, clearBlock}
 use Rattle.model.specs.Events.{eventHeap, eventsHeap, isSweep, isRelease, sweeps, releases}
 use Rattle.model.specs.FreeListAllocator.{findFreeBlockWith, recycleLocalBlocks, acquireAbandoned, acquireFresh, findBlock}
-use Rattle.model.specs.Global.{freshWords, freshTables, isHolder, isBound, bindHolder, abandonBin, abandonBlocks, destroyHolder, unmarkedState, prepared, markPlace, releaseFrom, releaseBlocks, appendTo, releaseBin, releaseHolder, sweepLaterBin, sweepLater, hasReleased, allReleased, partReleased}
+use Rattle.model.specs.Global.{freshWords, freshTables, isHolder, isBound, bindHolder, abandonBin, abandonBlocks, abandonedBin, abandonedBelow, abandonedBlocks, destroyHolder, unmarkedState, prepared, markPlace, releaseFrom, releaseBlocks, appendTo, releaseBin, releaseHolder, sweepLaterBin, sweepLater, hasReleased, allReleased, partReleased, merged}
 use Rattle.model.specs.Sound.{stateOf, stateKnown, blockClear, listNamed, binNamed, setNamed, onListNamed, sizeOk, linkOk, tlsOk, blockSound, linkedFrom, linked, ownerEmpty, unboundEmpty, inGcEmpty, phaseKnown, flagsKnown, releasedFew, releasedSome, releasedEmpty, sound}
-use Rattle.model.specs.Calls.{Reply, Call, alloc, mark, release, Result, refusalNumber, goodRequest, tooBig, goodOffer, goodObject, takePlan, planAlloc, mayRelease, releasePlan, planSound, plan, takeCell, finish, step, refused, answered, call, setUp}
+use Rattle.model.specs.Calls.{Reply, Call, destroy, alloc, mark, release, sharedRelease, Result, refusalNumber, goodRequest, tooBig, goodOffer, goodObject, takePlan, planAlloc, mayRelease, releasePlan, planSound, plan, takeCell, finish, step, refused, answered, call, setUp}
 use Rattle.model.specs.Census.{censusParams}
-use Rattle.model.specs.Refusals.{OfAlloc, KeptExhausted, KeptBadLink, RefusalKeeps, madeUnallocated, CountsReleased, ReleasedCounts}
+use Rattle.model.specs.Refusals.{OfAlloc, KeptExhausted, KeptBadLink, RefusalKeeps, madeUnallocated, blocksOf, wentOver, CountsReleased, ReleasedCounts, DestroyedCounts}
 use Rattle.soundness.proofs.Refused.{refusal-keeps}
-use Rattle.soundness.proofs.Released.{released-counted}
+use Rattle.soundness.proofs.Released.{destroyed-counted, released-counted}
 
 abbrev p : Params
 p = censusParams
@@ -69,7 +69,7 @@ ask = alloc 2 1024 8 0 Nothing
 
 -- who opens `machine` opens all that its line names
 machine : Params
-unfolding leadingZeros allBelow anyBelow member filter eachBelow flag powerOfTwo lowerOk biased plusLower minusLower heapBytes heapEnd goodParams wordCount fits start blockAt inHeap isStart listOf listWord localSets available unswept consumed loadBytes bytesOf overwrite load store zeroed bitOf setBit markIndex marked setMark cleared view flat setFirst setLast setBound setReleased setNext setPrev setFree setSize setList setTls setPhase withReleased fours classWords cellBytes wordsIn highestBit binInOctave binOf raised shift alignAllocation push pop popHead removeBetween remove relabel link append walk blocksOn cellCount isCell cellsDown headD linkAll initChain initBlock simple keeps sweepChain sweptWords clearBlock eventHeap eventsHeap isSweep isRelease sweeps releases findFreeBlockWith recycleLocalBlocks acquireAbandoned acquireFresh findBlock freshWords freshTables isHolder isBound bindHolder abandonBin abandonBlocks destroyHolder unmarkedState prepared markPlace releaseFrom releaseBlocks appendTo releaseBin releaseHolder sweepLaterBin sweepLater hasReleased allReleased partReleased stateOf stateKnown blockClear listNamed binNamed setNamed onListNamed sizeOk linkOk tlsOk blockSound linkedFrom linked ownerEmpty unboundEmpty inGcEmpty phaseKnown flagsKnown releasedFew releasedSome releasedEmpty sound refusalNumber goodRequest tooBig goodOffer goodObject takePlan planAlloc mayRelease releasePlan planSound plan takeCell finish step call setUp censusParams heap₀ noMarks allMarked standing lent
+unfolding leadingZeros allBelow anyBelow member filter sumBelow eachBelow flag powerOfTwo lowerOk biased plusLower minusLower heapBytes heapEnd goodParams wordCount fits start blockAt inHeap isStart listOf listWord localSets available unswept consumed loadBytes bytesOf overwrite load store zeroed bitOf setBit markIndex marked setMark cleared view flat setFirst setLast setBound setReleased setNext setPrev setFree setSize setList setTls setPhase withReleased fours classWords cellBytes wordsIn highestBit binInOctave binOf raised shift alignAllocation push pop popHead removeBetween remove relabel link append walk blocksOn appended cellCount isCell cellsDown headD linkAll initChain initBlock simple keeps sweepChain sweptWords clearBlock eventHeap eventsHeap isSweep isRelease sweeps releases findFreeBlockWith recycleLocalBlocks acquireAbandoned acquireFresh findBlock freshWords freshTables isHolder isBound bindHolder abandonBin abandonBlocks abandonedBin abandonedBelow abandonedBlocks destroyHolder unmarkedState prepared markPlace releaseFrom releaseBlocks appendTo releaseBin releaseHolder sweepLaterBin sweepLater hasReleased allReleased partReleased merged stateOf stateKnown blockClear listNamed binNamed setNamed onListNamed sizeOk linkOk tlsOk blockSound linkedFrom linked ownerEmpty unboundEmpty inGcEmpty phaseKnown flagsKnown releasedFew releasedSome releasedEmpty sound refusalNumber goodRequest tooBig goodOffer goodObject takePlan planAlloc mayRelease releasePlan planSound plan takeCell finish step call setUp censusParams heap₀ noMarks allMarked standing lent
 machine = censusParams
 
 -- ---- a mark in Running, of a block on the available list (24) of holder 1: nothing changes
@@ -119,16 +119,51 @@ bad-link-keeps =
     let n : call p spoilt ask .reply .number ≡ 8 = ap (λ (r : Result). r .reply .number) bad-link in
     refusal-keeps p spoilt ask (λ z. omega (arith, sym n ∙ z)) .badLink n
 
--- ---- a release in Marking of holder 1, whose block 2 is Unmarked: one block, by the answer and by the state bytes
+-- ---- a release in Marking of holder 1, whose block 2 is Unmarked: one block, by the answer and by the state bytes. It is not the
+-- last, and merges none
 
 abbrev unmarked : Lent
 unmarked = lent (standing 24 1 27648 1) 255 noMarks
 
-pub one-released : call p unmarked (release 1) .reply ≡ answered (1 ∷ [])
+pub one-released : call p unmarked (release 1) .reply ≡ answered (1 ∷ 0 ∷ [])
 unfolding machine
 one-released = refl
 
-pub one-counted : (1 ∷ []) ≡ madeUnallocated p unmarked (call p unmarked (release 1) .lent) ∷ []
+pub one-counted : (1 ∷ 0 ∷ []) ≡ madeUnallocated p unmarked (call p unmarked (release 1) .lent) ∷ wentOver p unmarked (call p unmarked (release 1) .lent) ∷ []
 unfolding ReleasedCounts CountsReleased
 one-counted =
     sym (ap (λ (r : Reply). r .values) one-released) ∙ released-counted p unmarked .0 1 (ap (λ (r : Reply). r .number) one-released)
+
+-- ---- R-6: holder 1 is destroyed and leaves block 2 behind, available (24) or unswept (73)
+
+pub one-left : call p idle (destroy 1) .reply ≡ answered (1 ∷ [])
+unfolding machine
+one-left = refl
+
+abbrev kept : Lent
+kept = lent (standing 73 0 27648 1) 254 noMarks
+
+pub unswept-left : call p kept (destroy 1) .reply ≡ answered (1 ∷ [])
+unfolding machine
+unswept-left = refl
+
+pub left-counted : ((1 ∷ []) ≡ blocksOf p kept 1 ∷ []) × ((1 ∷ []) ≡ wentOver p kept (call p kept (destroy 1) .lent) ∷ [])
+unfolding DestroyedCounts
+left-counted =
+    let e = sym (ap (λ (r : Reply). r .values) unswept-left) in
+    let c = destroyed-counted p kept 1 (ap (λ (r : Reply). r .number) unswept-left) in
+    (e ∙ c .0, e ∙ c .1)
+
+-- ---- the shared release is the last: both holders have released, and block 2 waits in in-gc, unswept (1396)
+
+abbrev waiting : Lent
+waiting = lent (withReleased (0 ∷ 1 ∷ 1 ∷ 0 ∷ 0 ∷ 0 ∷ 0 ∷ 0 ∷ 0 ∷ []) (standing 1396 2 27648 1)) 254 noMarks
+
+pub one-merged : call p waiting sharedRelease .reply ≡ answered (0 ∷ 1 ∷ [])
+unfolding machine
+one-merged = refl
+
+pub merged-counted : (0 ∷ 1 ∷ []) ≡ madeUnallocated p waiting (call p waiting sharedRelease .lent) ∷ wentOver p waiting (call p waiting sharedRelease .lent) ∷ []
+unfolding ReleasedCounts CountsReleased
+merged-counted =
+    sym (ap (λ (r : Reply). r .values) one-merged) ∙ released-counted p waiting .1 (ap (λ (r : Reply). r .number) one-merged)

@@ -61,12 +61,12 @@ module _ (p : Params) (B : Bounds p) where
       }
 
   -- other words with the same tables of lists and blocks
-  held-stays : {ms st : List ℕ} {w : Words} (w′ : Words) → rowsOf w′ ≡ rowsOf w → Sized (p .blocks) w′ → Held p ms w st → Held p ms w′ st
+  pub held-stays : {ms st : List ℕ} {w : Words} (w′ : Words) → rowsOf w′ ≡ rowsOf w → Sized (p .blocks) w′ → Held p ms w st → Held p ms w′ st
   held-stays {ms} {st} w′ e z H =
       record { lists = H .lists; good = good-stays p w′ ms e (same-states p st) (H .good); sized = z; states = H .states }
 
   -- the end of a release: flags alone, or in-gc merged into abandoned
-  part-held : (part : ℕ) (w : Words) (st ms : List ℕ) → Held p ms w st → Held p ms (partReleased p part w) st
+  pub part-held : (part : ℕ) (w : Words) (st ms : List ℕ) → Held p ms w st → Held p ms (partReleased p part w) st
   unfolding partReleased setReleased setPhase withReleased
   part-held part w st ms H = if-cases (λ (x : Words). Held p ms x st) (allReleased w₁)
       (λ e.

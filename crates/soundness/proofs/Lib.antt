@@ -11,6 +11,7 @@ pub mod Alloc
 pub mod Kept
 pub mod Replies
 pub mod Never
+pub mod Over
 pub mod Released
 pub mod Searches
 pub mod Refused

@@ -270,7 +270,7 @@ module _ (p : Params) (l : Lent) (f : fits p l ≡ true) where
         (λ e. if-cases (Fine p l (bind h)) (not (isHolder h) || isBound w h) (λ g. bad-holder p l (parts .1) (bind h)) (λ g. done p l (bind h) _ []))
     plan-fine (destroy h) =
         if-cases (Fine p l (destroy h)) (not (eqb (w .phase) 0)) (λ e. wrong-phase p l (parts .1) (destroy h))
-        (λ e. if-cases (Fine p l (destroy h)) (not (isBound w h)) (λ g. bad-holder p l (parts .1) (destroy h)) (λ g. done p l (destroy h) _ []))
+        (λ e. if-cases (Fine p l (destroy h)) (not (isBound w h)) (λ g. bad-holder p l (parts .1) (destroy h)) (λ g. done p l (destroy h) _ _))
     plan-fine (alloc h size align offset offer) =
         let c : Call = alloc h size align offset offer in
         if-cases (Fine p l c) (not (eqb (w .phase) 0)) (λ e. wrong-phase p l (parts .1) c)

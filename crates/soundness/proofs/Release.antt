@@ -25,7 +25,7 @@ use Rattle.laws.proofs.Tables.{Sized, sized-same, lengths, kept-lengths}
 use Rattle.laws.proofs.Frame.{LinksOnly, links-refl, append-links, remove-links}
 use Rattle.laws.proofs.Walks.{Numbered, releasedOne, blocks-keep, bins-keep, later-keeps, abandon-keeps}
 use Rattle.laws.proofs.Pigeon.{Distinct}
-use Rattle.soundness.proofs.Lists.{Seg, Run, AllOn, Off, OnSome, put, put-same, put-other, put-all, put-in, in-put, on-list, one-list, free-off, lists-distinct}
+use Rattle.soundness.proofs.Lists.{Seg, Run, Lists, AllOn, Off, OnSome, put, put-same, put-other, put-all, put-in, in-put, on-list, one-list, free-off, lists-distinct}
 use Rattle.soundness.proofs.Removes.{without, in-without, without-in, without-none, remove-lists, remove-stays, append-lists, append-stays, clear-lists}
 use Rattle.soundness.proofs.SoundLists.{Fit}
 use Rattle.soundness.proofs.Held.{Held, SameWords, links-words, fit-moves, fit-same, clear-same}
@@ -131,7 +131,7 @@ module _ (p : Params) (B : Bounds p) (ms : List ℕ) where
         }
 
   -- by the places of the lists
-  append-placed : (w : Words) (st : List ℕ) {l o i j bin : ℕ} → Numbered l i bin → Numbered o j bin → l ≢ o → (i < 8 → j ≡ i) → Held p ms w st
+  pub append-placed : (w : Words) (st : List ℕ) {l o i j bin : ℕ} → Numbered l i bin → Numbered o j bin → l ≢ o → (i < 8 → j ≡ i) → Held p ms w st
       → Held p ms (append p l o w) st
   append-placed w st {l} {o} {i} {j} P Q ne own H =
       append-held w st H l o (P .low) (Q .low) ne (P .bin ∙ sym (Q .bin)) (λ low. Q .owner ∙ own (few low (P .owner)) ∙ sym (P .owner))
@@ -208,13 +208,17 @@ module _ (p : Params) (B : Bounds p) (ms : List ℕ) where
         })
         (words-of x f) (H .good .clear x low s)
 
+    pub released-lists : Lists p (set st b 0) (clearBlock b R) Left
+    unfolding Off
+    released-lists = clear-lists p (remove-lists p B st w (H .sized) Ls (H .good .lists) l b ll i) b (λ m low x. old m b low x .1 refl)
+
     pub release-held : Held p ms (clearBlock b R) (set st b 0)
     unfolding AllOn Off stateOf
     release-held =
         record {
           lists = Left;
           good = record {
-            lists = clear-lists p (remove-lists p B st w (H .sized) Ls (H .good .lists) l b ll i) b (λ m low x. old m b low x .1 refl);
+            lists = released-lists;
             on = λ x low occ.
                 let ne : x ≢ b = λ e. occ (ap (λ (k : ℕ). getD (set st b 0) k 0) e ∙ set-at st b 0 (omega (arith, lb, H .states))) in
                 let m = H .good .on x low (rw (set-off st b 0 x ne) at occ) in
@@ -228,7 +232,7 @@ module _ (p : Params) (B : Bounds p) (ms : List ℕ) where
 
   -- ---- a list released
 
-  abbrev HeldBy : Freed → Type 0
+  abbrev pub HeldBy : Freed → Type 0
   HeldBy f = Held p ms (f .words) (f .states)
 
   -- the walk stands at a: `done` are left behind, `rest` are still to come
@@ -263,18 +267,37 @@ module _ (p : Params) (B : Bounds p) (ms : List ℕ) where
       next : At p (getD (f .words .next) (blockAt p a) 0) rest
       next = rw is-x (seg-next p (f .states) (f .words) _ _ 0 _ done x rest (subst (Run p (f .states) (f .words) l) e (H .good .lists .seg l ll)))
 
-  blocks-held : (l bin o : ℕ) → Numbered l o bin → (f : Freed) → HeldBy f → HeldBy (releaseBlocks p l f)
-  blocks-held l bin o N f H =
-      blocks-keep p l (λ k a g. Walking l a g) (λ k a g W some u. step a g W some .0) (λ k a g W some. step a g W some .1) HeldBy (λ k a g W. W .held) f
-      (record { held = H; done = []; rest = H .lists l; split = refl; at = seg-at p (f .states) (f .words) _ _ 0 _ (H .lists l) (H .good .lists .seg l (N .low)) })
+  -- the block at which it stands is on the list
+  walking-on : (l a : ℕ) (f : Freed) → l < 1470 → (W : Walking l a f) → a ≢ 0 → In (blockAt p a) (W .held .lists l)
+  unfolding At
+  walking-on l a f ll W some = go (W .rest) (W .split) (W .at)
+    where
+      go : (rest : List ℕ) → W .held .lists l ≡ W .done ++ rest → At p a rest → In (blockAt p a) (W .held .lists l)
+      go [] e at = absurd (some at)
+      go (x ∷ xs) e at =
+          let here : In x (W .held .lists l) = rw e (in-middle (W .done) x xs) in
+          rw (ap (blockAt p) at ∙ blockAt-start p B x (on-list p (W .held .good .lists) l x ll here .low)) here
+
+  -- good tables are kept, and with them what each release of a block on the list keeps
+  pub blocks-held-with : (l bin o : ℕ) → Numbered l o bin → (P : Freed → Type 0)
+      → ((f : Freed) (H : HeldBy f) (b : ℕ) → In b (H .lists l) → P f → P (releasedOne p l b f))
+      → (f : Freed) → HeldBy f → P f → HeldBy (releaseBlocks p l f) × P (releaseBlocks p l f)
+  blocks-held-with l bin o N P one f H q =
+      blocks-keep p l (λ k a g. Walking l a g × P g)
+      (λ k a g W some u. (step a g (W .0) some .0, one g (W .0 .held) (blockAt p a) (walking-on l a g (N .low) (W .0) some) (W .1)))
+      (λ k a g W some. (step a g (W .0) some .1, W .1)) (λ g. HeldBy g × P g) (λ k a g W. (W .0 .held, W .1)) f
+      (record { held = H; done = []; rest = H .lists l; split = refl; at = seg-at p (f .states) (f .words) _ _ 0 _ (H .lists l) (H .good .lists .seg l (N .low)) }, q)
     where
       step : (a : ℕ) (g : Freed) → Walking l a g → a ≢ 0
           → Walking l (getD (g .words .next) (blockAt p a) 0) (releasedOne p l (blockAt p a) g) × Walking l (getD (g .words .next) (blockAt p a) 0) g
       step a g W some = steps-held l a g (W .held) (W .done) (W .rest) (N .low) (W .split) (W .at) some
 
+  blocks-held : (l bin o : ℕ) → Numbered l o bin → (f : Freed) → HeldBy f → HeldBy (releaseBlocks p l f)
+  blocks-held l bin o N f H = blocks-held-with l bin o N (λ g. Unit {0}) (λ g G b i u. tt) f H tt .0
+
   -- ---- rows of releases and appends
 
-  to-held : (l o bin i : ℕ) → Numbered l i bin → Numbered o i bin → l ≢ o → (f : Freed) → HeldBy f → HeldBy (appendTo p l o f)
+  pub to-held : (l o bin i : ℕ) → Numbered l i bin → Numbered o i bin → l ≢ o → (f : Freed) → HeldBy f → HeldBy (appendTo p l o f)
   unfolding appendTo
   to-held l o bin i P Q ne f H = append-placed (f .words) (f .states) P Q ne (λ low. refl) H
 

@@ -1,32 +1,42 @@
--- What a release answers is the number of blocks whose state byte it made 0: each release in its walk is of an Unmarked block,
--- and no other state byte changes. Assumes nothing.
+-- What a release answers is the number of blocks whose state byte it made 0, and that of the blocks that went over to abandoned;
+-- and destroy answers the number of its blocks, all of which go over. Each release in a walk is of an Unmarked block, and no other
+-- state byte changes; who goes over is in Over.antt. Assumes nothing.
 use mathlib.Core.Path.{_≡_, refl, sym, ap, _∙_}
 use mathlib.Core.Logic.{_≢_}
 use mathlib.Core.Bool.{Bool, true, false, not, _&&_, _||_}
 use mathlib.Core.List.{List, [], _∷_, _++_}
-use Prim.Native.Nat.{ℕ, _+_, _/_, _<_}
+use Prim.Native.Nat.{ℕ, _+_, _-_, _*_, _/_, _<_}
 use native.Mathlib.Omega.{arith}
 use native.Mathlib.Decide.{ℕ-discrete}
 use lib.Dec.{eqb}
 use lib.ListN.{length, getD, set, length-set, length-append, List·getD-eq-default}
-use borrow.Author.Tests.{eqb-true, eq-eqb, ne-eqb}
+use borrow.Author.Tests.{eqb-true, eq-eqb, ne-eqb, not-false}
 use Rattle.model.specs.declared.Params.{Params}
 use Rattle.model.specs.declared.Refusal.{Refusal}
 use Rattle.model.specs.declared.Refusal.the-variants.{BadTables, WrongPhase, BadHolder}
 use Rattle.model.specs.Base.{filter, flag, sumBelow}
 use Rattle.model.specs.Params.{goodParams, Lent, fits, wordCount, heapBytes, localSets}
-use Rattle.model.specs.Tables.{Words, view}
+use Rattle.model.specs.Tables.{Words, view, tablesOf, setBound, setPhase, setReleased}
+use Rattle.model.specs.BlockList.{blocksOn}
 use Rattle.model.specs.Events.{Event, released, eventsHeap, isRelease, releases}
-use Rattle.model.specs.Global.{Freed, freed, releaseBlocks, appendTo, isHolder, isBound, hasReleased, releaseHolder, sweepLater}
+use Rattle.model.specs.Global.{abandonBlocks, abandonedBlocks, destroyHolder, Freed, freed, releaseBlocks, appendTo, isHolder, isBound, hasReleased, releaseHolder, sweepLater, partReleased, merged}
 use Rattle.model.specs.Sound.{sound}
-use Rattle.model.specs.Calls.{refusalNumber, Call, release, sharedRelease, Plan, refuses, mayRelease, releasePlan, planSound, plan, finish, step, Result, tablesIn, resultFrom, call}
-use Rattle.model.specs.Refusals.{madeUnallocated, CountsReleased, ReleasedCounts}
+use Rattle.model.specs.Calls.{refusalNumber, Call, destroy, release, sharedRelease, Plan, refuses, changes, mayRelease, releasePlan, planSound, plan, finish, step, Result, tablesIn, lentOf, resultFrom, call}
+use Rattle.model.specs.Refusals.{madeUnallocated, blocksOf, wentOver, CountsReleased, ReleasedCounts, DestroyedCounts}
 use Rattle.laws.proofs.Base.{if-cases, filter-append}
 use Rattle.laws.proofs.Below.{and-five}
-use Rattle.laws.proofs.Tables.{by-lt}
+use Rattle.laws.proofs.Tables.{Sized, sized-same, sized-view, view-flat, lengths, kept-lengths, lengths-setBound, by-lt}
+use Rattle.laws.proofs.Params.{Bounds, good-bounds}
+use Rattle.laws.proofs.Lent.{fits-parts}
 use Rattle.laws.proofs.Stores.{set-at, set-off}
 use Rattle.laws.proofs.Pigeon.{sum-same, sum-zero, sum-add, sum-one}
 use Rattle.laws.proofs.Walks.{releasedOne, blocks-keep-any, bins-keep-any, later-keeps-any}
+use Rattle.soundness.proofs.SoundLists.{sound-good}
+use Rattle.soundness.proofs.Held.{Held}
+use Rattle.soundness.proofs.Flags.{BoundAt, bound-at}
+use Rattle.soundness.proofs.Release.{abandon-held}
+use Rattle.soundness.proofs.Kept.{held-stays, part-held}
+use Rattle.soundness.proofs.Over.{count, same-owner, Apart, Over, holder-apart, shared-apart, abandoned-count, part-over, destroyed-over, went-over, blocks-of}
 
 -- one release more is counted
 releases-behind : (es : List Event) (b : ℕ) → releases (es ++ (released b ∷ [])) ≡ releases es + 1
@@ -123,46 +133,127 @@ fits-states p l e =
     eqb-true _ _ (and-five (goodParams p) (eqb (length (l .words)) (wordCount p)) (eqb (length (l .states)) (p .blocks))
     (eqb (length (l .marks)) (heapBytes p / 64)) (eqb (length (l .heap)) (heapBytes p)) e .2)
 
+-- and words for all lists and blocks
+fits-words : (p : Params) (l : Lent) → fits p l ≡ true → Sized (p .blocks) (view (l .words))
+unfolding fits wordCount
+fits-words p l e =
+    sized-view (p .blocks) (l .words)
+    (eqb-true _ _ (and-five (goodParams p) (eqb (length (l .words)) (wordCount p)) (eqb (length (l .states)) (p .blocks))
+    (eqb (length (l .marks)) (heapBytes p / 64)) (eqb (length (l .heap)) (heapBytes p)) e .1))
+
+-- phase and released marks are no matter of lists
+releasing-held : (p : Params) (B : Bounds p) (part : ℕ) {ms st : List ℕ} {w : Words} → Held p ms w st → Held p ms (setReleased part 1 (setPhase 2 w)) st
+unfolding setReleased setPhase lengths
+releasing-held p B part H = held-stays p B _ refl (sized-same (simp kept-lengths) (H .sized)) H
+
 module _ (p : Params) (l : Lent) where
-  abbrev Counts : Result → Type 0
-  Counts r = r .reply .number ≡ 0 → r .reply .values ≡ madeUnallocated p l (r .lent) ∷ []
+  abbrev w : Words
+  w = view (l .words)
 
-  abbrev Planned : Plan → Type 0
-  Planned q = Counts (resultFrom (finish p (q .tables) (q .events) (eventsHeap p (q .events) (l .heap)) (q .end)))
+  -- of an answer, of a plan once it is carried out
+  abbrev Counts : (Lent → List ℕ) → Result → Type 0
+  Counts v r = r .reply .number ≡ 0 → r .reply .values ≡ v (r .lent)
 
-  refused-counts : (r : Refusal) → refusalNumber r ≢ 0 → Planned (refuses (tablesIn l) r)
+  abbrev Planned : (Lent → List ℕ) → Plan → Type 0
+  Planned v q = Counts v (resultFrom (finish p (q .tables) (q .events) (eventsHeap p (q .events) (l .heap)) (q .end)))
+
+  refused-counts : (v : Lent → List ℕ) (r : Refusal) → refusalNumber r ≢ 0 → Planned v (refuses (tablesIn l) r)
   unfolding finish
-  refused-counts r f e = absurd (f e)
+  refused-counts v r f e = absurd (f e)
 
-  released-counts : (part : ℕ) (f : Freed) → Tally (p .blocks) (l .states) f → Planned (releasePlan p part (tablesIn l) f)
-  unfolding releasePlan finish madeUnallocated gone
-  released-counts part f T e = ap (λ (x : ℕ). x ∷ []) (T .count)
+  -- the plan of a destroy that is answered
+  abbrev destroyed : ℕ → Plan
+  destroyed h = changes (destroyHolder p h (tablesIn l)) (abandonedBlocks p 24 (localSets h) w ∷ [])
 
-  wrong-phase : Planned (refuses (tablesIn l) WrongPhase)
-  unfolding refusalNumber
-  wrong-phase = refused-counts WrongPhase (λ e. omega (arith, e))
+  -- good tables are lent where a call is not refused
+  module _ (f : fits p l ≡ true) (s : sound p (tablesIn l) ≡ true) where
+    abbrev B : Bounds p
+    B = good-bounds p (fits-parts p l f .0)
 
-  bad-holder : Planned (refuses (tablesIn l) BadHolder)
-  unfolding refusalNumber
-  bad-holder = refused-counts BadHolder (λ e. omega (arith, e))
+    held : Held p (l .marks) w (l .states)
+    held = record { lists = λ n. blocksOn p n w; good = sound-good p B (tablesIn l) s; sized = fits-words p l f; states = fits-states p l f }
 
-  call-counts : (c : Call) → (fits p l ≡ true → Planned (planSound p (tablesIn l) c)) → CountsReleased p l c
-  unfolding CountsReleased call step plan refusalNumber
-  call-counts c h =
-      if-cases Counts (fits p l)
-      (λ e. if-cases Planned (sound p (tablesIn l)) (λ s. h e) (λ s. refused-counts BadTables (λ z. omega (arith, z))))
-      (λ e z. absurd (omega (arith, z)))
+    released-counts : (part : ℕ) (g : Freed) → Tally (p .blocks) (l .states) g → Apart p B (l .marks) w (l .states) g
+        → Planned (λ m. madeUnallocated p l m ∷ wentOver p l m ∷ []) (releasePlan p part (tablesIn l) g)
+    unfolding releasePlan finish madeUnallocated gone
+    released-counts part g T A e =
+        λ i. T .count i ∷ (over ∙ sym (went-over p l (lentOf (tablesOf (partReleased p part (g .words)) (g .states) (l .marks)) (eventsHeap p (g .events) (l .heap))) (partReleased p part (g .words)) (view-flat (p .blocks) _ (H .sized)))) i ∷ []
+      where
+        H : Held p (l .marks) (partReleased p part (g .words)) (g .states)
+        H = part-held p B part (g .words) (g .states) (l .marks) (A .held)
+
+        over : merged p part (g .words) ≡ sumBelow (p .blocks) (Over p B (l .marks) w (l .states) (partReleased p part (g .words)) (g .states))
+        over = part-over p B (l .marks) w (l .states) g A part (releasing-held p B part (A .held))
+
+    destroyed-counts : (h : ℕ) → isBound w h ≡ true → Planned (λ m. blocksOf p l h ∷ []) (destroyed h) × Planned (λ m. wentOver p l m ∷ []) (destroyed h)
+    unfolding destroyHolder finish localSets setBound eventsHeap
+    destroyed-counts h o = (
+      (λ e. ap (λ (x : ℕ). x ∷ []) (left ∙ sym (blocks-of p l h))),
+      λ e. ap (λ (x : ℕ). x ∷ [])
+          (left ∙ destroyed-over p B (l .marks) w (l .states) held (h - 1) (omega (arith, P .low, P .high)) v (λ b. same-owner _ v b refl)
+          ∙ sym (went-over p l (lentOf (tablesOf v (l .states) (l .marks)) (l .heap)) v (view-flat (p .blocks) v (sized-same (lengths-setBound (h - 1) 0 u) (A .sized))))),
+    )
+      where
+        P : BoundAt w h
+        P = bound-at w h o
+
+        u : Words
+        u = abandonBlocks p 24 (3 * (h - 1)) w
+
+        v : Words
+        v = setBound (h - 1) 0 u
+
+        A : Held p (l .marks) u (l .states)
+        A = abandon-held p B (l .marks) 8 (h - 1) (omega arith) (omega (arith, P .high)) (omega (arith, P .low, P .high)) (omega arith) (l .states) w held
+
+        left : abandonedBlocks p 24 (3 * (h - 1)) w ≡ count (p .blocks) (h - 1) w (l .states)
+        left = abandoned-count p B (l .marks) 8 (h - 1) (omega arith) (omega (arith, P .high)) (omega (arith, P .low, P .high)) (omega arith) (l .states) w held
+
+  module _ (v : Lent → List ℕ) where
+    wrong-phase : Planned v (refuses (tablesIn l) WrongPhase)
+    unfolding refusalNumber
+    wrong-phase = refused-counts v WrongPhase (λ e. omega (arith, e))
+
+    bad-holder : Planned v (refuses (tablesIn l) BadHolder)
+    unfolding refusalNumber
+    bad-holder = refused-counts v BadHolder (λ e. omega (arith, e))
+
+    call-counts : (c : Call) → (fits p l ≡ true → sound p (tablesIn l) ≡ true → Planned v (planSound p (tablesIn l) c)) → Counts v (call p l c)
+    unfolding call step plan refusalNumber
+    call-counts c h =
+        if-cases (Counts v) (fits p l)
+        (λ e. if-cases (Planned v) (sound p (tablesIn l)) (λ s. h e s) (λ s. refused-counts v BadTables (λ z. omega (arith, z))))
+        (λ e z. absurd (omega (arith, z)))
+
+    -- destroy, by what its plan says if the holder is bound
+    destroy-counts : (h : ℕ) → (fits p l ≡ true → sound p (tablesIn l) ≡ true → isBound w h ≡ true → Planned v (destroyed h)) → Counts v (call p l (destroy h))
+    unfolding planSound
+    destroy-counts h k =
+        call-counts (destroy h)
+        (λ e s. if-cases (Planned v) (not (eqb (w .phase) 0)) (λ f. wrong-phase)
+        (λ f. if-cases (Planned v) (not (isBound w h)) (λ g. bad-holder) (λ g. k e s (not-false _ g))))
+
+pub destroyed-counted : DestroyedCounts
+unfolding DestroyedCounts
+destroyed-counted p l h e = (
+  destroy-counts p l (λ m. blocksOf p l h ∷ []) h (λ f s o. destroyed-counts p l f s h o .0) e,
+  destroy-counts p l (λ m. wentOver p l m ∷ []) h (λ f s o. destroyed-counts p l f s h o .1) e,
+)
 
 pub released-counted : ReleasedCounts
-unfolding ReleasedCounts planSound
+unfolding ReleasedCounts CountsReleased planSound
 released-counted p l = (
-  (λ h. call-counts p l (release h)
-      (λ e. let w = view (l .words) in
-      if-cases (Planned p l) (not (mayRelease w) || (isHolder h && hasReleased w h)) (λ f. wrong-phase p l)
-      (λ f. if-cases (Planned p l) (not (isBound w h)) (λ g. bad-holder p l)
-      (λ g. released-counts p l h _ (holder-tally (p .blocks) (l .states) p w (fits-states p l e) h))))),
-  call-counts p l sharedRelease
-      (λ e. let w = view (l .words) in
-      if-cases (Planned p l) (not (mayRelease w) || hasReleased w 0) (λ f. wrong-phase p l)
-      (λ f. released-counts p l 0 _ (shared-tally (p .blocks) (l .states) p w (fits-states p l e)))),
+  (λ h. call-counts p l v (release h)
+      (λ e s. if-cases (Planned p l v) (not (mayRelease (w p l)) || (isHolder h && hasReleased (w p l) h)) (λ f. wrong-phase p l v)
+      (λ f. if-cases (Planned p l v) (not (isBound (w p l) h)) (λ g. bad-holder p l v)
+      (λ g. let P = bound-at (w p l) h (not-false _ g) in
+      released-counts p l e s h _ (holder-tally (p .blocks) (l .states) p (w p l) (fits-states p l e) h)
+      (holder-apart p (B p l e s) (l .marks) (w p l) (l .states) h (P .low) (P .high) (held p l e s)))))),
+  call-counts p l v sharedRelease
+      (λ e s. if-cases (Planned p l v) (not (mayRelease (w p l)) || hasReleased (w p l) 0) (λ f. wrong-phase p l v)
+      (λ f. released-counts p l e s 0 _ (shared-tally (p .blocks) (l .states) p (w p l) (fits-states p l e))
+      (shared-apart p (B p l e s) (l .marks) (w p l) (l .states) (held p l e s)))),
 )
+  where
+    v : Lent → List ℕ
+    v m = madeUnallocated p l m ∷ wentOver p l m ∷ []

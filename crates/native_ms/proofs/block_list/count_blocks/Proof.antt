@@ -1,6 +1,6 @@
 -- `block_list::count_blocks` walks as `ends` and `walk` do. The invariant: what is counted and what remains is the whole,
 -- and the blocks counted with those left are all, so that the count fits. The measure is the count of blocks left.
-use Prim.Native.Nat.{ℕ, _+_, _-_, _<_}
+use Prim.Native.Nat.{_+_}
 use mathlib.Core.Path.{_≡_, refl, sym, _∙_}
 use native.Mathlib.Nat.{zero-add}
 use native.Mathlib.Omega.{arith}
@@ -10,12 +10,9 @@ use borrow.Author.Needs.{needs}
 use Rattle.model.specs.Tables.{view}
 use Rattle.laws.proofs.Params.{good-bounds}
 use Rattle.native_ms.specs.Counted.{countedFrom}
-use Rattle.native_ms.proofs.CountedLaws.{counted-stop, counted-long, counted-bad, counted-step}
+use Rattle.native_ms.proofs.CountedLaws.{count-again, counted-stop, counted-long, counted-bad, counted-step}
 use Rattle.native_ms.proofs.block_list.count_blocks.Statement.{statement}
 use Rattle.native_ms.proofs.block_list.count_blocks.Tie as tie
-
-count-again : (n k b : ℕ) → 0 < k → n + k ≡ b → n + 1 + (k - 1) ≡ b
-count-again n k b h e = omega arith
 
 abbrev Inv-loop : tie.InvT-loop
 Inv-loop p w k₀ n₀ a₀ k n a = (n + k ≡ k₀) × (countedFrom k p (view w .next) n a ≡ countedFrom k₀ p (view w .next) n₀ a₀)

@@ -1,27 +1,31 @@
--- `global::abandon_blocks` goes through the 49 bins. The invariant: those passed are done. Assumes nothing.
-use Prim.Native.Nat.{_-_, _≤_}
+-- `global::abandon_blocks` goes through the 49 bins. The invariant: those passed are done and counted. Assumes nothing.
+use Prim.Native.Nat.{_*_, _-_, _≤_}
 use mathlib.Core.Path.{_≡_, refl, _∙_}
 use native.Mathlib.Omega.{arith}
 use lib.ListN.{length}
-use Rattle.model.specs.Base.{eachBelow}
 use Rattle.model.specs.Tables.{view}
-use Rattle.model.specs.Global.{abandonBin, abandonBlocks}
-use Rattle.native_ms.proofs.SpaceCalls.{each-none, each-more, each-end}
+use Rattle.laws.proofs.Params.{good-bounds}
+use Rattle.native_ms.specs.Moved.{moved, binsMove}
+use Rattle.native_ms.proofs.MovedLaws.{over-few, over-none, over-more, over-end}
 use Rattle.native_ms.proofs.global.abandon_blocks.Statement.{statement}
 use Rattle.native_ms.proofs.global.abandon_blocks.Tie as tie
 
 abbrev Inv-loop : tie.InvT-loop
-Inv-loop p w₀ to from bin₀ w bin = (length w ≡ length w₀) × (bin ≤ 49) × (view w ≡ eachBelow bin (abandonBin p to from) (view w₀))
+Inv-loop p w₀ to from bin₀ n₀ w bin n = (length w ≡ length w₀) × (bin ≤ 49) × (n ≤ 3072 * bin) × (moved n (view w) ≡ binsMove bin p to from (view w₀))
 
 abbrev μ-loop : tie.MeasureT-loop
-μ-loop p w₀ to from bin₀ w bin = 49 - bin
+μ-loop p w₀ to from bin₀ n₀ w bin n = 49 - bin
 
 loop-holds : tie.Need-loop-holds Inv-loop μ-loop
-loop-holds c = (refl, omega arith, each-none _ _)
+loop-holds c = (refl, omega arith, omega arith, over-none _ _ _ _)
 
 --@ abandon-bin-requires c κs = (@pre .0, @pre .1, @pre .2, @loop-test .taken)
 abandon-bin-requires : tie.Need-abandon-bin-requires Inv-loop μ-loop
 abandon-bin-requires c κs = (c .before .before .before .before .pre .0, c .before .before .before .before .pre .1, c .before .before .before .before .pre .2, c .before .loop-test .taken)
+
+--@ add-n c = omega (arith, @loop .inv .2, @loop-test .taken, over-few _ _ _ _ _ (good-bounds (@args .p) (@pre .0) .blocks-high) (@abandon-bin .ensures))
+add-n : tie.Need-add-n Inv-loop μ-loop
+add-n c = omega (arith, c .before .before .before .before .before .loop .inv .2, c .before .before .before .before .loop-test .taken, over-few _ _ _ _ _ (good-bounds (c .before .before .before .before .before .before .before .args .p) (c .before .before .before .before .before .before .before .pre .0) .blocks-high) (c .before .before .abandon-bin .ensures))
 
 --@ add-bin c = omega (arith, @loop-test .taken)
 add-bin : tie.Need-add-bin Inv-loop μ-loop
@@ -31,18 +35,17 @@ add-bin c = omega (arith, c .before .before .before .before .loop-test .taken)
 loop-less : tie.Need-loop-less Inv-loop μ-loop
 loop-less c = omega (arith, c .before .before .before .before .loop-test .taken)
 
---@ loop-again c = (@abandon-bin .kept .1 .0 ∙ @loop .inv .0, omega (arith, @loop-test .taken), each-more _ _ _ (@loop .inv .2) (@abandon-bin .ensures))
+--@ loop-again c = (@abandon-bin .kept .1 .0 ∙ @loop .inv .0, omega (arith, @loop-test .taken), omega (arith, @loop .inv .2, over-few _ _ _ _ _ (good-bounds (@args .p) (@pre .0) .blocks-high) (@abandon-bin .ensures)), over-more _ _ _ _ _ (@loop .inv .3) (@abandon-bin .ensures))
 loop-again : tie.Need-loop-again Inv-loop μ-loop
-loop-again c = (c .before .before .abandon-bin .kept .1 .0 ∙ c .before .before .before .before .before .loop .inv .0, omega (arith, c .before .before .before .before .loop-test .taken), each-more _ _ _ (c .before .before .before .before .before .loop .inv .2) (c .before .before .abandon-bin .ensures))
+loop-again c = (c .before .before .abandon-bin .kept .1 .0 ∙ c .before .before .before .before .before .loop .inv .0, omega (arith, c .before .before .before .before .loop-test .taken), omega (arith, c .before .before .before .before .before .loop .inv .2, over-few _ _ _ _ _ (good-bounds (c .before .before .before .before .before .before .before .args .p) (c .before .before .before .before .before .before .before .pre .0) .blocks-high) (c .before .before .abandon-bin .ensures)), over-more _ _ _ _ _ (c .before .before .before .before .before .loop .inv .3) (c .before .before .abandon-bin .ensures))
 
 --@ same-length c = @loop .inv .0
 same-length : tie.Need-same-length Inv-loop μ-loop
 same-length c = c .before .loop .inv .0
 
---@ returns c = each-end _ _ _ 49 (@loop .inv .1) (@loop-test .left) (@loop .inv .2)
+--@ returns c = over-end _ _ _ _ _ (@loop .inv .1) (@loop-test .left) (@loop .inv .3)
 returns : tie.Need-returns Inv-loop μ-loop
-unfolding abandonBlocks
-returns c = each-end _ _ _ 49 (c .before .loop .inv .1) (c .loop-test .left) (c .before .loop .inv .2)
+returns c = over-end _ _ _ _ _ (c .before .loop .inv .1) (c .loop-test .left) (c .before .loop .inv .3)
 
 pub abandon-blocks-spec : {M : Type 1} → statement M
 abandon-blocks-spec =
@@ -52,6 +55,7 @@ abandon-blocks-spec =
     μ-loop
     loop-holds
     abandon-bin-requires
+    add-n
     add-bin
     loop-less
     loop-again

@@ -1,7 +1,7 @@
 -- `global::destroy` promises `call`, refused or not. Assumes nothing.
 use lib.Dec.{lit≤}
 use mathlib.Core.Path.{_∙_}
-use Rattle.model.specs.Answers.{replyOf}
+use Rattle.model.specs.Answers.{destroyReply}
 use Rattle.laws.proofs.Tables.{put-bound}
 use Rattle.native_ms.proofs.Tests.{through, good-through, passed-by, refused-by}
 use Rattle.native_ms.proofs.SpaceCalls.{bound-low, bound-high, sets-low, destroy-plan, bound-by, destroy-done}
@@ -38,7 +38,7 @@ same-length c = search needs
 
 --@ returns c = refused-by (@args .p) _ _ _ _ _ _ _ (destroy-plan (@args .p) _ _) (@check-bound .ensures) (@r .given .1)
 returns : tie.Need-returns
-unfolding replyOf
+unfolding destroyReply
 returns c = refused-by (c .before .before .before .before .before .before .before .before .before .args .p) _ _ _ _ _ _ _ (destroy-plan (c .before .before .before .before .before .before .before .before .before .args .p) _ _) (c .before .before .before .check-bound .ensures) (c .before .r .given .1)
 
 --@ same-length-2 c = @set-bound .kept .0 ∙ @abandon-blocks .kept .1 .0
@@ -47,7 +47,7 @@ same-length-2 c = c .before .before .set-bound .kept .0 ∙ c .before .before .b
 
 --@ returns-2 c = destroy-done _ (passed-by (@args .p) _ _ _ _ _ _ _ (destroy-plan (@args .p) _ _) (@check-bound .ensures) (@enum-told .given .1)) (@set-bound .kept .0 ∙ @abandon-blocks .kept .1 .0) (@local-sets .ensures) (@abandon-blocks .ensures) (put-bound _ _ _ (@set-bound .ensures))
 returns-2 : tie.Need-returns-2
-unfolding replyOf
+unfolding destroyReply
 returns-2 c = destroy-done _ (passed-by (c .before .before .before .before .before .before .before .before .before .before .before .before .before .before .before .before .before .args .p) _ _ _ _ _ _ _ (destroy-plan (c .before .before .before .before .before .before .before .before .before .before .before .before .before .before .before .before .before .args .p) _ _) (c .before .before .before .before .before .before .before .before .before .before .before .check-bound .ensures) (c .before .before .before .before .before .before .before .before .before .enum-told .given .1)) (c .before .before .set-bound .kept .0 ∙ c .before .before .before .before .before .before .abandon-blocks .kept .1 .0) (c .before .before .before .before .before .before .before .before .local-sets .ensures) (c .before .before .before .before .before .before .abandon-blocks .ensures) (put-bound _ _ _ (c .before .before .set-bound .ensures))
 
 pub destroy-spec : {M : Type 1} → statement M

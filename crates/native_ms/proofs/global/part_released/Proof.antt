@@ -1,8 +1,8 @@
--- `global::part_released` is `partReleased`: the phase, the mark, and at the last the end. Assumes nothing.
+-- `global::part_released` is `partReleased` and counts as `merged`: the phase, the mark, and at the last the end. Assumes nothing.
 use native.Mathlib.Omega.{arith}
 use mathlib.Core.Path.{_∙_}
 use Rattle.laws.proofs.Tables.{put-released, put-phase}
-use Rattle.native_ms.proofs.SpaceCalls.{part-last, part-due}
+use Rattle.native_ms.proofs.MovedLaws.{part-last, part-due}
 use Rattle.native_ms.proofs.global.part_released.Statement.{statement}
 use Rattle.native_ms.proofs.global.part_released.Tie as tie
 

@@ -2,6 +2,7 @@
 use native.Mathlib.Omega.{arith}
 use mathlib.Core.Path.{_∙_}
 use Rattle.native_ms.proofs.SpaceCalls.{sets-low}
+use Rattle.native_ms.proofs.MovedLaws.{over-words}
 use Rattle.native_ms.proofs.Releases.{holder-total}
 use Rattle.native_ms.proofs.global.release_holder.Statement.{statement}
 use Rattle.native_ms.proofs.global.release_holder.Tie as tie
@@ -26,9 +27,9 @@ same-length c = c .before .before .abandon-blocks .kept .1 .0 ∙ c .before .bef
 same-length-2 : tie.Need-same-length-2
 same-length-2 c = c .before .before .before .before .before .before .before .before .release-bins .kept .1 .1 .0
 
---@ returns c = holder-total _ _ _ _ (@local-sets .ensures) (@release-bins .ensures) (@abandon-blocks .ensures)
+--@ returns c = holder-total _ _ _ _ (@local-sets .ensures) (@release-bins .ensures) (over-words _ _ _ _ (@abandon-blocks .ensures))
 returns : tie.Need-returns
-returns c = holder-total _ _ _ _ (c .before .before .before .before .before .before .before .before .before .before .before .local-sets .ensures) (c .before .before .before .before .before .before .before .before .release-bins .ensures) (c .before .before .abandon-blocks .ensures)
+returns c = holder-total _ _ _ _ (c .before .before .before .before .before .before .before .before .before .before .before .local-sets .ensures) (c .before .before .before .before .before .before .before .before .release-bins .ensures) (over-words _ _ _ _ (c .before .before .abandon-blocks .ensures))
 
 pub release-holder-spec : {M : Type 1} → statement M
 release-holder-spec =

@@ -2,6 +2,7 @@
 use mathlib.Core.Path.{_∙_}
 use Rattle.native_ms.proofs.Releases.{blocks-low, two-fit, three-fit, later-total}
 use Rattle.model.specs.Tables.{view}
+use Rattle.native_ms.proofs.MovedLaws.{moves-words}
 use borrow.Author.Needs.{needs}
 use Rattle.native_ms.proofs.global.sweep_later_bin.Statement.{statement}
 use Rattle.native_ms.proofs.global.sweep_later_bin.Tie as tie
@@ -51,9 +52,9 @@ same-length c = c .before .before .append2 .kept .1 .0 ∙ c .before .before .be
 same-length-2 : tie.Need-same-length-2
 same-length-2 c = c .before .before .before .before .before .before .before .before .before .before .before .before .release-blocks3 .kept .1 .1 .0 ∙ c .before .before .before .before .before .before .before .before .before .before .before .before .before .before .before .before .before .before .before .release-blocks2 .kept .1 .1 .0 ∙ c .before .before .before .before .before .before .before .before .before .before .before .before .before .before .before .before .before .before .before .before .before .before .before .before .before .before .release-blocks .kept .1 .1 .0
 
---@ returns c = later-total (@args .p) (@args .bin) (view (@args .w .now)) (@args .st .now) (@available .ensures .same) (@unswept .ensures .same) (@consumed .ensures .same) (@release-blocks .ensures) (@release-blocks2 .ensures) (@release-blocks3 .ensures) (@append .ensures) (@append2 .ensures)
+--@ returns c = later-total (@args .p) (@args .bin) (view (@args .w .now)) (@args .st .now) (@available .ensures .same) (@unswept .ensures .same) (@consumed .ensures .same) (@release-blocks .ensures) (@release-blocks2 .ensures) (@release-blocks3 .ensures) (moves-words _ _ _ _ (@append .ensures)) (moves-words _ _ _ _ (@append2 .ensures))
 returns : tie.Need-returns
-returns c = later-total (c .before .before .before .before .before .before .before .before .before .before .before .before .before .before .before .before .before .before .before .before .before .before .before .before .before .before .before .before .before .before .before .before .before .before .args .p) (c .before .before .before .before .before .before .before .before .before .before .before .before .before .before .before .before .before .before .before .before .before .before .before .before .before .before .before .before .before .before .before .before .before .before .args .bin) (view (c .before .before .before .before .before .before .before .before .before .before .before .before .before .before .before .before .before .before .before .before .before .before .before .before .before .before .before .before .before .before .before .before .before .before .args .w .now)) (c .before .before .before .before .before .before .before .before .before .before .before .before .before .before .before .before .before .before .before .before .before .before .before .before .before .before .before .before .before .before .before .before .before .before .args .st .now) (c .before .before .before .before .before .before .before .before .before .before .before .before .before .before .before .before .before .before .before .before .before .before .before .before .before .before .before .before .before .before .before .available .ensures .same) (c .before .before .before .before .before .before .before .before .before .before .before .before .before .before .before .before .before .before .before .before .before .before .before .before .before .before .before .before .before .before .unswept .ensures .same) (c .before .before .before .before .before .before .before .before .before .before .before .before .before .before .before .before .before .before .before .before .before .before .before .before .before .before .before .before .before .consumed .ensures .same) (c .before .before .before .before .before .before .before .before .before .before .before .before .before .before .before .before .before .before .before .before .before .before .before .before .before .before .release-blocks .ensures) (c .before .before .before .before .before .before .before .before .before .before .before .before .before .before .before .before .before .before .before .release-blocks2 .ensures) (c .before .before .before .before .before .before .before .before .before .before .before .before .release-blocks3 .ensures) (c .before .before .before .before .before .before .append .ensures) (c .before .before .append2 .ensures)
+returns c = later-total (c .before .before .before .before .before .before .before .before .before .before .before .before .before .before .before .before .before .before .before .before .before .before .before .before .before .before .before .before .before .before .before .before .before .before .args .p) (c .before .before .before .before .before .before .before .before .before .before .before .before .before .before .before .before .before .before .before .before .before .before .before .before .before .before .before .before .before .before .before .before .before .before .args .bin) (view (c .before .before .before .before .before .before .before .before .before .before .before .before .before .before .before .before .before .before .before .before .before .before .before .before .before .before .before .before .before .before .before .before .before .before .args .w .now)) (c .before .before .before .before .before .before .before .before .before .before .before .before .before .before .before .before .before .before .before .before .before .before .before .before .before .before .before .before .before .before .before .before .before .before .args .st .now) (c .before .before .before .before .before .before .before .before .before .before .before .before .before .before .before .before .before .before .before .before .before .before .before .before .before .before .before .before .before .before .before .available .ensures .same) (c .before .before .before .before .before .before .before .before .before .before .before .before .before .before .before .before .before .before .before .before .before .before .before .before .before .before .before .before .before .before .unswept .ensures .same) (c .before .before .before .before .before .before .before .before .before .before .before .before .before .before .before .before .before .before .before .before .before .before .before .before .before .before .before .before .before .consumed .ensures .same) (c .before .before .before .before .before .before .before .before .before .before .before .before .before .before .before .before .before .before .before .before .before .before .before .before .before .before .release-blocks .ensures) (c .before .before .before .before .before .before .before .before .before .before .before .before .before .before .before .before .before .before .before .release-blocks2 .ensures) (c .before .before .before .before .before .before .before .before .before .before .before .before .release-blocks3 .ensures) (moves-words _ _ _ _ (c .before .before .before .before .before .before .append .ensures)) (moves-words _ _ _ _ (c .before .before .append2 .ensures))
 
 pub sweep-later-bin-spec : {M : Type 1} → statement M
 sweep-later-bin-spec =
