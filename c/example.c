@@ -99,7 +99,8 @@ static void collect(struct native_ms_space *s, const uint64_t *live, size_t coun
         }
     must("shared release", native_ms_shared_release(NATIVE_MS_LENT(s)));
     released += answered(s, NATIVE_MS_RELEASE_BLOCKS);
-    printf("collected: %llu blocks released\n", (unsigned long long)released);
+    printf("collected: %llu blocks released, %llu merged by the last\n", (unsigned long long)released,
+           (unsigned long long)answered(s, NATIVE_MS_RELEASE_MERGED));
 }
 
 /* The free cells of each block in use, along its chain. A block that awaits a sweep still has its chain of before. */
@@ -148,6 +149,7 @@ int main(void)
     list_free(s);
 
     must("destroy", native_ms_destroy(NATIVE_MS_LENT(s), 1));
+    printf("holder 1 left %llu blocks behind\n", (unsigned long long)answered(s, NATIVE_MS_DESTROY_BLOCKS));
     uint64_t third = take(s, 2, 1000, 8);
     printf("holder 2 took over: block %llu\n", (unsigned long long)((third - s->base) / s->bytes));
     list_free(s);

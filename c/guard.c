@@ -183,10 +183,10 @@ static size_t make(int which, size_t *values)
     switch (which) {
     case 0: return native_ms_set_up(LENT);
     case 1: return native_ms_bind(LENT, to_bind > 0 ? to_bind-- : a_holder());
-    case 2: return native_ms_destroy(LENT, a_holder());
+    case 2: *values = 1; return native_ms_destroy(LENT, a_holder());
     case 3: return native_ms_prepare(LENT);
-    case 4: *values = 1; return native_ms_release(LENT, a_holder());
-    case 5: *values = 1; return native_ms_shared_release(LENT);
+    case 4: *values = 2; return native_ms_release(LENT, a_holder());
+    case 5: *values = 2; return native_ms_shared_release(LENT);
     case 6: {
         uint64_t at = place_in_heap();
         *values = 1;

@@ -29,7 +29,7 @@ extern "C" {
 #endif
 
 /* This interface. It changes whenever a signature, a length or an answer does. */
-#define NATIVE_MS_VERSION 1
+#define NATIVE_MS_VERSION 2
 
 #if SIZE_MAX != UINT64_MAX
 #error "size_t must have 64 bits"
@@ -58,13 +58,13 @@ extern "C" {
 
 size_t native_ms_set_up(NATIVE_MS_PARAMS, NATIVE_MS_SLICES);                                  /* none */
 size_t native_ms_bind(NATIVE_MS_PARAMS, NATIVE_MS_SLICES, size_t holder);                     /* none */
-size_t native_ms_destroy(NATIVE_MS_PARAMS, NATIVE_MS_SLICES, size_t holder);                  /* none */
+size_t native_ms_destroy(NATIVE_MS_PARAMS, NATIVE_MS_SLICES, size_t holder);                  /* blocks gone over to abandoned */
 size_t native_ms_alloc(NATIVE_MS_PARAMS, NATIVE_MS_SLICES, size_t holder, size_t size, size_t align, size_t offset,
                        size_t offer);                                  /* address, cell size, offer used (0, 1), blocks swept */
 size_t native_ms_prepare(NATIVE_MS_PARAMS, NATIVE_MS_SLICES);                                 /* none */
 size_t native_ms_mark(NATIVE_MS_PARAMS, NATIVE_MS_SLICES, size_t place, size_t block);        /* whether it is new (0, 1) */
-size_t native_ms_release(NATIVE_MS_PARAMS, NATIVE_MS_SLICES, size_t holder);                  /* blocks released */
-size_t native_ms_shared_release(NATIVE_MS_PARAMS, NATIVE_MS_SLICES);                          /* blocks released */
+size_t native_ms_release(NATIVE_MS_PARAMS, NATIVE_MS_SLICES, size_t holder);                  /* blocks released, merged */
+size_t native_ms_shared_release(NATIVE_MS_PARAMS, NATIVE_MS_SLICES);                          /* blocks released, merged */
 
 /* alloc: an offer of this number offers no block */
 #define NATIVE_MS_NO_OFFER UINT64_MAX
@@ -75,7 +75,9 @@ size_t native_ms_shared_release(NATIVE_MS_PARAMS, NATIVE_MS_SLICES);            
 #define NATIVE_MS_ALLOC_OFFER_USED 2
 #define NATIVE_MS_ALLOC_SWEPT 3
 #define NATIVE_MS_MARK_NEW 0
+#define NATIVE_MS_DESTROY_BLOCKS 0
 #define NATIVE_MS_RELEASE_BLOCKS 0
+#define NATIVE_MS_RELEASE_MERGED 1 /* from in-gc to abandoned by the last release; 0 if others are due */
 
 /* ---- refusals, in the order in which they are tested */
 

@@ -26,7 +26,7 @@ ARENA = 1 << 16         # small heaps, since each dump prints every mark byte
 LAST = 'no_newline'     # its last line has no newline, so it stands last
 THROUGH = ('example', 'exhausted', 'bad_link', 'refused_1', 'refused_2_order', 'refused_3', 'refused_4', 'refused_5', 'refused_6',
            'refused_7', 'refused_10', 'release_walk', 'merge', 'sweep_negative_L')    # told again through the exports
-VALUES = {'setup': 0, 'b': 0, 'd': 0, 'p': 0, 'a': 4, 'm': 1, 'r': 1, 's': 1}
+VALUES = {'setup': 0, 'b': 0, 'd': 1, 'p': 0, 'a': 4, 'm': 1, 'r': 2, 's': 2}
 NO_OFFER = str(2 ** 64 - 1)     # directly a block that isn't there, through an export none
 NOT_FOR_THE_RUST = '# not for the Rust'
 

@@ -5,6 +5,7 @@ use model::AllocAnswer;
 use model::Answer;
 use model::Ask;
 use model::Block;
+use model::DestroyAnswer;
 use model::MarkAnswer;
 use model::Params;
 use model::Refusal;
@@ -15,7 +16,7 @@ use native_ms::global;
 ghost use mathlib.Core.Path.{_≡_};
 ghost use Rattle.model.specs.Base.{flag};
 ghost use Rattle.model.specs.Calls.{refusalNumber, refused, call, setUp};
-ghost use Rattle.model.specs.Answers.{replyOf, allocReply, markReply, releaseReply, callOf, saidOf, outcome, outcomeOf};
+ghost use Rattle.model.specs.Answers.{replyOf, destroyReply, allocReply, markReply, releaseReply, callOf, saidOf, outcome, outcomeOf};
 ghost use Rattle.model.specs.Promise.{lend};
 
 // Document 01's number of a refusal.
@@ -112,15 +113,30 @@ fn mark_said(x: MarkAnswer) -> Said
     }
 }
 
+fn destroy_said(x: DestroyAnswer) -> Said
+    ensures { λ r. ⌜ r ≡ saidOf (destroyReply x) ⌝ }
+{
+    match x {
+        DestroyAnswer::Refused(refusal) => refusal_said(refusal),
+        DestroyAnswer::Destroyed { blocks } => Said {
+            number: 0,
+            first: blocks,
+            second: 0,
+            third: 0,
+            fourth: 0,
+        },
+    }
+}
+
 fn release_said(x: ReleaseAnswer) -> Said
     ensures { λ r. ⌜ r ≡ saidOf (releaseReply x) ⌝ }
 {
     match x {
         ReleaseAnswer::Refused(refusal) => refusal_said(refusal),
-        ReleaseAnswer::Released { blocks } => Said {
+        ReleaseAnswer::Released { blocks, merged } => Said {
             number: 0,
             first: blocks,
-            second: 0,
+            second: merged,
             third: 0,
             fourth: 0,
         },
@@ -153,7 +169,7 @@ pub fn perform(
 {
     match ask {
         Ask::Bind(h) => simple_said(global::bind(p, words, states, marks, heap, h)),
-        Ask::Destroy(h) => simple_said(global::destroy(p, words, states, marks, heap, h)),
+        Ask::Destroy(h) => destroy_said(global::destroy(p, words, states, marks, heap, h)),
         Ask::Alloc {
             holder,
             size,

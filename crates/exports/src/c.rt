@@ -246,7 +246,7 @@ pub extern "C" fn native_ms_bind(
     )
 }
 
-// Destroy. The answer: no numbers.
+// Destroy. The answer: blocks that went over to abandoned.
 #[no_mangle]
 pub extern "C" fn native_ms_destroy(
     base: usize,
@@ -414,7 +414,7 @@ pub extern "C" fn native_ms_mark(
     )
 }
 
-// Release. The answer: blocks released.
+// Release. The answer: blocks released, blocks merged.
 #[no_mangle]
 pub extern "C" fn native_ms_release(
     base: usize,
@@ -455,7 +455,7 @@ pub extern "C" fn native_ms_release(
     )
 }
 
-// Shared release. The answer: blocks released.
+// Shared release. The answer: blocks released, blocks merged.
 #[no_mangle]
 pub extern "C" fn native_ms_shared_release(
     base: usize,

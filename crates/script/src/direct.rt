@@ -98,7 +98,7 @@ fn space(
 ) -> Reply {
     match letter {
         b'b' => reply::of_answer(global::bind(p, w, st, marks, heap, v[0])),
-        b'd' => reply::of_answer(global::destroy(p, w, st, marks, heap, v[0])),
+        b'd' => reply::of_destroy(global::destroy(p, w, st, marks, heap, v[0])),
         b'p' => reply::of_answer(global::prepare(p, w, st, marks, heap)),
         b'm' => mark(p, w, st, marks, heap, v[0], v[1]),
         b'r' => reply::of_release(global::release(p, w, st, marks, heap, v[0])),

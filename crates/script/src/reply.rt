@@ -3,6 +3,7 @@ use crate::out;
 use crate::setup;
 use calls::refusal_number;
 use model::Answer;
+use model::DestroyAnswer;
 use model::Refusal;
 use model::ReleaseAnswer;
 use words::bytes;
@@ -29,6 +30,7 @@ pub(crate) enum Reply {
     Done,
     Nothing,
     One(usize),
+    Two(usize, usize),
     Three(usize, usize, usize),
     Four(usize, usize, usize, usize),
     Refused(Refusal),
@@ -42,9 +44,16 @@ pub(crate) fn of_answer(a: Answer) -> Reply {
     }
 }
 
+pub(crate) fn of_destroy(a: DestroyAnswer) -> Reply {
+    match a {
+        DestroyAnswer::Destroyed { blocks } => Reply::One(blocks),
+        DestroyAnswer::Refused(r) => Reply::Refused(r),
+    }
+}
+
 pub(crate) fn of_release(a: ReleaseAnswer) -> Reply {
     match a {
-        ReleaseAnswer::Released { blocks } => Reply::One(blocks),
+        ReleaseAnswer::Released { blocks, merged } => Reply::Two(blocks, merged),
         ReleaseAnswer::Refused(r) => Reply::Refused(r),
     }
 }
@@ -95,6 +104,11 @@ fn words(o: &mut [u8; out::OUT], n: usize, r: Reply) -> usize {
         Reply::One(a) => {
             let m = out::text(o, n, b"ok");
             out::word(o, m, a)
+        }
+        Reply::Two(a, b) => {
+            let m = out::text(o, n, b"ok");
+            let k = out::word(o, m, a);
+            out::word(o, k, b)
         }
         Reply::Three(a, b, c) => {
             let m = out::text(o, n, b"ok");

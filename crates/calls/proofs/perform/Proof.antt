@@ -20,8 +20,8 @@ enum-known-ask-2 c = search needs
 destroy-requires : tie.Need-destroy-requires
 destroy-requires c κs = search needs
 
-simple-said-requires-2 : tie.Need-simple-said-requires-2
-simple-said-requires-2 c κs = search needs
+destroy-said-requires : tie.Need-destroy-said-requires
+destroy-said-requires c κs = search needs
 
 enum-known-ask-3 : tie.Need-enum-known-ask-3
 enum-known-ask-3 c = search needs
@@ -38,8 +38,8 @@ enum-told c = search needs
 prepare-requires : tie.Need-prepare-requires
 prepare-requires c κs = search needs
 
-simple-said-requires-3 : tie.Need-simple-said-requires-3
-simple-said-requires-3 c κs = search needs
+simple-said-requires-2 : tie.Need-simple-said-requires-2
+simple-said-requires-2 c κs = search needs
 
 enum-known-ask-4 : tie.Need-enum-known-ask-4
 enum-known-ask-4 c = search needs
@@ -97,10 +97,10 @@ same-length-7 c = search needs
 same-length-8 : tie.Need-same-length-8
 same-length-8 c = search needs
 
---@ returns-2 c = of-call (@ask2 .given .1) (@destroy .ensures) (@simple-said2 .ensures)
+--@ returns-2 c = of-call (@ask2 .given .1) (@destroy .ensures) (@destroy-said .ensures)
 returns-2 : tie.Need-returns-2
 unfolding callOf
-returns-2 c = of-call (c .before .before .before .before .before .before .before .before .before .ask2 .given .1) (c .before .before .before .destroy .ensures) (c .simple-said2 .ensures)
+returns-2 c = of-call (c .before .before .before .before .before .before .before .before .before .ask2 .given .1) (c .before .before .before .destroy .ensures) (c .destroy-said .ensures)
 
 same-length-9 : tie.Need-same-length-9
 same-length-9 c = search needs
@@ -131,10 +131,10 @@ same-length-15 c = search needs
 same-length-16 : tie.Need-same-length-16
 same-length-16 c = search needs
 
---@ returns-4 c = of-call (@enum-told .given .1) (@prepare .ensures) (@simple-said3 .ensures)
+--@ returns-4 c = of-call (@enum-told .given .1) (@prepare .ensures) (@simple-said2 .ensures)
 returns-4 : tie.Need-returns-4
 unfolding callOf
-returns-4 c = of-call (c .before .before .before .before .before .before .before .before .before .before .before .before .enum-told .given .1) (c .before .before .before .before .before .before .before .prepare .ensures) (c .simple-said3 .ensures)
+returns-4 c = of-call (c .before .before .before .before .before .before .before .before .before .before .before .before .enum-told .given .1) (c .before .before .before .before .before .before .before .prepare .ensures) (c .simple-said2 .ensures)
 
 same-length-17 : tie.Need-same-length-17
 same-length-17 c = search needs
@@ -196,13 +196,13 @@ perform-spec =
     simple-said-requires
     enum-known-ask-2
     destroy-requires
-    simple-said-requires-2
+    destroy-said-requires
     enum-known-ask-3
     alloc-requires
     alloc-said-requires
     enum-told
     prepare-requires
-    simple-said-requires-3
+    simple-said-requires-2
     enum-known-ask-4
     mark-requires
     mark-said-requires
