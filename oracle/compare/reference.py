@@ -94,6 +94,10 @@ def owner_of(number):
     return (number - 1) // (3 * BINS) + 1
 
 
+def kind_of(number):
+    return (number - 1) // BINS % 3
+
+
 def bin_of_list(number):
     return (number - 1) % BINS
 
@@ -280,17 +284,21 @@ class Space:
             self.list[self.block_at(before)] = l
 
     def append(self, l, other):
+        """How many blocks were appended."""
         if self.first[other] == 0:
-            return
+            return 0
         if self.first[l] == 0:
             self.first[l] = self.first[other]
         else:
             self.next[self.block_at(self.last[l])] = self.first[other]
             self.prev[self.block_at(self.first[other])] = self.last[l]
         self.last[l] = self.last[other]
+        blocks = 0
         for b in self.walk(other):
             self.list[b] = l
+            blocks += 1
         self.first[other] = self.last[other] = 0
+        return blocks
 
     def walk(self, l):
         """The blocks of a list; next is read before the block is used."""
@@ -455,14 +463,16 @@ class Space:
         self.begin()
         refuse_unless(self.phase == RUNNING, WRONG_PHASE)
         refuse_unless(self.is_bound(h), BAD_HOLDER)
-        self.abandon_blocks(h, ABANDONED)
+        left = self.abandon_blocks(h, ABANDONED)
         self.bound &= ~(1 << h)
+        return left
 
-    def abandon_blocks(self, h, owner):
-        for bin in range(BINS):
-            for kind in (AVAILABLE, CONSUMED, UNSWEPT):
-                self.append(list_number(owner, kind, bin),
-                            list_number(h, kind, bin))
+    def abandon_blocks(self, owner, to):
+        """How many blocks went over."""
+        return sum(self.append(list_number(to, kind, bin),
+                               list_number(owner, kind, bin))
+                   for bin in range(BINS)
+                   for kind in (AVAILABLE, CONSUMED, UNSWEPT))
 
     def prepare(self):
         self.begin()
@@ -535,14 +545,12 @@ class Space:
         """The first enters Releasing; the last merges in-gc and ends it."""
         self.phase = RELEASING
         self.released |= 1 << part
+        merged = 0
         if self.released == self.bound | 1:
-            for bin in range(BINS):
-                for kind in (AVAILABLE, UNSWEPT, CONSUMED):
-                    self.append(list_number(ABANDONED, kind, bin),
-                                list_number(IN_GC, kind, bin))
+            merged = self.abandon_blocks(IN_GC, ABANDONED)
             self.released = 0
             self.phase = RUNNING
-        return self.count('release')
+        return self.count('release'), merged
 
     def pages_used(self, set):
         """Bins 1 to 48 of one set; walks tables that need not be sound."""
@@ -726,8 +734,7 @@ class Driver:
         return 'ok'
 
     def do_destroy(self, h):
-        self.space.destroy(h)
-        return 'ok'
+        return 'ok %d' % self.space.destroy(h)
 
     def do_prepare(self):
         self.space.prepare()
@@ -744,10 +751,10 @@ class Driver:
         return 'ok %d' % self.space.mark(place, b)
 
     def do_release(self, h):
-        return 'ok %d' % self.space.release(h)
+        return 'ok %d %d' % self.space.release(h)
 
     def do_shared_release(self):
-        return 'ok %d' % self.space.shared_release()
+        return 'ok %d %d' % self.space.shared_release()
 
     def do_pages_used(self, set):
         bad_unless(set < SETS)

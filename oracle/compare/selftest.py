@@ -225,6 +225,31 @@ class SweptNotCounted(ref.Space):
                    for e in self.events)
 
 
+class UnsweptNotCounted(ref.Space):
+    """Leaves unswept blocks out of those that went over."""
+
+    def append(self, l, other):
+        blocks = super().append(l, other)
+        return 0 if ref.kind_of(other) == ref.UNSWEPT else blocks
+
+
+class MergedEarly(ref.Space):
+    """Answers the blocks of in-gc in a release that isn't the last."""
+
+    def end_release(self, part):
+        waiting = sum(s != ref.UNALLOCATED and ref.owner_of(l) == ref.IN_GC
+                      for s, l in zip(self.state, self.list))
+        released, merged = super().end_release(part)
+        return released, merged or waiting
+
+
+class OneForEachList(ref.Space):
+    """Counts lists in place of blocks."""
+
+    def append(self, l, other):
+        return min(1, super().append(l, other))
+
+
 class OfferOnlyIfNeeded(ref.Space):
     """Tests the offer only where it is needed."""
 
@@ -320,6 +345,9 @@ MUTANTS = {
     'last-place-missed': ('rust', LastPlaceMissed),
     'stale-marks': ('rust', StaleMarks),
     'swept-not-counted': ('rust', SweptNotCounted),
+    'unswept-not-counted': ('rust', UnsweptNotCounted),
+    'merged-early': ('rust', MergedEarly),
+    'one-for-each-list': ('rust', OneForEachList),
     'offer-only-if-needed': ('all', OfferOnlyIfNeeded),
     'bad-link-takes-cell': ('all', BadLinkTakesCell),
     'undone-moves': ('rust', UndoneMoves),

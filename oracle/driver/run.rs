@@ -1,6 +1,7 @@
 //! A run: what is set up, and the answer to each line.
 use crate::script::{parse, Line};
 use lent::{Leaves, Machine, Params};
+use std::collections::BTreeSet;
 use std::io::{self, Write};
 use std::panic::{catch_unwind, AssertUnwindSafe};
 
@@ -16,6 +17,8 @@ const MARKING: u64 = 1;
 const RELEASING: u64 = 2;
 const LISTS: u64 = 1470;
 const SETS: u64 = 30;
+const BINS: usize = 49;
+const ABANDONED: usize = 24;
 const HOLDER_BITS: u64 = 0x1fe;
 const MOST_OFFSET: u64 = 65536;
 
@@ -136,10 +139,41 @@ impl Space {
         Ok("ok".into())
     }
 
+    /// How many blocks went over to abandoned.
     fn destroy(&mut self, h: u64) -> Answer {
+        let before = self.abandoned();
         try_rust(|| self.machine.destroy(h))?;
         self.bound &= !(1 << h);
-        Ok("ok".into())
+        ok(self.went_over(&before))
+    }
+
+    /// The blocks on the abandoned lists, by address.
+    fn abandoned(&self) -> BTreeSet<u64> {
+        let first_list = 1 + BINS * ABANDONED;
+        let mut met = BTreeSet::new();
+        for number in first_list..first_list + 3 * BINS {
+            let mut link = self.machine.list(number).0;
+            while let Some(block) = self.block_at(link) {
+                // A block met before ends the walk: a ring, which loaded tables may have.
+                if !met.insert(link) {
+                    break;
+                }
+                link = lent::entry(lent::NEXT, block);
+            }
+        }
+        met
+    }
+
+    /// The block that starts at this link.
+    fn block_at(&self, link: u64) -> Option<usize> {
+        let at = (link as usize).checked_sub(self.params.base)?;
+        let block = at / self.params.block_bytes();
+        (at % self.params.block_bytes() == 0 && block < self.params.blocks).then_some(block)
+    }
+
+    /// The blocks on abandoned lists that were on none before. The Rust counts none of this.
+    fn went_over(&self, before: &BTreeSet<u64>) -> usize {
+        self.abandoned().difference(before).count()
     }
 
     fn alloc(&mut self, options: Options, h: u64, request: [u64; 3], offer: Option<u64>) -> Answer {
@@ -180,8 +214,9 @@ impl Space {
     }
 
     /// A release of a holder or of the shared part. The first enters Releasing; the merge, which
-    /// the Rust makes in the last, ends it.
+    /// the Rust makes in the last, ends it. The answer: blocks released, blocks merged.
     fn release(&mut self, bit: u64, call: impl FnOnce(&mut dyn Machine)) -> Answer {
+        let before = self.abandoned();
         if self.phase == MARKING {
             let due = self.bound.count_ones() as usize;
             try_rust(|| self.machine.begin_release(due))?;
@@ -194,7 +229,7 @@ impl Space {
             self.released = 0;
             try_rust(|| self.machine.end_of_gc())?;
         }
-        ok(lent::call().released)
+        ok(format_args!("{} {}", lent::call().released, self.went_over(&before)))
     }
 
     /// The bin, or `-` where the Rust's assertion says that there is none.
