@@ -24,7 +24,7 @@ pub type Call = unsafe extern "C" fn(P, W, N, B, N, B, N, B, N, N, N, N) -> N;
 
 // A slice is its place and its length.
 extern "C" {
-    fn port_check(p: P, w: W, wn: N, st: B, stn: N, marks: N, heap: N) -> bool;
+    fn port_check(p: P, w: W, wn: N, st: B, stn: N, m: B, mn: N, h: B, hn: N) -> bool;
     fn port_init(p: P, w: W, wn: N, st: B, stn: N, h: B, hn: N, b: N, s: N);
     fn port_sweep(p: P, w: W, wn: N, m: B, mn: N, h: B, hn: N, b: N);
     fn port_take(p: P, w: W, wn: N, h: B, hn: N, b: N) -> N;
@@ -53,7 +53,7 @@ macro_rules! call {
 
 impl Port {
     pub fn check(&mut self) -> bool {
-        call!(self, port_check, (words states) self.marks.len(), self.heap.len())
+        call!(self, port_check, (words states marks heap))
     }
     pub fn init(&mut self, block: usize, cell: usize) {
         call!(self, port_init, (words states heap) block, cell)

@@ -57,9 +57,9 @@ for name in port bare; do
     sed "s/fn port_/fn ${name}_/" "$here/port.txt" >"$out/$name/native_ms/src/bench_port.rt"
     echo 'pub mod bench_port;' >>"$out/$name/native_ms/src/lib.rt"
 done
-global=$out/bare/native_ms/src/global.rt
-sed -i '/^pub(crate) fn check_lent(/,/^}/ s/^{$/{\n    return Tested::Passed;/' "$global"
-[ "$(grep -c '^    return Tested::Passed;' "$global")" = 1 ] || fail "global.rt has no check_lent of its known form"
+checks=$out/bare/native_ms/src/checks.rt
+sed -i '/^pub(crate) fn check_lent(/,/^}/ s/^{$/{\n    return Tested::Passed;/' "$checks"
+[ "$(sed -n '/^pub(crate) fn check_lent(/,/^}/p' "$checks" | grep -c '^    return Tested::Passed;')" = 1 ] || fail "checks.rt has no check_lent of its known form"
 compile_port port
 compile_port bare
 

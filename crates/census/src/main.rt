@@ -2,7 +2,7 @@
 // read only to say on standard error that there is a rest. A read or a write that fails is told there too.
 use libc::STDERR_FILENO;
 use libc::STDOUT_FILENO;
-use listing::lines;
+use trace::lines;
 ghost use Prim.Native.Nat.{_≤_};
 ghost use lib.ListN.{length};
 

@@ -4,11 +4,11 @@
 use exports::c;
 use libc::STDERR_FILENO;
 use libc::STDOUT_FILENO;
-use listing::Line;
-use listing::NextLine;
-use listing::lines;
 use model::Ask;
 use model::Offer;
+use trace::Line;
+use trace::NextLine;
+use trace::lines;
 
 const BASE: usize = 16384;
 

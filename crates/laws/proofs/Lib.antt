@@ -17,3 +17,4 @@ pub mod Linked
 pub mod Text
 pub mod Stores
 pub mod Lent
+pub mod Tests

@@ -1,6 +1,2 @@
-pub mod NumberLaws
-pub mod WordsLaws
-pub mod LineLaws
-pub mod LinesLaws
 pub mod PrintLaws
-pub mod Left
+pub mod SectionsLaws

@@ -1,5 +1,3 @@
-pub mod Number
-pub mod Words
-pub mod Line
-pub mod Lines
 pub mod Print
+pub mod Sections
+pub mod Listing

@@ -1,33 +1,26 @@
-// The leaves of the census program: what a trace's bytes say, and how a listing's bytes are made. specs/ ties each to the
-// model's Census.
-use model::Ask;
-use model::Offer;
+// The listing of the census program: from what stands after a trace's lines to the bytes that are printed. specs/ ties each
+// piece to the model's Census.
+ghost use Rattle.model.specs.Text.{Printed};
+ghost use Rattle.listing.specs.Listing.{listingText};
 
-mod line_words;
-pub mod lines;
-mod numbers;
+mod chain;
 pub mod print;
+mod sections;
+pub mod space;
 
-// What a word says: a number, or nothing that is one.
-pub enum Number {
-    Value(usize),
-    None,
-}
-
-// What a line asks; `Bad` is a line of another form.
-pub enum Line {
-    Asks(Ask),
-    Bad,
-}
-
-// What an alloc's last word says: an offer, or nothing that is one.
-pub enum Offered {
-    Offer(Offer),
-    None,
-}
-
-// What a trace holds at a place: a line, from its first byte to before its newline, with the place of the next; or no more.
-pub enum NextLine {
-    Line { from: usize, to: usize, next: usize },
-    End,
+// The three sections of what stands after a trace's lines.
+pub fn listing(
+    out: &mut [u8],
+    lines: &[usize],
+    numbers: &[usize],
+    words: &[usize],
+    states: &[u8],
+    marks: &[u8],
+    heap: &[u8],
+) -> usize
+    ensures { λ r. ⌜ Printed (now (out .entry)) (now (out .exit)) 0 r (listingText (now (lines .entry)) (now (numbers .entry)) (now (words .entry)) (now (states .entry)) (now (marks .entry)) (now (heap .entry))) ⌝ }
+{
+    let refused = print::refused_section(out, 0, lines, numbers);
+    let blocks = sections::blocks_section(out, refused, words, states);
+    sections::free_section(out, blocks, words, states, marks, heap)
 }

@@ -2,8 +2,8 @@
 -- heap byte after it.
 --
 -- A call is planned by the tables and marks alone (`plan`). Only `finish` reads the heap, at the link of the one cell taken.
-use Prim.Native.Nat.{ℕ, suc, _+_, _%_}
-use mathlib.Core.Bool.{Bool, true, false, not, _&&_, _||_}
+use Prim.Native.Nat.{ℕ, _+_, _%_}
+use mathlib.Core.Bool.{Bool, true, not, _&&_, _||_}
 use mathlib.Core.List.{List, [], _∷_, _++_}
 use lib.Dec.{eqb, ltb, leb}
 use lib.ListN.{length, getD}
@@ -12,8 +12,10 @@ use Rattle.model.specs.declared.Offer.{Offer}
 use Rattle.model.specs.declared.Offer.the-variants.{Nothing, Fresh}
 use Rattle.model.specs.declared.Refusal.{Refusal}
 use Rattle.model.specs.declared.Refusal.the-variants.{BadSetup, BadTables, WrongPhase, BadHolder, BadRequest, TooBig, BadOffer, BadLink, Exhausted, BadObject, BadLine}
+use Rattle.model.specs.declared.Tested.{Tested}
+use Rattle.model.specs.declared.Tested.the-variants.{Passed, Refused}
 use Rattle.model.specs.Base.{if_then_else_, flag}
-use Rattle.model.specs.Params.{goodParams, powerOfTwo, Lent, fits, wordCount, heapEnd, inHeap, start, blockAt, minusLower, localSets, abandoned}
+use Rattle.model.specs.Params.{goodParams, powerOfTwo, Lent, fits, wordCount, inHeap, start, blockAt, minusLower, localSets, abandoned}
 use Rattle.model.specs.Memory.{load, marked}
 use Rattle.model.specs.Tables.{Words, Tables, tablesOf, withWords, view, flat, setFree}
 use Rattle.model.specs.SizeClasses.{binOf, raised, alignAllocation}
@@ -103,7 +105,62 @@ goodObject p t place b =
     && (ltb b (p .blocks) && not (eqb (stateOf t b) Unallocated))
     && (leb (start p b) (minusLower p place) && ltb (minusLower p place) (start p b + p .bytes))
 
--- ---- plans, on tables that are sound
+-- "WrongPhase: call not of this phase", of a release; "or released already" is tested beside it, below
+unfoldable pub mayRelease : Words → Bool
+mayRelease w = eqb (w .phase) Marking || eqb (w .phase) Releasing
+
+-- ---- the tests of each call on sound tables, in the order of the refusals' numbers: passed, or the first refusal
+
+abbrev pub refusedIf : Bool → Refusal → Tested
+refusedIf bad r = if bad then Refused r else Passed
+
+-- tests that follow others
+unfoldable pub andThen : Tested → Tested → Tested
+andThen Passed later = later
+andThen (Refused r) later = Refused r
+
+-- "WrongPhase: call not of this phase"
+unfoldable pub phaseTest : Words → ℕ → Tested
+phaseTest w phase = refusedIf (not (eqb (w .phase) phase)) WrongPhase
+
+-- "BadHolder: not 1 to 8; bound already (bind)
+unfoldable pub bindTests : Words → ℕ → Tested
+bindTests w holder = andThen (phaseTest w Running) (refusedIf (not (isHolder holder) || isBound w holder) BadHolder)
+
+-- ; not bound (others)": destroy, alloc
+unfoldable pub boundTests : Words → ℕ → Tested
+boundTests w holder = andThen (phaseTest w Running) (refusedIf (not (isBound w holder)) BadHolder)
+
+-- what is asked for: BadRequest, TooBig, BadOffer
+unfoldable pub requestTests : Params → Tables → ℕ → ℕ → ℕ → Offer → Tested
+requestTests p t size align offset offer =
+    andThen (refusedIf (not (goodRequest p size align offset)) BadRequest)
+    (andThen (refusedIf (tooBig p size align) TooBig) (refusedIf (not (goodOffer p t offer)) BadOffer))
+
+unfoldable pub markTests : Params → Tables → ℕ → ℕ → Tested
+markTests p t place b = andThen (phaseTest (t .words) Marking) (refusedIf (not (goodObject p t place b)) BadObject)
+
+-- "WrongPhase: call not of this phase, or released already"
+unfoldable pub releaseTests : Words → ℕ → Tested
+releaseTests w holder =
+    andThen (refusedIf (not (mayRelease w) || (isHolder holder && hasReleased w holder)) WrongPhase)
+    (refusedIf (not (isBound w holder)) BadHolder)
+
+-- the shared part has no holder
+unfoldable pub sharedTests : Words → Tested
+sharedTests w = refusedIf (not (mayRelease w) || hasReleased w 0) WrongPhase
+
+unfoldable pub callTests : Params → Tables → Call → Tested
+callTests p t (bind holder) = bindTests (t .words) holder
+callTests p t (destroy holder) = boundTests (t .words) holder
+callTests p t (alloc holder size align offset offer) =
+    andThen (boundTests (t .words) holder) (requestTests p t size align offset offer)
+callTests p t prepare = phaseTest (t .words) Running
+callTests p t (mark place b) = markTests p t place b
+callTests p t (release holder) = releaseTests (t .words) holder
+callTests p t sharedRelease = sharedTests (t .words)
+
+-- ---- plans of calls that passed
 
 -- a search's plan: "Exhausted: no cell found and no offer"
 unfoldable pub takePlan : Params → ℕ → ℕ → Search → Plan
@@ -111,49 +168,32 @@ takePlan p align offset s =
     let end : End = if eqb (s .at) 0 then says (refused Exhausted) else takes (blockAt p (s .at)) align offset (s .fresh) in
     record { tables = s .tables; events = s .events; end = end }
 
-unfoldable pub planAlloc : Params → Tables → ℕ → ℕ → ℕ → ℕ → Offer → Plan
-planAlloc p t h size align offset offer =
-    if not (eqb (t .words .phase) Running) then refuses t WrongPhase
-    else if not (isBound (t .words) h) then refuses t BadHolder
-    else if not (goodRequest p size align offset) then refuses t BadRequest
-    else if tooBig p size align then refuses t TooBig
-    else if not (goodOffer p t offer) then refuses t BadOffer
-    else takePlan p align offset (findBlock p h (binOf p (raised p size align)) offer t)
-
--- the phase of a release; "or released already" is tested beside it, below
-unfoldable pub mayRelease : Words → Bool
-mayRelease w = eqb (w .phase) Marking || eqb (w .phase) Releasing
-
 -- blocks were released, and so a part is done. The answer: blocks released, blocks merged
 unfoldable pub releasePlan : Params → ℕ → Tables → Freed → Plan
 releasePlan p part t f =
     let tables : Tables = tablesOf (partReleased p part (f .words)) (f .states) (t .marks) in
     record { tables = tables; events = f .events; end = says (answered (releases (f .events) ∷ merged p part (f .words) ∷ [])) }
 
+unfoldable pub planPassed : Params → Tables → Call → Plan
+planPassed p t (bind holder) = changes (bindHolder holder t) []
+planPassed p t (destroy holder) = changes (destroyHolder p holder t) (abandonedBlocks p abandoned (localSets holder) (t .words) ∷ [])
+planPassed p t (alloc holder size align offset offer) =
+    takePlan p align offset (findBlock p holder (binOf p (raised p size align)) offer t)
+planPassed p t prepare = changes (prepared t) []
+planPassed p t (mark place b) = changes (markPlace p place b t) (flag (not (marked p (t .marks) place)) ∷ [])
+planPassed p t (release holder) = releasePlan p holder t (releaseHolder p holder (t .words) (t .states))
+planPassed p t sharedRelease = releasePlan p 0 t (sweepLater p (t .words) (t .states))
+
+-- ---- plans
+
+-- a call that a test refuses changes nothing
+unfoldable pub ifPassed : Tested → Tables → Plan → Plan
+ifPassed Passed t q = q
+ifPassed (Refused r) t q = refuses t r
+
+-- on tables that are sound
 unfoldable pub planSound : Params → Tables → Call → Plan
-planSound p t (bind h) =
-    if not (eqb (t .words .phase) Running) then refuses t WrongPhase
-    else if not (isHolder h) || isBound (t .words) h then refuses t BadHolder
-    else changes (bindHolder h t) []
-planSound p t (destroy h) =
-    if not (eqb (t .words .phase) Running) then refuses t WrongPhase
-    else if not (isBound (t .words) h) then refuses t BadHolder
-    else changes (destroyHolder p h t) (abandonedBlocks p abandoned (localSets h) (t .words) ∷ [])
-planSound p t (alloc h size align offset offer) = planAlloc p t h size align offset offer
-planSound p t prepare =
-    if not (eqb (t .words .phase) Running) then refuses t WrongPhase
-    else changes (prepared t) []
-planSound p t (mark place b) =
-    if not (eqb (t .words .phase) Marking) then refuses t WrongPhase
-    else if not (goodObject p t place b) then refuses t BadObject
-    else changes (markPlace p place b t) (flag (not (marked p (t .marks) place)) ∷ [])
-planSound p t (release h) =
-    if not (mayRelease (t .words)) || (isHolder h && hasReleased (t .words) h) then refuses t WrongPhase
-    else if not (isBound (t .words) h) then refuses t BadHolder
-    else releasePlan p h t (releaseHolder p h (t .words) (t .states))
-planSound p t sharedRelease =
-    if not (mayRelease (t .words)) || hasReleased (t .words) 0 then refuses t WrongPhase
-    else releasePlan p 0 t (sweepLater p (t .words) (t .states))
+planSound p t c = ifPassed (callTests p t c) t (planPassed p t c)
 
 -- "BadTables: not sound"
 unfoldable pub plan : Params → Tables → Call → Plan
@@ -185,11 +225,17 @@ unfoldable pub finish : Params → Tables → List Event → List ℕ → End �
 finish p t es h (says r) = record { reply = r; tables = t; heap = h; events = es }
 finish p t es h (takes b align offset fresh) = takeCell p t es h b align offset fresh
 
--- one call on tables and a heap of the right lengths
+-- a plan is carried out on a heap
+abbrev pub carried : Params → List ℕ → Plan → Step
+carried p h q = finish p (q .tables) (q .events) (eventsHeap p (q .events) h) (q .end)
+
+-- one call on sound tables
+unfoldable pub soundStep : Params → Tables → List ℕ → Call → Step
+soundStep p t h c = carried p h (planSound p t c)
+
+-- and on any tables and a heap of the right lengths
 unfoldable pub step : Params → Tables → List ℕ → Call → Step
-step p t h c =
-    let q : Plan = plan p t c in
-    finish p (q .tables) (q .events) (eventsHeap p (q .events) h) (q .end)
+step p t h c = carried p h (plan p t c)
 
 -- ---- the calls on what is lent: "BadSetup: a parameter or buffer length is off", and then nothing is touched
 

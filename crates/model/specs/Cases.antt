@@ -9,7 +9,7 @@ use Rattle.model.specs.declared.Params.{Params}
 use Rattle.model.specs.declared.Offer.the-variants.{Fresh}
 use Rattle.model.specs.Base.{allBelow}
 use Rattle.model.specs.Params.{Lent, start}
-use Rattle.model.specs.Memory.{marked, setMark}
+use Rattle.model.specs.Memory.{setMark}
 use Rattle.model.specs.Tables.{Words}
 use Rattle.model.specs.SizeClasses.{cellBytes, binOf, raised, shift}
 use Rattle.model.specs.BlockList.{push, appended}
@@ -17,7 +17,7 @@ use Rattle.model.specs.Block.{initChain, sweepChain}
 use Rattle.model.specs.Events.{releases}
 use Rattle.model.specs.Global.{freshWords, releaseFrom}
 use Rattle.model.specs.Calls.{bind, alloc, call, setUp}
-use Rattle.model.specs.Census.{before, censusParams, censusLent, listing}
+use Rattle.model.specs.Census.{before, censusParams, censusLent}
 
 -- what the definitions give, and what 01 says
 pub record Case : Type 0 where

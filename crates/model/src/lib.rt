@@ -146,6 +146,12 @@ pub enum Refusal {
     BadLine,
 }
 
+// How the tests of a call end: passed, or the first refusal.
+pub enum Tested {
+    Passed,
+    Refused(Refusal),
+}
+
 // The answer of set-up, bind and prepare.
 pub enum Answer {
     Done,

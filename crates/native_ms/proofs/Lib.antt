@@ -8,6 +8,9 @@ pub mod SoundTests
 pub mod Records
 pub mod Lower
 pub mod Chains
+pub mod Offsets
+pub mod BlockWords
+pub mod ClassSizes
 pub mod TakeCell
 pub mod Search
 pub mod Tests

@@ -1,37 +1,42 @@
 -- The calls of the space and their steps: one law for each way out. Plain values alone stand here. Assumes nothing.
 use Prim.Native.Nat.{ℕ, suc, _+_, _-_, _*_, _/_, _%_, _^_, _<_, _≤_}
 use mathlib.Core.Path.{_≡_, refl, sym, ap, _∙_}
-use mathlib.Core.Bool.{Bool, true, false, not, _&&_, _||_}
-use mathlib.Core.List.{List, [], _∷_, _++_, map}
+use mathlib.Core.Bool.{Bool, true, false, _&&_, _||_}
+use mathlib.Core.List.{List, [], _∷_, map}
 use native.Mathlib.Omega.{arith}
 use native.Mathlib.Nat.{not-suc-le-zero}
 use native.Mathlib.Numerals.{add-one}
 use lib.Dec.{eqb, ltb, leb}
 use lib.ListN.{length, getD, set, length-map, List·getD-map, length-take, length-drop, replicate, length-replicate, getD-replicate}
-use borrow.Author.Tests.{eq-eqb, ne-eqb, eqb-true, leb-true, lt-ltb, le-ltb, lt-leb, le-leb}
+use borrow.Author.Tests.{eq-eqb, ne-eqb, leb-true, lt-ltb, le-ltb, lt-leb, le-leb}
 use borrow.Author.Count.{below-more}
 use lib.Seq.{ext-getD, getD-set-same, getD-set-other}
 use Rattle.model.specs.declared.Params.{Params}
-use Rattle.model.specs.declared.Refusal.the-variants.{BadSetup, WrongPhase, BadHolder, BadObject}
+use Rattle.model.specs.declared.Refusal.{Refusal}
+use Rattle.model.specs.declared.Refusal.the-variants.{BadSetup}
+use Rattle.model.specs.declared.Tested.{Tested}
+use Rattle.model.specs.declared.Tested.the-variants.{Passed, Refused}
 use Rattle.model.specs.Base.{eachBelow, flag}
-use Rattle.model.specs.Params.{goodParams, fits, wordCount, heapBytes, start, minusLower, inHeap, localSets}
+use Rattle.model.specs.Params.{goodParams, fits, wordCount, heapBytes, start, minusLower, inHeap, localSets, abandoned, available, unswept, consumed, headWords, bins}
 use Rattle.model.specs.Memory.{marked, setMark, cleared}
 use Rattle.model.specs.Tables.{Words, Tables, tablesOf, view, flat, setBound, setPhase, setReleased, withReleased}
-use Rattle.model.specs.Events.{releases}
-use Rattle.model.specs.Global.{freshWords, freshTables, isHolder, isBound, hasReleased, bindHolder, destroyHolder, abandonedBlocks, unmarkedState, prepared, markPlace, Freed, releaseHolder, sweepLater, partReleased, merged}
+use Rattle.model.specs.Block.{Marked}
+use Rattle.model.specs.Events.{releases, eventsHeap}
+use Rattle.model.specs.BlockList.{append}
+use Rattle.model.specs.Global.{Running, Marking, freshWords, freshTables, isHolder, isBound, hasReleased, bindHolder, destroyHolder, abandonBin, abandonBlocks, abandonedBlocks, unmarkedState, prepared, markPlace, Freed, releaseHolder, sweepLater, allReleased, partReleased, merged}
 use Rattle.model.specs.Sound.{stateOf}
-use Rattle.model.specs.Calls.{answered, refused, Call, bind, destroy, prepare, mark, release, sharedRelease, says, changes, goodObject, mayRelease, releasePlan, planSound, setUp}
+use Rattle.model.specs.Calls.{answered, refused, Call, bind, destroy, prepare, mark, release, sharedRelease, goodObject, mayRelease, phaseTest, bindTests, boundTests, markTests, releaseTests, sharedTests, callTests, releasePlan, planPassed, finish, carried, setUp}
 use Rattle.laws.proofs.Below.{and-left, and-right, or-left}
 use Rattle.laws.proofs.Params.{good-bounds, start-in, block-small}
 use Rattle.laws.proofs.Tables.{flat-view}
-use Rattle.model.specs.Promise.{lend, Promised, SetUpPromised}
+use Rattle.laws.proofs.Tests.{bind-passed, bound-passed, release-passed}
+use Rattle.model.specs.Promise.{lend, SetUpPromised}
 use Rattle.native_ms.specs.Released.{Out, out, total}
 use Rattle.native_ms.specs.Moved.{Moved, moved, binsMove, partMoves}
-use Rattle.native_ms.specs.Space.{lengthsFit, inBlock}
-use Rattle.native_ms.specs.declared.global.Tested.the-variants.{Passed}
-use Rattle.native_ms.specs.Checked.{refusedIf, phaseTest, boundTests, bindTests, markTests, releaseTests, sharedTests}
-use Rattle.native_ms.proofs.Tests.{fit-words, fits-same, passed-if, passed-not, last-passed, Passing, says-so, says-done, planAfter, plan-one, plan-two}
-use Rattle.native_ms.proofs.Releases.{Quiet}
+use Rattle.native_ms.specs.Space.{inBlock, collected}
+use Rattle.native_ms.specs.Ending.{stepped, shown, Does}
+use Rattle.native_ms.proofs.Tests.{fit-parts, step-refused, step-passed}
+use Rattle.native_ms.proofs.Releases.{Quiet, quiet-holder, quiet-shared}
 use Rattle.native_ms.proofs.MovedLaws.{over-words, over-number}
 
 -- ---- holders
@@ -61,53 +66,40 @@ sets-low n h e = omega arith
 
 -- ---- bind
 
-pub bind-plan : (p : Params) (t : Tables) (n : ℕ)
-    → planSound p t (bind n) ≡ planAfter t (bindTests (t .words) n) (changes (bindHolder n t) [])
-unfolding planSound bindTests phaseTest
-bind-plan p t n =
-    plan-two t (changes (bindHolder n t) []) (not (eqb (t .words .phase) 0)) (not (isHolder n) || isBound (t .words) n)
-    WrongPhase BadHolder
+pub bind-low : (t : Words) (n : ℕ) {r : Tested} → r ≡ bindTests t n → r ≡ Passed → 1 ≤ n
+bind-low t n e z = holder-low n refl (bind-passed t n (sym e ∙ z) .1)
 
-pub bind-low : (t : Words) (n : ℕ) → bindTests t n ≡ Passed → 1 ≤ n
-unfolding bindTests
-bind-low t n e =
-    let y = passed-if (not (isHolder n) || isBound t n) BadHolder (last-passed (phaseTest t 0) _ e) in
-    holder-low n refl (is-true (isHolder n) (isBound t n) y)
-  where
-    is-true : (a b : Bool) → (not a || b) ≡ false → a ≡ true
-    is-true true b e = refl
-    is-true false b e = let z : _≡_ {A = ℕ} 0 1 = cc in absurd (omega arith)
+pub bind-done : (t : Words) (n : ℕ) {t₁ : Words} {r : Tested} → r ≡ bindTests t n → r ≡ Passed → t₁ ≡ setBound (n - 1) 1 t
+    → (p : Params) (s m h : List ℕ) → Does p (tablesOf t s m) h (bind n) (answered []) (tablesOf t₁ s m) h
+unfolding callTests planPassed bindHolder finish eventsHeap
+bind-done t n e z v p s m h =
+    ap (λ (u : Words). stepped (answered []) (tablesOf u s m) h) v ∙ step-passed p (tablesOf t s m) h (bind n) e z
 
-pub bind-done : {p : Params} {w s m h : List ℕ} (n : ℕ) {w′ : List ℕ}
-    → Passing p w s m h (bind n) (changes (bindHolder n (tablesOf (view w) s m)) []) → length w′ ≡ length w
-    → view w′ ≡ setBound (n - 1) 1 (view w) → Promised p (lend w s m h) (bind n) (answered []) (lend w′ s m h)
-unfolding bindHolder
-bind-done n a l v = says-done (a .open-to) (bind n) (a .plan-is) l v refl refl
+pub bind-refused : (t : Words) (n : ℕ) {r : Tested} {x : Refusal} → r ≡ bindTests t n → r ≡ Refused x
+    → (p : Params) (s m h : List ℕ) → Does p (tablesOf t s m) h (bind n) (refused x) (tablesOf t s m) h
+unfolding callTests
+bind-refused t n e z p s m h = step-refused p (tablesOf t s m) h (bind n) e z
 
 -- ---- destroy
 
-pub destroy-plan : (p : Params) (t : Tables) (n : ℕ)
-    → planSound p t (destroy n) ≡ planAfter t (boundTests (t .words) n) (changes (destroyHolder p n t) (abandonedBlocks p 24 (localSets n) (t .words) ∷ []))
-unfolding planSound boundTests phaseTest
-destroy-plan p t n =
-    plan-two t (changes (destroyHolder p n t) (abandonedBlocks p 24 (localSets n) (t .words) ∷ [])) (not (eqb (t .words .phase) 0)) (not (isBound (t .words) n))
-    WrongPhase BadHolder
+pub bound-by : (t : Words) (n : ℕ) {r : Tested} → r ≡ boundTests t n → r ≡ Passed → (1 ≤ n) × (n ≤ 8)
+bound-by t n e z = let b = bound-passed t n (sym e ∙ z) .1 in (bound-low t n b, bound-high t n b)
 
-pub bound-by : (t : Words) (n : ℕ) → boundTests t n ≡ Passed → isBound t n ≡ true
-unfolding boundTests
-bound-by t n e = passed-not (isBound t n) BadHolder (last-passed (phaseTest t 0) _ e)
+module _ (p : Params) (t : Words) (n : ℕ) {r : Tested} (e : r ≡ boundTests t n) where
+  pub destroy-done : {owner k : ℕ} {t₁ t₂ : Words} → r ≡ Passed → owner ≡ localSets n → moved k t₁ ≡ binsMove bins p abandoned owner t
+      → t₂ ≡ setBound (n - 1) 0 t₁ → (s m h : List ℕ) → Does p (tablesOf t s m) h (destroy n) (answered (k ∷ [])) (tablesOf t₂ s m) h
+  unfolding callTests planPassed destroyHolder finish eventsHeap
+  destroy-done {owner} {k} {t₁} z eo e₁ e₂ s m h =
+      let o : moved k t₁ ≡ binsMove bins p abandoned (localSets n) t = e₁ ∙ ap (λ (x : ℕ). binsMove bins p abandoned x t) eo in
+      ap (λ (u : Words). stepped (answered (k ∷ [])) (tablesOf u s m) h) (e₂ ∙ ap (setBound (n - 1) 0) (over-words p abandoned (localSets n) t o))
+      ∙ ap (λ (x : ℕ). stepped (answered (x ∷ [])) (tablesOf (setBound (n - 1) 0 (abandonBlocks p abandoned (localSets n) t)) s m) h)
+      (over-number p abandoned (localSets n) t o)
+      ∙ step-passed p (tablesOf t s m) h (destroy n) e z
 
-pub destroy-done : {p : Params} {w s m h : List ℕ} (n : ℕ) {owner k : ℕ} {t₁ : Words} {w′ : List ℕ}
-    → Passing p w s m h (destroy n) (changes (destroyHolder p n (tablesOf (view w) s m)) (abandonedBlocks p 24 (localSets n) (view w) ∷ []))
-    → length w′ ≡ length w
-    → owner ≡ localSets n → moved k t₁ ≡ binsMove 49 p 24 owner (view w) → view w′ ≡ setBound (n - 1) 0 t₁
-    → Promised p (lend w s m h) (destroy n) (answered (k ∷ [])) (lend w′ s m h)
-unfolding destroyHolder
-destroy-done {p} {w} {s} {m} n {owner} {k} {t₁} a l eo e₁ v =
-    let e : moved k t₁ ≡ binsMove 49 p 24 (localSets n) (view w) = e₁ ∙ ap (λ (x : ℕ). binsMove 49 p 24 x (view w)) eo in
-    let d : planSound p (tablesOf (view w) s m) (destroy n) ≡ changes (destroyHolder p n (tablesOf (view w) s m)) (k ∷ []) =
-    a .plan-is ∙ ap (λ (x : ℕ). changes (destroyHolder p n (tablesOf (view w) s m)) (x ∷ [])) (sym (over-number p 24 (localSets n) (view w) e)) in
-    says-done (a .open-to) (destroy n) d l (v ∙ ap (setBound (n - 1) 0) (over-words p 24 (localSets n) (view w) e)) refl refl
+  pub destroy-refused : {x : Refusal} → r ≡ Refused x → (s m h : List ℕ)
+      → Does p (tablesOf t s m) h (destroy n) (refused x) (tablesOf t s m) h
+  unfolding callTests
+  destroy-refused z s m h = step-refused p (tablesOf t s m) h (destroy n) e z
 
 -- ---- bin by bin
 
@@ -163,19 +155,19 @@ pub unmark-zero : unmarkedState 0 ≡ 0
 unfolding unmarkedState
 unmark-zero = refl
 
-pub prepare-plan : (p : Params) (t : Tables)
-    → planSound p t prepare ≡ planAfter t (phaseTest (t .words) 0) (changes (prepared t) [])
-unfolding planSound phaseTest
-prepare-plan p t = plan-one t (changes (prepared t) []) (not (eqb (t .words .phase) 0)) WrongPhase
+module _ (w s m : List ℕ) {r : Tested} (e : r ≡ phaseTest (view w) Running) where
+  pub prepare-done : {t₁ : Words} {s₁ m₁ : List ℕ} → r ≡ Passed → headWords ≤ length w → (2940 < length w → t₁ ≡ setPhase Marking (view w))
+      → s₁ ≡ map unmarkedState s → m₁ ≡ cleared m
+      → (p : Params) (h : List ℕ) → Does p (tablesOf (view w) s m) h prepare (answered []) (tablesOf t₁ s₁ m₁) h
+  unfolding callTests planPassed prepared finish eventsHeap
+  prepare-done z long v es em p h =
+      let t : Tables = tablesOf (view w) s m in
+      rw (v (omega arith), es, em) (step-passed p t h prepare e z)
 
-pub prepare-done : {p : Params} {w s m h : List ℕ} {w′ s′ m′ : List ℕ}
-    → Passing p w s m h prepare (changes (prepared (tablesOf (view w) s m)) []) → length w′ ≡ length w
-    → (2940 < length w → view w′ ≡ setPhase 1 (view w)) → s′ ≡ map unmarkedState s → m′ ≡ cleared m
-    → Promised p (lend w s m h) prepare (answered []) (lend w′ s′ m′ h)
-unfolding prepared
-prepare-done {w = w} a l v es em =
-    let long = a .open-to .long in
-    says-done (a .open-to) prepare (a .plan-is) l (v (omega arith)) es em
+  pub prepare-refused : {x : Refusal} → r ≡ Refused x
+      → (p : Params) (h : List ℕ) → Does p (tablesOf (view w) s m) h prepare (refused x) (tablesOf (view w) s m) h
+  unfolding callTests
+  prepare-refused z p h = step-refused p (tablesOf (view w) s m) h prepare e z
 
 -- ---- set-up
 
@@ -195,67 +187,46 @@ fresh-flat p k e =
     flat-view (p .blocks) (replicate (2958 + 6 * p .blocks) 0) (length-replicate (2958 + 6 * p .blocks) 0)
     ∙ ap (λ (n : ℕ). replicate n 0) (sym e)
 
-module _ (p : Params) (w s m h : List ℕ) {f : Bool} (ef : f ≡ lengthsFit p (length w) (length s) (length m) (length h)) where
-  is-fit : f ≡ fits p (lend w s m h)
-  is-fit = ef ∙ fits-same p w s m h
-
-  states-fit : f ≡ true → length s ≡ p .blocks
-  unfolding lengthsFit
-  states-fit e =
-      let x = goodParams p && eqb (length w) (wordCount p) in
-      let b = eqb (length s) (p .blocks) in
-      let c = eqb (length m) (heapBytes p / 64) in
-      eqb-true _ _ (and-right x b (and-left (x && b) c (and-left _ _ (sym ef ∙ e))))
-
-  marks-fit : f ≡ true → length m ≡ heapBytes p / 64
-  unfolding lengthsFit
-  marks-fit e =
-      let x = goodParams p && eqb (length w) (wordCount p) && eqb (length s) (p .blocks) in
-      let c = eqb (length m) (heapBytes p / 64) in
-      eqb-true _ _ (and-right x c (and-left _ _ (sym ef ∙ e)))
-
+module _ (p : Params) (w s m h : List ℕ) {f : Bool} (ef : f ≡ fits p (lend w s m h)) where
   pub bad-set-up : f ≡ false → SetUpPromised p (lend w s m h) (refused BadSetup) (lend w s m h)
   unfolding setUp
-  bad-set-up e = let q : fits p (lend w s m h) ≡ false = sym is-fit ∙ e in record { reply = rw q; lent = rw q }
+  bad-set-up e = let q : fits p (lend w s m h) ≡ false = sym ef ∙ e in record { reply = rw q; lent = rw q }
 
   pub set-up-done : {w′ s′ m′ : List ℕ} → f ≡ true → w′ ≡ replicate (length w) 0 → s′ ≡ cleared s → m′ ≡ cleared m
       → SetUpPromised p (lend w s m h) (answered []) (lend w′ s′ m′ h)
   unfolding setUp freshTables cleared
   set-up-done e ew es em =
-      let q : fits p (lend w s m h) ≡ true = sym is-fit ∙ e in
-      let v : replicate (length w) 0 ≡ flat (freshWords p) =
-      sym (fresh-flat p (length w) (fit-words p (length w) (length s) (length m) (length h) ef e)) in
-      let ls : length s ≡ p .blocks = states-fit e in
-      let lm : length m ≡ heapBytes p / 64 = marks-fit e in
+      let q : fits p (lend w s m h) ≡ true = sym ef ∙ e in
+      let parts = fit-parts p w s m h ef e in
+      let v : replicate (length w) 0 ≡ flat (freshWords p) = sym (fresh-flat p (length w) (parts .words)) in
+      let ls : length s ≡ p .blocks = parts .states in
+      let lm : length m ≡ heapBytes p / 64 = parts .marks in
       record { reply = rw q; lent = rw (q, ew, es, em, ls, lm, ← v) }
 
 -- ---- mark
 
--- the tests look at words and states alone
-pub mark-plan : (p : Params) (t : Words) (s m : List ℕ) (place b : ℕ)
-    → planSound p (tablesOf t s m) (mark place b) ≡ planAfter (tablesOf t s m) (markTests p (tablesOf t s []) place b) (changes (markPlace p place b (tablesOf t s m)) (flag (not (marked p m place)) ∷ []))
-unfolding planSound markTests phaseTest goodObject stateOf
-mark-plan p t s m place b =
-    let u : Tables = tablesOf t s m in
-    plan-two u (changes (markPlace p place b u) (flag (not (marked p m place)) ∷ []))
-    (not (eqb (t .phase) 1)) (not (goodObject p u place b)) WrongPhase BadObject
+module _ (p : Params) (t : Words) (s m : List ℕ) (place b : ℕ) {r : Tested}
+    (e : (m₀ : List ℕ) → r ≡ markTests p (tablesOf t s m₀) place b) where
+  pub mark-refused : {x : Refusal} → r ≡ Refused x → (h : List ℕ)
+      → Does p (tablesOf t s m) h (mark place b) (refused x) (tablesOf t s m) h
+  unfolding callTests
+  mark-refused z h = step-refused p (tablesOf t s m) h (mark place b) (e m) z
 
-module _ {p : Params} {w s m h : List ℕ} (place b : ℕ)
-    (a : Passing p w s m h (mark place b) (changes (markPlace p place b (tablesOf (view w) s m)) (flag (not (marked p m place)) ∷ [])))
-    {x : Bool} (ex : x ≡ marked p m place) where
-  pub mark-old : x ≡ true → Promised p (lend w s m h) (mark place b) (answered (0 ∷ [])) (lend w s m h)
-  unfolding markPlace flag
-  mark-old z =
-      let y : marked p m place ≡ true = sym ex ∙ z in
-      let c : planSound p (tablesOf (view w) s m) (mark place b) ≡ changes (tablesOf (view w) s m) (0 ∷ []) = a .plan-is ∙ rw y in
-      says-done (a .open-to) (mark place b) c refl refl refl refl
+  module _ (z : r ≡ Passed) {x : Bool} (ex : x ≡ marked p m place) where
+    pub mark-old : x ≡ true → (h : List ℕ) → Does p (tablesOf t s m) h (mark place b) (answered (0 ∷ [])) (tablesOf t s m) h
+    unfolding callTests planPassed markPlace flag finish eventsHeap
+    mark-old y h =
+        let k : marked p m place ≡ true = sym ex ∙ y in
+        let c : stepped (answered (0 ∷ [])) (tablesOf t s m) h ≡ shown (carried p h (planPassed p (tablesOf t s m) (mark place b))) = rw k in
+        c ∙ step-passed p (tablesOf t s m) h (mark place b) (e m) z
 
-  pub mark-new : {s′ m′ : List ℕ} → x ≡ false → s′ ≡ set s b 254 → m′ ≡ setMark p m place → Promised p (lend w s m h) (mark place b) (answered (1 ∷ [])) (lend w s′ m′ h)
-  unfolding markPlace flag
-  mark-new z es em =
-      let y : marked p m place ≡ false = sym ex ∙ z in
-      let c : planSound p (tablesOf (view w) s m) (mark place b) ≡ changes (tablesOf (view w) (set s b 254) (setMark p m place)) (1 ∷ []) = a .plan-is ∙ rw y in
-      says-done (a .open-to) (mark place b) c refl refl es em
+    pub mark-new : {s₁ m₁ : List ℕ} → x ≡ false → s₁ ≡ set s b Marked → m₁ ≡ setMark p m place → (h : List ℕ)
+        → Does p (tablesOf t s m) h (mark place b) (answered (1 ∷ [])) (tablesOf t s₁ m₁) h
+    unfolding callTests planPassed markPlace flag finish eventsHeap
+    mark-new {s₁} {m₁} y es em h =
+        let k : marked p m place ≡ false = sym ex ∙ y in
+        let c : stepped (answered (1 ∷ [])) (tablesOf t s₁ m₁) h ≡ shown (carried p h (planPassed p (tablesOf t s m) (mark place b))) = rw (k, es, em) in
+        c ∙ step-passed p (tablesOf t s m) h (mark place b) (e m) z
 
 -- whether a place can be marked
 
@@ -316,39 +287,49 @@ already-none t n e z = rw (← e, z)
 pub already-holder : (t : Words) (n : ℕ) {a r : Bool} → a ≡ isHolder n → a ≡ true → r ≡ hasReleased t n → r ≡ (isHolder n && hasReleased t n)
 already-holder t n e z q = rw (← e, z, q)
 
-pub release-plan : (p : Params) (t : Tables) (n : ℕ)
-    → planSound p t (release n) ≡ planAfter t (releaseTests (t .words) n) (releasePlan p n t (releaseHolder p n (t .words) (t .states)))
-unfolding planSound releaseTests
-release-plan p t n =
-    plan-two t (releasePlan p n t (releaseHolder p n (t .words) (t .states)))
-    (not (mayRelease (t .words)) || (isHolder n && hasReleased (t .words) n)) (not (isBound (t .words) n)) WrongPhase BadHolder
+module _ (p : Params) (c : Call) (part : ℕ) (t : Words) (s : List ℕ) (f : Freed)
+    (planned : (m : List ℕ) → planPassed p (tablesOf t s m) c ≡ releasePlan p part (tablesOf t s m) f) (quiet : Quiet p (f .events)) where
+  freed-done : {n k : ℕ} {t₁ t₂ : Words} {s₁ : List ℕ} → out n t₁ s₁ ≡ total f → moved k t₂ ≡ partMoves p part t₁
+      → (m h : List ℕ) → stepped (answered (n ∷ k ∷ [])) (tablesOf t₂ s₁ m) h ≡ shown (carried p h (planPassed p (tablesOf t s m) c))
+  unfolding releasePlan Quiet total finish partMoves
+  freed-done {n} {k} {t₁} {t₂} {s₁} q v m h =
+      let en : n ≡ releases (f .events) = ap (λ (x : Out). x .number) q in
+      let ew : t₁ ≡ f .words = ap (λ (x : Out). x .words) q in
+      let es : s₁ ≡ f .states = ap (λ (x : Out). x .states) q in
+      let ek : k ≡ merged p part (f .words) = ap (λ (x : Moved). x .number) v ∙ ap (merged p part) ew in
+      let et : t₂ ≡ partReleased p part (f .words) = ap (λ (x : Moved). x .words) v ∙ ap (partReleased p part) ew in
+      rw (planned m, quiet h, et, es, en, ek)
 
-pub release-bound : (t : Words) (n : ℕ) → releaseTests t n ≡ Passed → isBound t n ≡ true
-unfolding releaseTests
-release-bound t n e =
-    passed-not (isBound t n) BadHolder
-    (last-passed (refusedIf (not (mayRelease t) || (isHolder n && hasReleased t n)) WrongPhase) _ e)
+pub release-bound : (t : Words) (n : ℕ) {r : Tested} → r ≡ releaseTests t n → r ≡ Passed → (1 ≤ n) × (n ≤ 8)
+release-bound t n e z = let b = release-passed t n (sym e ∙ z) .1 in (bound-low t n b, bound-high t n b)
 
-pub shared-plan : (p : Params) (t : Tables)
-    → planSound p t sharedRelease ≡ planAfter t (sharedTests (t .words)) (releasePlan p 0 t (sweepLater p (t .words) (t .states)))
-unfolding planSound sharedTests
-shared-plan p t =
-    plan-one t (releasePlan p 0 t (sweepLater p (t .words) (t .states)))
-    (not (mayRelease (t .words)) || hasReleased (t .words) 0) WrongPhase
+module _ (p : Params) (t : Words) (s : List ℕ) (n : ℕ) {r : Tested} (e : r ≡ releaseTests t n) where
+  pub release-refused : {x : Refusal} → r ≡ Refused x → (m h : List ℕ)
+      → Does p (tablesOf t s m) h (release n) (refused x) (tablesOf t s m) h
+  unfolding callTests
+  release-refused z m h = step-refused p (tablesOf t s m) h (release n) e z
 
-pub release-done : {p : Params} {w s m h : List ℕ} (c : Call) (part : ℕ) (f : Freed) {n k : ℕ} {t₁ : Words} {w′ s′ : List ℕ}
-    → Passing p w s m h c (releasePlan p part (tablesOf (view w) s m) f) → Quiet p (f .events) → out n t₁ s′ ≡ total f
-    → length w′ ≡ length w → moved k (view w′) ≡ partMoves p part t₁
-    → Promised p (lend w s m h) c (answered (n ∷ k ∷ [])) (lend w′ s′ m h)
-unfolding releasePlan Quiet total partMoves
-release-done {p} {w} {s} {m} {h} c part f {n} {k} {t₁} {w′} {s′} a quiet q l v =
-    let en : n ≡ releases (f .events) = ap (λ (x : Out). x .number) q in
-    let ew : t₁ ≡ f .words = ap (λ (x : Out). x .words) q in
-    let es : s′ ≡ f .states = ap (λ (x : Out). x .states) q in
-    let ek : k ≡ merged p part (f .words) = ap (λ (x : Moved). x .number) v ∙ ap (merged p part) ew in
-    let d : planSound p (tablesOf (view w) s m) c ≡ record { tables = tablesOf (partReleased p part (f .words)) (f .states) m; events = f .events; end = says (answered (n ∷ k ∷ [])) } =
-    a .plan-is ∙ rw (← en, ← ek) in
-    says-so (a .open-to) c d (quiet h) l (ap (λ (x : Moved). x .words) v ∙ ap (partReleased p part) ew) es refl
+  pub release-done : {k j : ℕ} {t₁ t₂ : Words} {s₁ : List ℕ} → r ≡ Passed → out k t₁ s₁ ≡ total (releaseHolder p n t s)
+      → moved j t₂ ≡ partMoves p n t₁
+      → (m h : List ℕ) → Does p (tablesOf t s m) h (release n) (answered (k ∷ j ∷ [])) (tablesOf t₂ s₁ m) h
+  unfolding callTests planPassed
+  release-done z q v m h =
+      freed-done p (release n) n t s (releaseHolder p n t s) (λ m₀. refl) (quiet-holder p n t s) q v m h
+      ∙ step-passed p (tablesOf t s m) h (release n) e z
+
+module _ (p : Params) (t : Words) (s : List ℕ) {r : Tested} (e : r ≡ sharedTests t) where
+  pub shared-refused : {x : Refusal} → r ≡ Refused x → (m h : List ℕ)
+      → Does p (tablesOf t s m) h sharedRelease (refused x) (tablesOf t s m) h
+  unfolding callTests
+  shared-refused z m h = step-refused p (tablesOf t s m) h sharedRelease e z
+
+  pub shared-done : {k j : ℕ} {t₁ t₂ : Words} {s₁ : List ℕ} → r ≡ Passed → out k t₁ s₁ ≡ total (sweepLater p t s)
+      → moved j t₂ ≡ partMoves p 0 t₁
+      → (m h : List ℕ) → Does p (tablesOf t s m) h sharedRelease (answered (k ∷ j ∷ [])) (tablesOf t₂ s₁ m) h
+  unfolding callTests planPassed
+  shared-done z q v m h =
+      freed-done p sharedRelease 0 t s (sweepLater p t s) (λ m₀. refl) (quiet-shared p t s) q v m h
+      ∙ step-passed p (tablesOf t s m) h sharedRelease e z
 
 -- ---- the end of a collection
 

@@ -1,6 +1,6 @@
 -- How the searches of the code meet those of the machine: the machine gives words and events, the code gives words, a heap and
 -- a count. What is promised of each inner step of the allocator, with a name for each part.
-use Prim.Native.Nat.{ℕ, _+_, _<_, _≤_}
+use Prim.Native.Nat.{ℕ, _+_, _≤_}
 use mathlib.Core.Path.{_≡_}
 use mathlib.Core.Bool.{Bool, not}
 use mathlib.Core.List.{List}

@@ -15,7 +15,7 @@ use Rattle.model.specs.BlockList.{push}
 use Rattle.model.specs.Block.{Unmarked, linkAll, initChain, initBlock}
 use Rattle.model.specs.Events.{eventsHeap, sweeps}
 use Rattle.model.specs.FreeListAllocator.{Found, Search, acquireAbandoned, acquireFresh, inFound}
-use Rattle.model.specs.Calls.{Reply, Plan, Step, takePlan, finish}
+use Rattle.model.specs.Calls.{Reply, Call, Step, takePlan, carried, soundStep}
 
 -- a whole search as the code sees its end
 pub record Ended : Type 0 where
@@ -53,12 +53,17 @@ pub record Stepped : Type 0 where
 abbrev pub stepped : Reply → Tables → List ℕ → Stepped
 stepped r t h = record { reply = r; tables = t; heap = h }
 
+-- the machine's step, seen so
+abbrev pub shown : Step → Stepped
+shown s = stepped (s .reply) (s .tables) (s .heap)
+
+-- the call c on sound tables t and a heap h: what it says, and tables and heap after
+abbrev pub Does : Params → Tables → List ℕ → Call → Reply → Tables → List ℕ → Type 0
+Does p t h c r t₁ h₁ = stepped r t₁ h₁ ≡ shown (soundStep p t h c)
+
 -- the end of an alloc whose search was s, from the heap h
 unfoldable pub servedBy : Params → ℕ → ℕ → List ℕ → Search → Stepped
-servedBy p align offset h s =
-    let q : Plan = takePlan p align offset s in
-    let f : Step = finish p (q .tables) (q .events) (eventsHeap p (q .events) h) (q .end) in
-    stepped (f .reply) (f .tables) (f .heap)
+servedBy p align offset h s = shown (carried p h (takePlan p align offset s))
 
 -- What the serving of a request leans on: its numbers are in their ranges, and no free head is so high that its shift would
 -- not fit a word

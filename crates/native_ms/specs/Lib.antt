@@ -1,5 +1,7 @@
 pub mod Raised
 pub mod Block
+pub mod Bits
+pub mod Places
 pub mod Counted
 pub mod Space
 pub mod Moved

@@ -1,11 +1,11 @@
 -- Tests and steps of the space's calls that the machine has no name for.
-use Prim.Native.Nat.{ℕ, _+_, _/_, _<_}
+use Prim.Native.Nat.{ℕ, _+_, _<_}
 use mathlib.Core.Path.{_≡_}
 use mathlib.Core.Bool.{Bool, _&&_}
-use lib.Dec.{eqb, ltb, leb}
+use lib.Dec.{ltb, leb}
 use lib.ListN.{replicate}
 use Rattle.model.specs.declared.Params.{Params}
-use Rattle.model.specs.Params.{goodParams, wordCount, heapBytes, start, abandoned, inGc, lists}
+use Rattle.model.specs.Params.{start, abandoned, inGc, lists}
 use Rattle.model.specs.Tables.{Words, setPhase, withReleased}
 use Rattle.model.specs.Global.{Running, abandonBlocks}
 
@@ -13,11 +13,6 @@ use Rattle.model.specs.Global.{Running, abandonBlocks}
 pub record ListNumber (r l : ℕ) : Type 0 where
   pub same : r ≡ l
   pub low : r < lists
-
--- `fits`, of lengths
-unfoldable pub lengthsFit : Params → ℕ → ℕ → ℕ → ℕ → Bool
-lengthsFit p w s m h =
-    goodParams p && eqb w (wordCount p) && eqb s (p .blocks) && eqb m (heapBytes p / 64) && eqb h (heapBytes p)
 
 -- an address lies in the block b
 unfoldable pub inBlock : Params → ℕ → ℕ → Bool

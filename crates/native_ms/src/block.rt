@@ -1,5 +1,8 @@
 // A block: its cells, the two sweeps and the choice between them, init, the taking of a cell, release. Named after the
 // Rust's block.rs, with `init_block` and `block_alloc` of free_list_allocator.rs.
+mod chain;
+mod known;
+
 use crate::address;
 use crate::memory;
 use model::Address;
@@ -11,13 +14,15 @@ ghost use mathlib.Core.Path.{_≡_};
 ghost use mathlib.Core.Bool.{true, false, _||_};
 ghost use Prim.Native.Nat.{_+_, _*_, _^_, _≤_};
 ghost use lib.Dec.{eqb};
+ghost use lib.ListN.{length, getD};
 ghost use Rattle.model.specs.Base.{anyBelow};
-ghost use Rattle.model.specs.Params.{goodParams, lowerOk, biased, plusLower};
+ghost use Rattle.model.specs.Params.{goodParams, wordCount, lowerOk, biased, plusLower};
 ghost use Rattle.model.specs.Memory.{marked};
 ghost use Rattle.model.specs.SizeClasses.{wordsIn};
 ghost use Rattle.model.specs.Tables.{view};
 ghost use Rattle.model.specs.Block.{simple, cellCount, cellsDown, isCell};
 ghost use Rattle.native_ms.specs.Block.{keptBy, Room, Linked, SweptBy, Swept, Initialised, Cleared, took, takeFree};
+ghost use Rattle.native_ms.specs.Places.{Known, WholeWords, Standing, Sweepable};
 
 // State bytes.
 pub(crate) const UNALLOCATED: u8 = 0;
@@ -136,24 +141,7 @@ fn link_unmarked(
     Address(last)
 }
 
-// Links all n cells.
-fn link_cells(p: Params, h: &mut [u8], from: Address, s: usize, n: usize) -> Address
-    requires { ⌜ Room p (from .0) s n ⌝ }
-    ensures { λ r. ⌜ Linked p (cellsDown (λ a. false) (from .0) s n) (now (h .entry)) (r .0) (now (h .exit)) ⌝ }
-{
-    let mut k: usize = 0;
-    let mut cell = from.0;
-    let mut last: usize = 0;
-    while k < n {
-        memory::store(p, h, Address(cell), last);
-        last = cell;
-        cell = cell + s;
-        k = k + 1;
-    }
-    Address(last)
-}
-
-// Both sweeps: they differ in the reading of a cell's marks.
+// Either sweep, of any block of any words.
 fn sweep_by(p: Params, simple: bool, w: &mut [usize], m: &[u8], h: &mut [u8], b: Block)
     requires { ⌜ goodParams p ≡ true ⌝ }
     ensures { λ _. ⌜ SweptBy p (keptBy simple p (now (m .entry))) (b .0) (view (now (w .entry))) (now (h .entry)) (view (now (w .exit))) (now (h .exit)) ⌝ }
@@ -166,12 +154,30 @@ fn sweep_by(p: Params, simple: bool, w: &mut [usize], m: &[u8], h: &mut [u8], b:
     tables::set_free(w, i, head.0);
 }
 
+// Whether cells of s bytes are of whole words, as in sound tables they are: then those of a block lie in the heap, word by word.
+fn is_whole_words(s: usize) -> bool
+    ensures { λ r. ⌜ (r ≡ true → WholeWords s) ⌝ }
+{
+    if s < 8 {
+        return false;
+    }
+    if 65536 < s {
+        return false;
+    }
+    s % 8 == 0
+}
+
 // Frees each whole cell with no mark at its start.
 fn simple_sweep(p: Params, w: &mut [usize], m: &[u8], h: &mut [u8], b: Block)
-    requires { ⌜ goodParams p ≡ true ⌝ }
+    requires { ⌜ Sweepable p (length (now w)) (length (now m)) (length (now h)) (b .0) (getD (view (now w) .size) (b .0) 0) ⌝ }
     ensures { λ _. ⌜ SweptBy p (keptBy true p (now (m .entry))) (b .0) (view (now (w .entry))) (now (h .entry)) (view (now (w .exit))) (now (h .exit)) ⌝ }
 {
-    sweep_by(p, true, w, m, h, b);
+    let blocks = p.blocks;
+    let s = known::size(w, blocks, b);
+    let at = b.0 * p.bytes;
+    let n = p.bytes / s;
+    let head = chain::link_by_bit(p, m, h, at, s, n, at / 8, 0);
+    known::set_free(w, blocks, b, head);
 }
 
 // Frees each whole cell with no mark at any of its places.
@@ -184,10 +190,15 @@ fn naive_brute_force_sweep(p: Params, w: &mut [usize], m: &[u8], h: &mut [u8], b
 
 // The sweep that the parameters choose.
 pub(crate) fn sweep(p: Params, w: &mut [usize], m: &[u8], h: &mut [u8], b: Block)
-    requires { ⌜ goodParams p ≡ true ⌝ }
+    requires { ⌜ Known p (length (now w)) (length (now m)) (length (now h)) ⌝ }
     ensures { λ _. ⌜ Swept p (now (m .entry)) (b .0) (view (now (w .entry))) (now (h .entry)) (view (now (w .exit))) (now (h .exit)) ⌝ }
 {
+    let s = known::size(w, p.blocks, b);
     let simple = is_simple(p);
+    if !is_whole_words(s) {
+        sweep_by(p, simple, w, m, h, b);
+        return;
+    }
     if simple {
         simple_sweep(p, w, m, h, b);
         return;
@@ -197,16 +208,16 @@ pub(crate) fn sweep(p: Params, w: &mut [usize], m: &[u8], h: &mut [u8], b: Block
 
 // Makes the block one of whole cells of s bytes, all free, for a holder.
 pub(crate) fn init_block(p: Params, w: &mut [usize], h: &mut [u8], b: Block, s: usize, tls: usize)
-    requires { ⌜ goodParams p ≡ true ⌝ }
+    requires { ⌜ (Standing p (length (now w)) (length (now h)) (b .0)) × (8 ≤ s) ⌝ }
     ensures { λ _. ⌜ Initialised p (b .0) s tls (view (now (w .entry))) (now (h .entry)) (view (now (w .exit))) (now (h .exit)) ⌝ }
 {
-    let i = b.0;
-    let n = cell_count(p, s);
-    let from = address::start(p, b);
-    let head = link_cells(p, h, from, s, n);
-    tables::set_free(w, i, head.0);
-    tables::set_size(w, i, s);
-    tables::set_tls(w, i, tls);
+    let blocks = p.blocks;
+    let at = b.0 * p.bytes;
+    let n = p.bytes / s;
+    let head = chain::link_cells(p, h, at, s, n);
+    known::set_free(w, blocks, b, head);
+    known::set_size(w, blocks, b, s);
+    known::set_tls(w, blocks, b, tls);
 }
 
 // Release: all words of the block and its state are 0 again.
@@ -260,18 +271,18 @@ pub(crate) fn link_ok(p: Params, b: Block, size: usize, a: Address) -> bool
 
 // Takes the cell at the block's free head. Its link is read before the whole cell is zeroed: the link lies in it.
 pub(crate) fn block_alloc(p: Params, w: &mut [usize], h: &mut [u8], b: Block) -> Taken
-    requires { ⌜ goodParams p ≡ true ⌝ }
+    requires { ⌜ (goodParams p ≡ true) × (length (now w) ≡ wordCount p) ⌝ }
     ensures { λ r. ⌜ took r (view (now (w .exit))) (now (h .exit)) ≡ takeFree p (b .0) (view (now (w .entry))) (now (h .entry)) ⌝ }
 {
-    let i = b.0;
-    let cell = tables::free(w, i);
-    let s = tables::size(w, i);
+    let blocks = p.blocks;
+    let cell = known::free(w, blocks, b);
+    let s = known::size(w, blocks, b);
     let link = memory::load(p, h, Address(cell));
     let ok = link_ok(p, b, s, Address(link));
     if !ok {
         return Taken::BadLink;
     }
-    tables::set_free(w, i, link);
+    known::set_free(w, blocks, b, link);
     memory::zero(p, h, Address(cell), s);
     Taken::Cell {
         at: Address(cell),

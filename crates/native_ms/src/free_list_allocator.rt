@@ -3,12 +3,11 @@
 // need.
 use crate::address;
 use crate::allocator;
-use crate::allocator::Raised;
 use crate::block;
 use crate::block::Taken;
 use crate::block_list;
-use crate::global;
-use crate::global::Tested;
+use crate::checks;
+use crate::checks::Checked;
 use crate::size_class;
 use model::ABANDONED;
 use model::Address;
@@ -17,24 +16,27 @@ use model::Block;
 use model::Offer;
 use model::Params;
 use model::Refusal;
+use model::Tested;
 use words::states;
 use words::tables;
 ghost use mathlib.Core.Path.{_≡_};
 ghost use mathlib.Core.Bool.{true};
-ghost use mathlib.Core.List.{List};
-ghost use Prim.Native.Nat.{ℕ, _<_, _≤_};
+ghost use Prim.Native.Nat.{_<_, _≤_};
+ghost use lib.ListN.{length};
 ghost use Rattle.model.specs.Base.{flag};
 ghost use Rattle.model.specs.Params.{goodParams};
-ghost use Rattle.model.specs.Tables.{Words, view, tablesOf};
+ghost use Rattle.model.specs.declared.Tested.the-variants.{Passed};
+ghost use Rattle.model.specs.Tables.{view, tablesOf};
 ghost use Rattle.model.specs.BlockList.{popped};
 ghost use Rattle.model.specs.FreeListAllocator.{findFreeBlockWith, recycleLocalBlocks, acquireAbandoned, findBlock};
-ghost use Rattle.model.specs.Calls.{goodOffer, alloc};
+ghost use Rattle.model.specs.Calls.{alloc};
 ghost use Rattle.model.specs.Answers.{allocReply};
 ghost use Rattle.native_ms.specs.Closing.{Filed, seen, closed, Searched};
 ghost use Rattle.model.specs.Promise.{lend, Promised};
 ghost use Rattle.native_ms.specs.Abandoned.{nextOf, popAbandoned, TakenOver};
-ghost use Rattle.native_ms.specs.Ending.{ended, closedSearch, acquireGlobal, Freshened, stepped, servedBy, Ready};
-ghost use Rattle.native_ms.specs.Checked.{requestTests, allocTests};
+ghost use Rattle.native_ms.specs.Ending.{ended, closedSearch, acquireGlobal, Freshened, stepped, servedBy, Ready, Does};
+ghost use Rattle.native_ms.specs.Checked.{lentTests};
+ghost use Rattle.native_ms.specs.Places.{Known, Standing, Offered};
 
 // What a search gives: the start of a block with a free cell, 0 for none, and how many blocks were swept.
 pub(crate) struct Found {
@@ -48,12 +50,6 @@ pub(crate) struct Search {
     pub at: Address,
     pub swept: usize,
     pub fresh: bool,
-}
-
-// The bin to serve a request from, or its refusal.
-pub(crate) enum Checked {
-    Bin(usize),
-    Refused(Refusal),
 }
 
 // The next abandoned block of a bin, 0 for none, and whether it waits for a sweep.
@@ -110,7 +106,7 @@ pub(crate) fn recycle_local_blocks(
     owner: usize,
     bin: usize,
 ) -> Found
-    requires { ⌜ (goodParams p ≡ true) × (owner < 28) × (bin < 49) ⌝ }
+    requires { ⌜ (Known p (length (now w)) (length (now m)) (length (now h))) × (owner < 28) × (bin < 49) ⌝ }
     ensures { λ r. ⌜ Searched (p .blocks) (seen (r .at .0) (r .swept) (view (now (w .exit))) (now (h .exit))) (closed p 0 (now (h .entry)) (recycleLocalBlocks (p .blocks) p (now (m .entry)) owner bin (view (now (w .entry))))) ⌝ }
 {
     let from = address::unswept(owner, bin);
@@ -176,7 +172,7 @@ fn take_over(
     b: Block,
     unswept: bool,
 ) -> bool
-    requires { ⌜ (goodParams p ≡ true) × (1 ≤ holder) × (holder ≤ 8) × (bin < 49) ⌝ }
+    requires { ⌜ (Known p (length (now w)) (length (now m)) (length (now h))) × (1 ≤ holder) × (holder ≤ 8) × (bin < 49) ⌝ }
     ensures { λ r. ⌜ TakenOver p (now (m .entry)) holder bin (b .0) unswept (view (now (w .entry))) (now (h .entry)) r (view (now (w .exit))) (now (h .exit)) ⌝ }
 {
     let i = b.0;
@@ -211,7 +207,7 @@ pub(crate) fn acquire_abandoned(
     bin: usize,
     before: usize,
 ) -> Found
-    requires { ⌜ (goodParams p ≡ true) × (1 ≤ holder) × (holder ≤ 8) × (bin < 49) × (before ≤ 1024) ⌝ }
+    requires { ⌜ (Known p (length (now w)) (length (now m)) (length (now h))) × (1 ≤ holder) × (holder ≤ 8) × (bin < 49) × (before ≤ 1024) ⌝ }
     ensures { λ r. ⌜ seen (r .at .0) (r .swept) (view (now (w .exit))) (now (h .exit)) ≡ closed p before (now (h .entry)) (acquireAbandoned (p .blocks) p (now (m .entry)) holder bin (view (now (w .entry)))) ⌝ }
 {
     let mut k = p.blocks;
@@ -251,7 +247,7 @@ fn acquire_fresh(
     bin: usize,
     b: Block,
 )
-    requires { ⌜ (goodParams p ≡ true) × (1 ≤ holder) × (holder ≤ 8) × (bin < 49) ⌝ }
+    requires { ⌜ (Standing p (length (now w)) (length (now h)) (b .0)) × (1 ≤ holder) × (holder ≤ 8) × (bin < 49) ⌝ }
     ensures { λ _. ⌜ Freshened p holder bin (b .0) (view (now (w .entry))) (now (st .entry)) (now (h .entry)) (view (now (w .exit))) (now (st .exit)) (now (h .exit)) ⌝ }
 {
     let i = b.0;
@@ -275,7 +271,7 @@ pub(crate) fn acquire_global_block(
     offer: Offer,
     before: usize,
 ) -> Search
-    requires { ⌜ (goodParams p ≡ true) × (1 ≤ holder) × (holder ≤ 8) × (bin < 49) × (before ≤ 1024) ⌝ }
+    requires { ⌜ (Known p (length (now w)) (length (now m)) (length (now h))) × (1 ≤ holder) × (holder ≤ 8) × (bin < 49) × (before ≤ 1024) × Offered p offer ⌝ }
     ensures { λ r. ⌜ ended (r .at .0) (r .swept) (r .fresh) (tablesOf (view (now (w .exit))) (now (st .exit)) (now (m .entry))) (now (h .exit)) ≡ closedSearch p before (now (h .entry)) (acquireGlobal p holder bin offer (tablesOf (view (now (w .entry))) (now (st .entry)) (now (m .entry)))) ⌝ }
 {
     let f = acquire_abandoned(p, w, m, h, holder, bin, before);
@@ -318,7 +314,7 @@ pub(crate) fn find_block(
     bin: usize,
     offer: Offer,
 ) -> Search
-    requires { ⌜ (goodParams p ≡ true) × (1 ≤ holder) × (holder ≤ 8) × (bin < 49) ⌝ }
+    requires { ⌜ (Known p (length (now w)) (length (now m)) (length (now h))) × (1 ≤ holder) × (holder ≤ 8) × (bin < 49) × Offered p offer ⌝ }
     ensures { λ r. ⌜ ended (r .at .0) (r .swept) (r .fresh) (tablesOf (view (now (w .exit))) (now (st .exit)) (now (m .entry))) (now (h .exit)) ≡ closedSearch p 0 (now (h .entry)) (findBlock p holder bin offer (tablesOf (view (now (w .entry))) (now (st .entry)) (now (m .entry)))) ⌝ }
 {
     let owner = address::local_sets(holder);
@@ -347,70 +343,6 @@ pub(crate) fn find_block(
     acquire_global_block(p, w, st, m, h, holder, bin, offer, swept)
 }
 
-// Whether the offer, if any, is a block that is not in use.
-fn good_offer(p: Params, st: &[u8], offer: Offer) -> bool
-    ensures { λ r. ⌜ ((t : Words) (m : List ℕ) → r ≡ goodOffer p (tablesOf t (now (st .entry)) m) offer) ⌝ }
-{
-    match offer {
-        Offer::Nothing => true,
-        Offer::Fresh(b) => {
-            let i = b.0;
-            if i < p.blocks {
-                let s = states::state(st, i);
-                return s == block::UNALLOCATED;
-            }
-            false
-        }
-    }
-}
-
-// The tests of what is asked for, in document 01's order.
-fn check_request(
-    p: Params,
-    st: &[u8],
-    size: usize,
-    align: usize,
-    offset: usize,
-    offer: Offer,
-) -> Checked
-    requires { ⌜ goodParams p ≡ true ⌝ }
-    ensures { λ r. ⌜ ((t : Words) → r ≡ requestTests p t (now (st .entry)) size align offset offer) ⌝ }
-{
-    if !allocator::good_request(p, size, align, offset) {
-        return Checked::Refused(Refusal::BadRequest);
-    }
-    match allocator::get_maximum_aligned_size(p, size, align) {
-        Raised::TooBig => Checked::Refused(Refusal::TooBig),
-        Raised::Fits(s) => {
-            if !good_offer(p, st, offer) {
-                return Checked::Refused(Refusal::BadOffer);
-            }
-            Checked::Bin(size_class::mi_bin_from_size(s))
-        }
-    }
-}
-
-// All tests of an alloc.
-fn check_alloc(
-    p: Params,
-    w: &[usize],
-    st: &[u8],
-    marks: usize,
-    heap: usize,
-    holder: usize,
-    size: usize,
-    align: usize,
-    offset: usize,
-    offer: Offer,
-) -> Checked
-    ensures { λ r. ⌜ r ≡ allocTests p (now (w .entry)) (now (st .entry)) marks heap holder size align offset offer ⌝ }
-{
-    match global::check_bound(p, w, st, marks, heap, holder) {
-        Tested::Refused(r) => Checked::Refused(r),
-        Tested::Passed => check_request(p, st, size, align, offset, offer),
-    }
-}
-
 // Finds a block of the bin and takes a cell of it.
 fn serve(
     p: Params,
@@ -424,7 +356,7 @@ fn serve(
     offset: usize,
     offer: Offer,
 ) -> AllocAnswer
-    requires { ⌜ Ready p (view (now w)) holder bin align offset ⌝ }
+    requires { ⌜ (Ready p (view (now w)) holder bin align offset) × (Known p (length (now w)) (length (now m)) (length (now h))) × Offered p offer ⌝ }
     ensures { λ r. ⌜ stepped (allocReply r) (tablesOf (view (now (w .exit))) (now (st .exit)) (now (m .entry))) (now (h .exit)) ≡ servedBy p align offset (now (h .entry)) (findBlock p holder bin offer (tablesOf (view (now (w .entry))) (now (st .entry)) (now (m .entry)))) ⌝ }
 {
     let s = find_block(p, w, st, m, h, holder, bin, offer);
@@ -448,6 +380,28 @@ fn serve(
     }
 }
 
+// A cell for a holder, on tables that are sound.
+pub(crate) fn do_alloc(
+    p: Params,
+    w: &mut [usize],
+    st: &mut [u8],
+    m: &[u8],
+    h: &mut [u8],
+    holder: usize,
+    size: usize,
+    align: usize,
+    offset: usize,
+    offer: Offer,
+) -> AllocAnswer
+    requires { ⌜ lentTests p (lend (now w) (now st) (now m) (now h)) ≡ Passed ⌝ }
+    ensures { λ r. ⌜ Does p (tablesOf (view (now (w .entry))) (now (st .entry)) (now (m .entry))) (now (h .entry)) (alloc holder size align offset offer) (allocReply r) (tablesOf (view (now (w .exit))) (now (st .exit)) (now (m .entry))) (now (h .exit)) ⌝ }
+{
+    match checks::check_alloc(p, w, st, holder, size, align, offset, offer) {
+        Checked::Refused(r) => AllocAnswer::Refused(r),
+        Checked::Bin(bin) => serve(p, w, st, m, h, holder, bin, align, offset, offer),
+    }
+}
+
 // A cell for a holder. Nothing is required: what is lent is tested first.
 pub fn alloc(
     p: Params,
@@ -463,27 +417,16 @@ pub fn alloc(
 ) -> AllocAnswer
     ensures { λ r. ⌜ Promised p (lend (now (words .entry)) (now (states .entry)) (now (marks .entry)) (now (heap .entry))) (alloc holder size align offset offer) (allocReply r) (lend (now (words .exit)) (now (states .exit)) (now (marks .entry)) (now (heap .exit))) ⌝ }
 {
-    match check_alloc(
-        p,
-        words,
-        states,
-        marks.len(),
-        heap.len(),
-        holder,
-        size,
-        align,
-        offset,
-        offer,
-    ) {
-        Checked::Refused(r) => AllocAnswer::Refused(r),
-        Checked::Bin(bin) => serve(
+    match checks::check_lent(p, words, states, marks, heap) {
+        Tested::Refused(r) => AllocAnswer::Refused(r),
+        Tested::Passed => do_alloc(
             p,
             words,
             states,
             marks,
             heap,
             holder,
-            bin,
+            size,
             align,
             offset,
             offer,

@@ -10,9 +10,8 @@
 use crate::address;
 use crate::block;
 use crate::block_list;
+use crate::checks;
 use crate::memory;
-use crate::params;
-use crate::sound;
 use model::ABANDONED;
 use model::Address;
 use model::Answer;
@@ -26,23 +25,24 @@ use model::PARTS;
 use model::Params;
 use model::Refusal;
 use model::ReleaseAnswer;
+use model::Tested;
 use words::marks;
 use words::states;
 use words::tables;
 ghost use mathlib.Core.Path.{_≡_};
-ghost use mathlib.Core.Bool.{true, not, _&&_, _||_};
-ghost use mathlib.Core.List.{List, [], map};
-ghost use Prim.Native.Nat.{ℕ, _<_, _≤_, _^_};
+ghost use mathlib.Core.Bool.{true, not, _||_};
+ghost use mathlib.Core.List.{List, map};
+ghost use Prim.Native.Nat.{ℕ, _<_, _≤_};
 ghost use lib.ListN.{length, getD, replicate};
-ghost use Rattle.model.specs.Params.{goodParams, minusLower, abandoned, inGc};
-ghost use Rattle.model.specs.Tables.{Words, view, tablesOf, withReleased};
+ghost use Rattle.model.specs.declared.Params.{Params};
+ghost use Rattle.model.specs.Params.{goodParams, abandoned, inGc, headWords, bins};
+ghost use Rattle.model.specs.Tables.{view, tablesOf, withReleased};
 ghost use Rattle.model.specs.Global.{freed, unmarkedState, releaseFrom, releaseBin, releaseHolder, sweepLaterBin, sweepLater, isHolder, isBound, hasReleased, allReleased};
-ghost use Rattle.model.specs.Calls.{bind, destroy, prepare, mark, release, sharedRelease, goodObject, mayRelease};
+ghost use Rattle.model.specs.Calls.{bind, destroy, prepare, mark, release, sharedRelease};
 ghost use Rattle.model.specs.Answers.{replyOf, destroyReply, markReply, releaseReply};
 ghost use Rattle.model.specs.Promise.{lend, Promised, SetUpPromised};
-ghost use Rattle.native_ms.specs.Space.{lengthsFit, inBlock};
-ghost use Rattle.native_ms.specs.Checked.{andThen, lentTests, phaseTest, boundTests, bindTests, markTests, releaseTests, sharedTests};
 ghost use Rattle.native_ms.specs.Moved.{moved, binMoves, binsMove, endMoves, partMoves};
+ghost use Rattle.native_ms.specs.Ending.{Does};
 ghost use Rattle.native_ms.specs.Released.{out, total, attemptRelease, releasedBins};
 
 // The phases.
@@ -51,12 +51,6 @@ pub(crate) const RUNNING: usize = 0;
 pub(crate) const MARKING: usize = 1;
 
 pub(crate) const RELEASING: usize = 2;
-
-// How the tests of a call end: passed, or the first refusal.
-pub(crate) enum Tested {
-    Passed,
-    Refused(Refusal),
-}
 
 // ---- holders, and what has released
 
@@ -111,68 +105,6 @@ pub(crate) fn all_released(w: &[usize]) -> bool
     has_released(w, 0)
 }
 
-// ---- tests of more than one call
-
-// Whether parameters and lengths are good.
-pub(crate) fn lent_fits(p: Params, words: usize, states: usize, marks: usize, heap: usize) -> bool
-    ensures { λ r. ⌜ r ≡ lengthsFit p words states marks heap ⌝ }
-{
-    if !params::good_params(p) {
-        return false;
-    }
-    params::lengths_fit(p, words, states, marks, heap)
-}
-
-// What every call tests first: parameters and lengths, and that the tables are sound.
-fn check_lent(p: Params, w: &[usize], st: &[u8], marks: usize, heap: usize) -> Tested
-    ensures { λ r. ⌜ r ≡ lentTests p (now (w .entry)) (now (st .entry)) marks heap ⌝ }
-{
-    if !lent_fits(p, w.len(), st.len(), marks, heap) {
-        return Tested::Refused(Refusal::BadSetup);
-    }
-    if !sound::sound(p, w, st) {
-        return Tested::Refused(Refusal::BadTables);
-    }
-    Tested::Passed
-}
-
-// Then that the call is of this phase.
-fn check_phase(p: Params, w: &[usize], st: &[u8], marks: usize, heap: usize, phase: usize) -> Tested
-    ensures { λ r. ⌜ r ≡ andThen (lentTests p (now (w .entry)) (now (st .entry)) marks heap) (phaseTest (view (now (w .entry))) phase) ⌝ }
-{
-    match check_lent(p, w, st, marks, heap) {
-        Tested::Refused(r) => Tested::Refused(r),
-        Tested::Passed => {
-            if tables::phase(w) == phase {
-                return Tested::Passed;
-            }
-            Tested::Refused(Refusal::WrongPhase)
-        }
-    }
-}
-
-// Running, and the holder is bound.
-pub(crate) fn check_bound(
-    p: Params,
-    w: &[usize],
-    st: &[u8],
-    marks: usize,
-    heap: usize,
-    holder: usize,
-) -> Tested
-    ensures { λ r. ⌜ r ≡ andThen (lentTests p (now (w .entry)) (now (st .entry)) marks heap) (boundTests (view (now (w .entry))) holder) ⌝ }
-{
-    match check_phase(p, w, st, marks, heap, RUNNING) {
-        Tested::Refused(r) => Tested::Refused(r),
-        Tested::Passed => {
-            if !is_bound(w, holder) {
-                return Tested::Refused(Refusal::BadHolder);
-            }
-            Tested::Passed
-        }
-    }
-}
-
 // ---- set-up
 
 fn clear_words(w: &mut [usize])
@@ -195,7 +127,7 @@ pub fn set_up(
 ) -> Answer
     ensures { λ r. ⌜ SetUpPromised p (lend (now (words .entry)) (now (states .entry)) (now (marks .entry)) (now (heap .entry))) (replyOf r) (lend (now (words .exit)) (now (states .exit)) (now (marks .exit)) (now (heap .entry))) ⌝ }
 {
-    if !lent_fits(p, words.len(), states.len(), marks.len(), heap.len()) {
+    if !checks::lent_fits(p, words, states, marks, heap) {
         return Answer::Refused(Refusal::BadSetup);
     }
     clear_words(words);
@@ -206,24 +138,19 @@ pub fn set_up(
 
 // ---- holders
 
-fn check_bind(p: Params, w: &[usize], st: &[u8], marks: usize, heap: usize, holder: usize) -> Tested
-    ensures { λ r. ⌜ r ≡ andThen (lentTests p (now (w .entry)) (now (st .entry)) marks heap) (bindTests (view (now (w .entry))) holder) ⌝ }
+// Gives a holder its lists, which are empty.
+pub(crate) fn do_bind(w: &mut [usize], holder: usize) -> Answer
+    ensures { λ r. ⌜ ((p : Params) (s m h : List ℕ) → Does p (tablesOf (view (now (w .entry))) s m) h (bind holder) (replyOf r) (tablesOf (view (now (w .exit))) s m) h) ⌝ }
 {
-    match check_phase(p, w, st, marks, heap, RUNNING) {
-        Tested::Refused(r) => Tested::Refused(r),
+    match checks::check_bind(w, holder) {
+        Tested::Refused(r) => Answer::Refused(r),
         Tested::Passed => {
-            if !is_holder(holder) {
-                return Tested::Refused(Refusal::BadHolder);
-            }
-            if is_bound(w, holder) {
-                return Tested::Refused(Refusal::BadHolder);
-            }
-            Tested::Passed
+            tables::set_bound(w, holder - 1, 1);
+            Answer::Done
         }
     }
 }
 
-// Gives a holder its lists, which are empty.
 pub fn bind(
     p: Params,
     words: &mut [usize],
@@ -234,12 +161,9 @@ pub fn bind(
 ) -> Answer
     ensures { λ r. ⌜ Promised p (lend (now (words .entry)) (now (states .entry)) (now (marks .entry)) (now (heap .entry))) (bind holder) (replyOf r) (lend (now (words .exit)) (now (states .entry)) (now (marks .entry)) (now (heap .entry))) ⌝ }
 {
-    match check_bind(p, words, states, marks.len(), heap.len(), holder) {
+    match checks::check_lent(p, words, states, marks, heap) {
         Tested::Refused(r) => Answer::Refused(r),
-        Tested::Passed => {
-            tables::set_bound(words, holder - 1, 1);
-            Answer::Done
-        }
+        Tested::Passed => do_bind(words, holder),
     }
 }
 
@@ -263,7 +187,7 @@ fn abandon_bin(p: Params, w: &mut [usize], to: usize, from: usize, bin: usize) -
 // All lists of one owner, by its first set, go behind another's. The answer is how many blocks went over.
 fn abandon_blocks(p: Params, w: &mut [usize], to: usize, from: usize) -> usize
     requires { ⌜ (goodParams p ≡ true) × (to ≤ 27) × (from ≤ 27) ⌝ }
-    ensures { λ r. ⌜ moved r (view (now (w .exit))) ≡ binsMove 49 p to from (view (now (w .entry))) ⌝ }
+    ensures { λ r. ⌜ moved r (view (now (w .exit))) ≡ binsMove bins p to from (view (now (w .entry))) ⌝ }
 {
     let mut bin: usize = 0;
     let mut n: usize = 0;
@@ -275,6 +199,21 @@ fn abandon_blocks(p: Params, w: &mut [usize], to: usize, from: usize) -> usize
 }
 
 // Hands a holder's lists to abandoned; the holder is bound no more. The answer is how many blocks it left behind.
+pub(crate) fn do_destroy(p: Params, w: &mut [usize], holder: usize) -> DestroyAnswer
+    requires { ⌜ goodParams p ≡ true ⌝ }
+    ensures { λ r. ⌜ ((s m h : List ℕ) → Does p (tablesOf (view (now (w .entry))) s m) h (destroy holder) (destroyReply r) (tablesOf (view (now (w .exit))) s m) h) ⌝ }
+{
+    match checks::check_bound(w, holder) {
+        Tested::Refused(r) => DestroyAnswer::Refused(r),
+        Tested::Passed => {
+            let from = address::local_sets(holder);
+            let count = abandon_blocks(p, w, ABANDONED, from);
+            tables::set_bound(w, holder - 1, 0);
+            DestroyAnswer::Destroyed { blocks: count }
+        }
+    }
+}
+
 pub fn destroy(
     p: Params,
     words: &mut [usize],
@@ -285,14 +224,9 @@ pub fn destroy(
 ) -> DestroyAnswer
     ensures { λ r. ⌜ Promised p (lend (now (words .entry)) (now (states .entry)) (now (marks .entry)) (now (heap .entry))) (destroy holder) (destroyReply r) (lend (now (words .exit)) (now (states .entry)) (now (marks .entry)) (now (heap .entry))) ⌝ }
 {
-    match check_bound(p, words, states, marks.len(), heap.len(), holder) {
+    match checks::check_lent(p, words, states, marks, heap) {
         Tested::Refused(r) => DestroyAnswer::Refused(r),
-        Tested::Passed => {
-            let from = address::local_sets(holder);
-            let count = abandon_blocks(p, words, ABANDONED, from);
-            tables::set_bound(words, holder - 1, 0);
-            DestroyAnswer::Destroyed { blocks: count }
-        }
+        Tested::Passed => do_destroy(p, words, holder),
     }
 }
 
@@ -320,6 +254,21 @@ fn unmark_blocks(st: &mut [u8])
 }
 
 // Starts a collection.
+pub(crate) fn do_prepare(w: &mut [usize], st: &mut [u8], m: &mut [u8]) -> Answer
+    requires { ⌜ headWords ≤ length (now w) ⌝ }
+    ensures { λ r. ⌜ ((p : Params) (h : List ℕ) → Does p (tablesOf (view (now (w .entry))) (now (st .entry)) (now (m .entry))) h prepare (replyOf r) (tablesOf (view (now (w .exit))) (now (st .exit)) (now (m .exit))) h) ⌝ }
+{
+    match checks::check_phase(w, RUNNING) {
+        Tested::Refused(r) => Answer::Refused(r),
+        Tested::Passed => {
+            tables::set_phase(w, MARKING);
+            unmark_blocks(st);
+            marks::clear_all(m);
+            Answer::Done
+        }
+    }
+}
+
 pub fn prepare(
     p: Params,
     words: &mut [usize],
@@ -329,87 +278,37 @@ pub fn prepare(
 ) -> Answer
     ensures { λ r. ⌜ Promised p (lend (now (words .entry)) (now (states .entry)) (now (marks .entry)) (now (heap .entry))) prepare (replyOf r) (lend (now (words .exit)) (now (states .exit)) (now (marks .exit)) (now (heap .entry))) ⌝ }
 {
-    match check_phase(p, words, states, marks.len(), heap.len(), RUNNING) {
+    match checks::check_lent(p, words, states, marks, heap) {
         Tested::Refused(r) => Answer::Refused(r),
-        Tested::Passed => {
-            tables::set_phase(words, MARKING);
-            unmark_blocks(states);
-            marks::clear_all(marks);
-            Answer::Done
-        }
-    }
-}
-
-// Where the object of a mark place starts: place − L.
-fn minus_lower(p: Params, place: Address) -> Address
-    requires { ⌜ (goodParams p ≡ true) × (4096 ≤ place .0) × (place .0 ≤ 2 ^ 48) ⌝ }
-    ensures { λ r. ⌜ r .0 ≡ minusLower p (place .0) ⌝ }
-{
-    let a = place.0 + 64;
-    let object = a - block::biased(p.lower);
-    Address(object)
-}
-
-fn in_block(p: Params, b: Block, a: Address) -> bool
-    requires { ⌜ (goodParams p ≡ true) × (b .0 < p .blocks) ⌝ }
-    ensures { λ r. ⌜ r ≡ inBlock p (b .0) (a .0) ⌝ }
-{
-    let from = address::start(p, b);
-    let v = from.0;
-    let x = a.0;
-    if x < v {
-        return false;
-    }
-    x < v + p.bytes
-}
-
-// Whether the place can be marked for the block.
-fn good_object(p: Params, st: &[u8], place: Address, b: Block) -> bool
-    requires { ⌜ goodParams p ≡ true ⌝ }
-    ensures { λ r. ⌜ ((w : Words) (m : List ℕ) → r ≡ goodObject p (tablesOf w (now (st .entry)) m) (place .0) (b .0)) ⌝ }
-{
-    let inside = address::in_heap(p, place);
-    if !inside {
-        return false;
-    }
-    if place.0 % 8 != 0 {
-        return false;
-    }
-    let i = b.0;
-    if p.blocks <= i {
-        return false;
-    }
-    let s = states::state(st, i);
-    if s == block::UNALLOCATED {
-        return false;
-    }
-    let a = minus_lower(p, place);
-    in_block(p, b, a)
-}
-
-fn check_mark(
-    p: Params,
-    w: &[usize],
-    st: &[u8],
-    marks: usize,
-    heap: usize,
-    place: Address,
-    b: Block,
-) -> Tested
-    ensures { λ r. ⌜ r ≡ andThen (lentTests p (now (w .entry)) (now (st .entry)) marks heap) (markTests p (tablesOf (view (now (w .entry))) (now (st .entry)) []) (place .0) (b .0)) ⌝ }
-{
-    match check_phase(p, w, st, marks, heap, MARKING) {
-        Tested::Refused(r) => Tested::Refused(r),
-        Tested::Passed => {
-            if !good_object(p, st, place, b) {
-                return Tested::Refused(Refusal::BadObject);
-            }
-            Tested::Passed
-        }
+        Tested::Passed => do_prepare(words, states, marks),
     }
 }
 
 // Marks a place of a block, and says whether the mark is new. A repeated mark changes nothing.
+pub(crate) fn do_mark(
+    p: Params,
+    w: &[usize],
+    st: &mut [u8],
+    m: &mut [u8],
+    place: Address,
+    b: Block,
+) -> MarkAnswer
+    requires { ⌜ goodParams p ≡ true ⌝ }
+    ensures { λ r. ⌜ ((h : List ℕ) → Does p (tablesOf (view (now (w .entry))) (now (st .entry)) (now (m .entry))) h (mark (place .0) (b .0)) (markReply r) (tablesOf (view (now (w .entry))) (now (st .exit)) (now (m .exit))) h) ⌝ }
+{
+    match checks::check_mark(p, w, st, place, b) {
+        Tested::Refused(r) => MarkAnswer::Refused(r),
+        Tested::Passed => {
+            if memory::is_marked(p, m, place) {
+                return MarkAnswer::Marked { new: false };
+            }
+            states::set_state(st, b.0, block::MARKED);
+            memory::set_mark(p, m, place);
+            MarkAnswer::Marked { new: true }
+        }
+    }
+}
+
 pub fn mark(
     p: Params,
     words: &[usize],
@@ -421,16 +320,9 @@ pub fn mark(
 ) -> MarkAnswer
     ensures { λ r. ⌜ Promised p (lend (now (words .entry)) (now (states .entry)) (now (marks .entry)) (now (heap .entry))) (mark (place .0) (block .0)) (markReply r) (lend (now (words .entry)) (now (states .exit)) (now (marks .exit)) (now (heap .entry))) ⌝ }
 {
-    match check_mark(p, words, states, marks.len(), heap.len(), place, block) {
+    match checks::check_lent(p, words, states, marks, heap) {
         Tested::Refused(r) => MarkAnswer::Refused(r),
-        Tested::Passed => {
-            if memory::is_marked(p, marks, place) {
-                return MarkAnswer::Marked { new: false };
-            }
-            states::set_state(states, block.0, block::MARKED);
-            memory::set_mark(p, marks, place);
-            MarkAnswer::Marked { new: true }
-        }
+        Tested::Passed => do_mark(p, words, states, marks, place, block),
     }
 }
 
@@ -543,13 +435,13 @@ fn sweep_later(p: Params, w: &mut [usize], st: &mut [u8]) -> usize
 // The in-gc lists go behind the abandoned ones.
 fn merge(p: Params, w: &mut [usize]) -> usize
     requires { ⌜ goodParams p ≡ true ⌝ }
-    ensures { λ r. ⌜ moved r (view (now (w .exit))) ≡ binsMove 49 p abandoned inGc (view (now (w .entry))) ⌝ }
+    ensures { λ r. ⌜ moved r (view (now (w .exit))) ≡ binsMove bins p abandoned inGc (view (now (w .entry))) ⌝ }
 {
     abandon_blocks(p, w, ABANDONED, IN_GC)
 }
 
 fn clear_released(w: &mut [usize])
-    requires { ⌜ 2958 ≤ length (now w) ⌝ }
+    requires { ⌜ headWords ≤ length (now w) ⌝ }
     ensures { λ _. ⌜ view (now (w .exit)) ≡ withReleased (replicate 9 0) (view (now (w .entry))) ⌝ }
 {
     let mut i: usize = 0;
@@ -561,7 +453,7 @@ fn clear_released(w: &mut [usize])
 
 // Nothing is due any more: back to Running. The answer is how many blocks were merged.
 fn end_of_gc(p: Params, w: &mut [usize]) -> usize
-    requires { ⌜ (goodParams p ≡ true) × (2958 ≤ length (now w)) ⌝ }
+    requires { ⌜ (goodParams p ≡ true) × (headWords ≤ length (now w)) ⌝ }
     ensures { λ r. ⌜ moved r (view (now (w .exit))) ≡ endMoves p (view (now (w .entry))) ⌝ }
 {
     let n = merge(p, w);
@@ -572,7 +464,7 @@ fn end_of_gc(p: Params, w: &mut [usize]) -> usize
 
 // A part has released; the last one ends the collection. The answer is how many blocks were merged, 0 if parts are due.
 fn part_released(p: Params, w: &mut [usize], part: usize) -> usize
-    requires { ⌜ (goodParams p ≡ true) × (2958 ≤ length (now w)) ⌝ }
+    requires { ⌜ (goodParams p ≡ true) × (headWords ≤ length (now w)) ⌝ }
     ensures { λ r. ⌜ moved r (view (now (w .exit))) ≡ partMoves p part (view (now (w .entry))) ⌝ }
 {
     tables::set_phase(w, RELEASING);
@@ -584,53 +476,24 @@ fn part_released(p: Params, w: &mut [usize], part: usize) -> usize
     0 // the others are due
 }
 
-fn may_release(w: &[usize]) -> bool
-    ensures { λ r. ⌜ r ≡ mayRelease (view (now (w .entry))) ⌝ }
+// A holder's release.
+pub(crate) fn do_release(p: Params, w: &mut [usize], st: &mut [u8], holder: usize) -> ReleaseAnswer
+    requires { ⌜ (goodParams p ≡ true) × (headWords ≤ length (now w)) ⌝ }
+    ensures { λ r. ⌜ ((m h : List ℕ) → Does p (tablesOf (view (now (w .entry))) (now (st .entry)) m) h (release holder) (releaseReply r) (tablesOf (view (now (w .exit))) (now (st .exit)) m) h) ⌝ }
 {
-    let f = tables::phase(w);
-    if f == MARKING {
-        return true;
-    }
-    f == RELEASING
-}
-
-fn released_already(w: &[usize], holder: usize) -> bool
-    ensures { λ r. ⌜ r ≡ (isHolder holder && hasReleased (view (now (w .entry))) holder) ⌝ }
-{
-    if !is_holder(holder) {
-        return false;
-    }
-    has_released(w, holder)
-}
-
-fn check_release(
-    p: Params,
-    w: &[usize],
-    st: &[u8],
-    marks: usize,
-    heap: usize,
-    holder: usize,
-) -> Tested
-    ensures { λ r. ⌜ r ≡ andThen (lentTests p (now (w .entry)) (now (st .entry)) marks heap) (releaseTests (view (now (w .entry))) holder) ⌝ }
-{
-    match check_lent(p, w, st, marks, heap) {
-        Tested::Refused(r) => Tested::Refused(r),
+    match checks::check_release(w, holder) {
+        Tested::Refused(r) => ReleaseAnswer::Refused(r),
         Tested::Passed => {
-            if !may_release(w) {
-                return Tested::Refused(Refusal::WrongPhase);
+            let count = release_holder(p, w, st, holder);
+            let merged = part_released(p, w, holder);
+            ReleaseAnswer::Released {
+                blocks: count,
+                merged,
             }
-            if released_already(w, holder) {
-                return Tested::Refused(Refusal::WrongPhase);
-            }
-            if !is_bound(w, holder) {
-                return Tested::Refused(Refusal::BadHolder);
-            }
-            Tested::Passed
         }
     }
 }
 
-// A holder's release.
 pub fn release(
     p: Params,
     words: &mut [usize],
@@ -641,37 +504,27 @@ pub fn release(
 ) -> ReleaseAnswer
     ensures { λ r. ⌜ Promised p (lend (now (words .entry)) (now (states .entry)) (now (marks .entry)) (now (heap .entry))) (release holder) (releaseReply r) (lend (now (words .exit)) (now (states .exit)) (now (marks .entry)) (now (heap .entry))) ⌝ }
 {
-    match check_release(p, words, states, marks.len(), heap.len(), holder) {
+    match checks::check_lent(p, words, states, marks, heap) {
         Tested::Refused(r) => ReleaseAnswer::Refused(r),
-        Tested::Passed => {
-            let count = release_holder(p, words, states, holder);
-            let merged = part_released(p, words, holder);
-            ReleaseAnswer::Released {
-                blocks: count,
-                merged,
-            }
-        }
-    }
-}
-
-fn check_shared_release(p: Params, w: &[usize], st: &[u8], marks: usize, heap: usize) -> Tested
-    ensures { λ r. ⌜ r ≡ andThen (lentTests p (now (w .entry)) (now (st .entry)) marks heap) (sharedTests (view (now (w .entry)))) ⌝ }
-{
-    match check_lent(p, w, st, marks, heap) {
-        Tested::Refused(r) => Tested::Refused(r),
-        Tested::Passed => {
-            if !may_release(w) {
-                return Tested::Refused(Refusal::WrongPhase);
-            }
-            if has_released(w, 0) {
-                return Tested::Refused(Refusal::WrongPhase);
-            }
-            Tested::Passed
-        }
+        Tested::Passed => do_release(p, words, states, holder),
     }
 }
 
 // The shared part's release.
+pub(crate) fn do_shared_release(p: Params, w: &mut [usize], st: &mut [u8]) -> ReleaseAnswer
+    requires { ⌜ (goodParams p ≡ true) × (headWords ≤ length (now w)) ⌝ }
+    ensures { λ r. ⌜ ((m h : List ℕ) → Does p (tablesOf (view (now (w .entry))) (now (st .entry)) m) h sharedRelease (releaseReply r) (tablesOf (view (now (w .exit))) (now (st .exit)) m) h) ⌝ }
+{
+    match checks::check_shared_release(w) {
+        Tested::Refused(r) => ReleaseAnswer::Refused(r),
+        Tested::Passed => {
+            let n = sweep_later(p, w, st);
+            let merged = part_released(p, w, 0);
+            ReleaseAnswer::Released { blocks: n, merged }
+        }
+    }
+}
+
 pub fn shared_release(
     p: Params,
     words: &mut [usize],
@@ -681,12 +534,8 @@ pub fn shared_release(
 ) -> ReleaseAnswer
     ensures { λ r. ⌜ Promised p (lend (now (words .entry)) (now (states .entry)) (now (marks .entry)) (now (heap .entry))) sharedRelease (releaseReply r) (lend (now (words .exit)) (now (states .exit)) (now (marks .entry)) (now (heap .entry))) ⌝ }
 {
-    match check_shared_release(p, words, states, marks.len(), heap.len()) {
+    match checks::check_lent(p, words, states, marks, heap) {
         Tested::Refused(r) => ReleaseAnswer::Refused(r),
-        Tested::Passed => {
-            let n = sweep_later(p, words, states);
-            let merged = part_released(p, words, 0);
-            ReleaseAnswer::Released { blocks: n, merged }
-        }
+        Tested::Passed => do_shared_release(p, words, states),
     }
 }

@@ -1,8 +1,12 @@
-// The native mark-sweep space, as in the Rust's files.
+// The native mark-sweep space, as in the Rust's files; `checks` has the tests of the calls.
+//
+// Inner functions name what they are lent by one letter: p the parameters, w the table words, st the state bytes, m the marks,
+// h the heap; b is a block, l a list.
 mod address;
 pub mod allocator;
 mod block;
 pub mod block_list;
+mod checks;
 pub mod free_chain;
 pub mod free_list_allocator;
 pub mod global;

@@ -1,5 +1,5 @@
 // Words, zeros and mark bits by address, over the lent heap and mark bytes. Total: an address below the heap is taken for
-// its first byte, as in the definitions.
+// its first byte, as in the definitions. At the end, words and mark bits by offset and index that are known to be there.
 use crate::address;
 use model::Address;
 use model::Params;
@@ -7,9 +7,10 @@ use words::bytes;
 use words::marks;
 ghost use mathlib.Core.Path.{_≡_};
 ghost use mathlib.Core.Bool.{true};
-ghost use Prim.Native.Nat.{_-_};
+ghost use Prim.Native.Nat.{_+_, _-_, _/_, _%_, _≤_, _<_};
+ghost use lib.ListN.{length, getD};
 ghost use Rattle.model.specs.Params.{goodParams};
-ghost use Rattle.model.specs.Memory.{load, store, zeroed, marked, setMark};
+ghost use Rattle.model.specs.Memory.{load, store, zeroed, marked, setMark, bytesOf, overwrite, bitOf};
 
 // Where an address stands in the heap.
 fn offset(p: Params, a: Address) -> usize
@@ -62,4 +63,36 @@ pub(crate) fn set_mark(p: Params, m: &mut [u8], place: Address)
 {
     let i = offset(p, place);
     marks::set_bit(m, i / 8);
+}
+
+// The n low bytes of v, from the offset i on.
+fn put_bytes(h: &mut [u8], i: usize, v: usize, n: usize)
+    requires { ⌜ i + n ≤ length (now h) ⌝ }
+    ensures { λ _. ⌜ now (h .exit) ≡ overwrite i (bytesOf n v) (now (h .entry)) ⌝ }
+{
+    let mut k = n;
+    let mut o = i;
+    let mut x = v;
+    while 0 < k {
+        h[o] = (x % 256) as u8;
+        x = x / 256;
+        o = o + 1;
+        k = k - 1;
+    }
+}
+
+pub(crate) fn put_word(h: &mut [u8], i: usize, v: usize)
+    requires { ⌜ i + 8 ≤ length (now h) ⌝ }
+    ensures { λ _. ⌜ now (h .exit) ≡ overwrite i (bytesOf 8 v) (now (h .entry)) ⌝ }
+{
+    put_bytes(h, i, v, 8);
+}
+
+// Mark bit g.
+pub(crate) fn bit(m: &[u8], g: usize) -> bool
+    requires { ⌜ g / 8 < length (now m) ⌝ }
+    ensures { λ r. ⌜ r ≡ bitOf (getD (now (m .entry)) (g / 8) 0) (g % 8) ⌝ }
+{
+    let i = g / 8;
+    (m[i] >> (g % 8)) & 1 == 1
 }

@@ -1,16 +1,25 @@
 // Size classes: the cell sizes of the bins, and the bin of a size.
+use model::BINS;
 use model::CLASS_WORDS;
 ghost use mathlib.Core.Path.{_≡_};
 ghost use Prim.Native.Nat.{_<_, _≤_};
 ghost use Rattle.model.specs.declared.Params.{Params};
 ghost use Rattle.model.specs.SizeClasses.{binInOctave, cellBytes, binOf};
 
-// The cell size of a bin in bytes; 0 past the last bin.
+// The cell size of a bin in bytes; 0 past the last bin. Past bin 8 there are four bins to the octave. It is computed: the table
+// would be built on the stack for each look-up.
 pub fn class_bytes(bin: usize) -> usize
     ensures { λ r. ⌜ ((p : Params) → r ≡ cellBytes p bin) ⌝ }
 {
-    if bin < 49 {
-        return CLASS_WORDS[bin] * 8;
+    if bin < BINS {
+        if bin < 9 {
+            if bin == 0 {
+                return 8;
+            }
+            return bin * 8;
+        }
+        let step = bin - 9;
+        return (5 + step % 4) << (step / 4 + 4);
     }
     0
 }

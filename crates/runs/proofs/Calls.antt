@@ -1,28 +1,30 @@
 -- Every call, on tables and a heap under the invariant: its plan, and its step.
 use mathlib.Core.Path.{_≡_}
-use mathlib.Core.Bool.{Bool, true, false, not, _&&_, _||_}
+use mathlib.Core.Bool.{Bool, true}
 use mathlib.Core.List.{List}
 use Prim.Native.Nat.{ℕ, _+_, _%_, _≤_}
 use native.Mathlib.Omega.{arith}
-use lib.Dec.{eqb, leb}
+use lib.Dec.{leb}
 use lib.ListN.{getD}
-use borrow.Author.Tests.{eqb-true, leb-true, not-false}
+use borrow.Author.Tests.{leb-true}
 use Rattle.model.specs.declared.Params.{Params}
 use Rattle.model.specs.declared.Offer.{Offer}
-use Rattle.model.specs.declared.Refusal.{Refusal}
-use Rattle.model.specs.declared.Refusal.the-variants.{BadTables, WrongPhase, BadHolder, BadRequest, TooBig, BadOffer, BadObject}
+use Rattle.model.specs.declared.Refusal.the-variants.{BadTables}
+use Rattle.model.specs.declared.Tested.the-variants.{Passed}
 use Rattle.model.specs.Params.{goodParams}
 use Rattle.model.specs.Tables.{Words, Tables}
 use Rattle.model.specs.SizeClasses.{binOf, raised, alignAllocation}
 use Rattle.model.specs.Events.{Event, eventsHeap}
-use Rattle.model.specs.Global.{isHolder, isBound, hasReleased}
+use Rattle.model.specs.FreeListAllocator.{findBlock}
+use Rattle.model.specs.Global.{isHolder, isBound}
 use Rattle.model.specs.Sound.{sound}
-use Rattle.model.specs.Calls.{Call, bind, destroy, alloc, prepare, mark, release, sharedRelease, End, says, takes, Plan, refuses, goodObject, mayRelease, planAlloc, planSound, plan, finish, step}
+use Rattle.model.specs.Calls.{Call, bind, destroy, alloc, prepare, mark, release, sharedRelease, End, says, takes, Plan, takePlan, callTests, planPassed, planSound, plan, finish, step}
 use Rattle.model.specs.Runs.{Book, bookEvents, takerOf}
-use Rattle.laws.proofs.Base.{and-left, and-right, if-cases, or-none-left}
+use Rattle.laws.proofs.Base.{and-left, and-right, if-cases}
 use Rattle.laws.proofs.Params.{Bounds, good-bounds}
 use Rattle.laws.proofs.Good.{Good, good}
 use Rattle.laws.proofs.Classes.{Chosen, chosen, cell-in-block, request, fits-raised, object-in-cell}
+use Rattle.laws.proofs.Tests.{Asked, bound-passed, alloc-passed, mark-passed, release-passed, shared-passed, plan-cases}
 use Rattle.runs.proofs.Steps.{shadowEvents, EventsOk}
 use Rattle.runs.proofs.Plans.{bookFor, Serves, Inv, Taking, EndOk, Planned, refuses-planned, bind-planned, destroy-planned, prepare-planned, mark-planned, release-planned, shared-planned}
 use Rattle.runs.proofs.AllocPlan.{alloc-planned}
@@ -47,53 +49,36 @@ module _ (p : Params) (fine : goodParams p ≡ true) where
   B = good-bounds p fine
 
   module _ (t : Tables) (h : List ℕ) (sh : List (List ℕ)) (bk : Book) (I : Inv p B t h sh bk) where
-    running : not (eqb (t .words .phase) 0) ≡ false → t .words .phase ≡ 0
-    running e = eqb-true _ _ (not-false _ e)
-
-    planned-alloc : (d size align offset : ℕ) (offer : Offer) → sound p t ≡ true → Planned p B t h sh bk (alloc d size align offset offer) (planAlloc p t d size align offset offer)
-    unfolding planAlloc
-    planned-alloc d size align offset offer s =
-        if-cases P _ (λ e. refuse WrongPhase) (λ run. if-cases P _ (λ e. refuse BadHolder) (λ bound. if-cases P _ (λ e. refuse BadRequest) (λ ask. if-cases P _ (λ e. refuse TooBig) (λ small. if-cases P _ (λ e. refuse BadOffer) (λ offered.
+    planned-alloc : (d size align offset : ℕ) (offer : Offer) → sound p t ≡ true → Asked p t d size align offset offer
+        → Planned p B t h sh bk (alloc d size align offset offer) (takePlan p align offset (findBlock p d (binOf p (raised p size align)) offer t))
+    planned-alloc d size align offset offer s a =
         let g : Good p = good p fine in
-        let r = bound-range (t .words) d (not-false _ bound) in
-        let q = request p size align offset (not-false _ ask) in
-        let f = fits-raised p size align small in
+        let r = bound-range (t .words) d (a .bound) in
+        let q = request p size align offset (a .good) in
+        let f = fits-raised p size align (a .small) in
         let k : Chosen p (raised p size align) = chosen p (raised p size align) (omega (arith, f, g .bytes-to)) in
-        alloc-planned p B t h sh bk I s (running run) d (r .0) (r .1) (binOf p (raised p size align)) (k .from) (omega (arith, k .to))
-        (cell-in-block p g (raised p size align) f) size align offset offer (not-false _ offered) (object-in-cell p g q small))))))
-      where
-        P : Plan → Type 0
-        P q = Planned p B t h sh bk (alloc d size align offset offer) q
+        alloc-planned p B t h sh bk I s (a .running) d (r .0) (r .1) (binOf p (raised p size align)) (k .from) (omega (arith, k .to))
+        (cell-in-block p g (raised p size align) f) size align offset offer (a .offered) (object-in-cell p g q (a .small))
 
-        refuse : (r : Refusal) → Planned p B t h sh bk (alloc d size align offset offer) (refuses t r)
-        refuse r = refuses-planned p B t h sh bk I (alloc d size align offset offer) r
+    planned-passed : (c : Call) → sound p t ≡ true → callTests p t c ≡ Passed → Planned p B t h sh bk c (planPassed p t c)
+    unfolding callTests planPassed
+    planned-passed (bind d) s e = bind-planned p B t h sh bk I d
+    planned-passed (destroy d) s e =
+        let r = bound-range (t .words) d (bound-passed (t .words) d e .1) in
+        destroy-planned p B t h sh bk I d (r .0) (r .1) _
+    planned-passed (alloc d size align offset offer) s e =
+        planned-alloc d size align offset offer s (alloc-passed p t d size align offset offer e)
+    planned-passed prepare s e = prepare-planned p B t h sh bk I
+    planned-passed (mark place b) s e = mark-planned p B t h sh bk I place b (mark-passed p t place b e .1)
+    planned-passed (release d) s e =
+        let q = release-passed (t .words) d e in
+        let r = bound-range (t .words) d (q .1) in
+        release-planned p B t h sh bk I (q .0) d (r .0) (r .1)
+    planned-passed sharedRelease s e = shared-planned p B t h sh bk I (shared-passed (t .words) e)
 
     planned-sound : (c : Call) → sound p t ≡ true → Planned p B t h sh bk c (planSound p t c)
-    unfolding planSound
-    planned-sound (bind d) s =
-        if-cases (λ q. Planned p B t h sh bk (bind d) q) (not (eqb (t .words .phase) 0)) (λ e. refuses-planned p B t h sh bk I (bind d) WrongPhase)
-        (λ run. if-cases (λ q. Planned p B t h sh bk (bind d) q) (not (isHolder d) || isBound (t .words) d) (λ e. refuses-planned p B t h sh bk I (bind d) BadHolder)
-        (λ e. bind-planned p B t h sh bk I d))
-    planned-sound (destroy d) s =
-        if-cases (λ q. Planned p B t h sh bk (destroy d) q) (not (eqb (t .words .phase) 0)) (λ e. refuses-planned p B t h sh bk I (destroy d) WrongPhase)
-        (λ run. if-cases (λ q. Planned p B t h sh bk (destroy d) q) (not (isBound (t .words) d)) (λ e. refuses-planned p B t h sh bk I (destroy d) BadHolder)
-        (λ e. let r = bound-range (t .words) d (not-false _ e) in destroy-planned p B t h sh bk I d (r .0) (r .1) _))
-    planned-sound (alloc d size align offset offer) s = planned-alloc d size align offset offer s
-    planned-sound prepare s =
-        if-cases (λ q. Planned p B t h sh bk prepare q) (not (eqb (t .words .phase) 0)) (λ e. refuses-planned p B t h sh bk I prepare WrongPhase)
-        (λ run. prepare-planned p B t h sh bk I)
-    planned-sound (mark place b) s =
-        if-cases (λ q. Planned p B t h sh bk (mark place b) q) (not (eqb (t .words .phase) 1)) (λ e. refuses-planned p B t h sh bk I (mark place b) WrongPhase)
-        (λ run. if-cases (λ q. Planned p B t h sh bk (mark place b) q) (not (goodObject p t place b)) (λ e. refuses-planned p B t h sh bk I (mark place b) BadObject)
-        (λ e. mark-planned p B t h sh bk I place b (not-false _ e)))
-    planned-sound (release d) s =
-        if-cases (λ q. Planned p B t h sh bk (release d) q) (not (mayRelease (t .words)) || (isHolder d && hasReleased (t .words) d)) (λ e. refuses-planned p B t h sh bk I (release d) WrongPhase)
-        (λ f. if-cases (λ q. Planned p B t h sh bk (release d) q) (not (isBound (t .words) d)) (λ e. refuses-planned p B t h sh bk I (release d) BadHolder)
-        (λ e. let r = bound-range (t .words) d (not-false _ e) in
-        release-planned p B t h sh bk I (not-false _ (or-none-left (not (mayRelease (t .words))) _ f)) d (r .0) (r .1)))
-    planned-sound sharedRelease s =
-        if-cases (λ q. Planned p B t h sh bk sharedRelease q) (not (mayRelease (t .words)) || hasReleased (t .words) 0) (λ e. refuses-planned p B t h sh bk I sharedRelease WrongPhase)
-        (λ f. shared-planned p B t h sh bk I (not-false _ (or-none-left (not (mayRelease (t .words))) _ f)))
+    planned-sound c s =
+        plan-cases (λ q. Planned p B t h sh bk c q) p t c (λ r b. refuses-planned p B t h sh bk I c r) (λ e. planned-passed c s e)
 
     planned : (c : Call) → Planned p B t h sh bk c (plan p t c)
     unfolding plan

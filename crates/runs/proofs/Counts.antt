@@ -1,6 +1,5 @@
 -- The counts that a call answers are those of its events, on any tables and heap. Assumes nothing.
 use mathlib.Core.Path.{_≡_, refl, sym, ap}
-use mathlib.Core.Bool.{not, _&&_, _||_}
 use mathlib.Core.List.{List, [], _∷_, _++_}
 use Prim.Native.Nat.{ℕ, suc}
 use lib.Dec.{eqb}
@@ -8,16 +7,16 @@ use borrow.Author.Tests.{eq-eqb}
 use Rattle.model.specs.declared.Params.{Params}
 use Rattle.model.specs.declared.Offer.{Offer}
 use Rattle.model.specs.declared.Refusal.{Refusal}
-use Rattle.model.specs.declared.Refusal.the-variants.{BadTables, WrongPhase, BadHolder, BadRequest, TooBig, BadOffer, BadLink, Exhausted}
+use Rattle.model.specs.declared.Refusal.the-variants.{BadTables, BadLink, Exhausted}
 use Rattle.model.specs.Base.{filter}
 use Rattle.model.specs.Tables.{Tables}
 use Rattle.model.specs.Events.{Event, initialised, swept, released, taken, eventsHeap, isSweep, sweeps}
 use Rattle.model.specs.FreeListAllocator.{Search}
-use Rattle.model.specs.Global.{isHolder, isBound, hasReleased}
 use Rattle.model.specs.Sound.{linkOk, sound}
-use Rattle.model.specs.Calls.{refused, Call, bind, destroy, alloc, prepare, mark, release, sharedRelease, End, Plan, refuses, goodRequest, tooBig, goodOffer, takePlan, planAlloc, mayRelease, releasePlan, planSound, plan, Step, takeCell, finish, step}
+use Rattle.model.specs.Calls.{refused, Call, bind, destroy, alloc, prepare, mark, release, sharedRelease, End, Plan, refuses, takePlan, releasePlan, planPassed, planSound, plan, Step, takeCell, finish, step}
 use Rattle.model.specs.Runs.{Counted}
 use Rattle.laws.proofs.Base.{if-cases, not-both}
+use Rattle.laws.proofs.Tests.{plan-cases}
 use Rattle.runs.proofs.Plans.{refusal-some}
 
 -- the cell taken is no sweep
@@ -63,30 +62,18 @@ module _ (p : Params) (t : Tables) (h : List ℕ) where
       c : Call
       c = alloc d size align offset offer
 
-  plan-counts : (c : Call) → Counts c (planSound p t c)
-  unfolding planSound planAlloc releasePlan finish Counted
-  plan-counts (bind d) = tt
-  plan-counts (destroy d) = tt
-  plan-counts (alloc d size align offset offer) =
-      if-cases C (not (eqb (t .words .phase) 0)) (λ e. refuses-counts c WrongPhase)
-      (λ e. if-cases C (not (isBound (t .words) d)) (λ f. refuses-counts c BadHolder)
-      (λ f. if-cases C (not (goodRequest p size align offset)) (λ g. refuses-counts c BadRequest)
-      (λ g. if-cases C (tooBig p size align) (λ i. refuses-counts c TooBig)
-      (λ i. if-cases C (not (goodOffer p t offer)) (λ j. refuses-counts c BadOffer)
-      (λ j. take-counts d size align offset offer _)))))
-    where
-      c : Call
-      c = alloc d size align offset offer
+  passed-counts : (c : Call) → Counts c (planPassed p t c)
+  unfolding planPassed releasePlan finish Counted
+  passed-counts (bind d) = tt
+  passed-counts (destroy d) = tt
+  passed-counts (alloc d size align offset offer) = take-counts d size align offset offer _
+  passed-counts prepare = tt
+  passed-counts (mark place b) = tt
+  passed-counts (release d) = λ z. refl
+  passed-counts sharedRelease = λ z. refl
 
-      C : Plan → Type 0
-      C = Counts c
-  plan-counts prepare = tt
-  plan-counts (mark place b) = tt
-  plan-counts (release d) =
-      if-cases (Counts (release d)) (not (mayRelease (t .words)) || (isHolder d && hasReleased (t .words) d)) (λ e. refuses-counts (release d) WrongPhase)
-      (λ e. if-cases (Counts (release d)) (not (isBound (t .words) d)) (λ f. refuses-counts (release d) BadHolder) (λ f z. refl))
-  plan-counts sharedRelease =
-      if-cases (Counts sharedRelease) (not (mayRelease (t .words)) || hasReleased (t .words) 0) (λ e. refuses-counts sharedRelease WrongPhase) (λ e z. refl)
+  plan-counts : (c : Call) → Counts c (planSound p t c)
+  plan-counts c = plan-cases (Counts c) p t c (λ r b. refuses-counts c r) (λ e. passed-counts c)
 
   pub counts : (c : Call) → Counted c (step p t h c .reply) (step p t h c .events)
   unfolding step plan

@@ -23,7 +23,7 @@ use Rattle.model.specs.Events.{Event, swept, released, taken, eventHeap, events
 use Rattle.model.specs.FreeListAllocator.{findFreeBlockWith, recycleLocalBlocks, acquireAbandoned, acquireFresh, findBlock}
 use Rattle.model.specs.Global.{freshWords, freshTables, isHolder, isBound, bindHolder, abandonBin, abandonBlocks, abandonedBin, abandonedBelow, abandonedBlocks, destroyHolder, unmarkedState, prepared, markPlace, releaseFrom, releaseBlocks, appendTo, releaseBin, releaseHolder, sweepLaterBin, sweepLater, hasReleased, allReleased, partReleased, merged}
 use Rattle.model.specs.Sound.{stateOf, stateKnown, blockClear, listNamed, binNamed, setNamed, onListNamed, sizeOk, linkOk, tlsOk, blockSound, linkedFrom, linked, ownerEmpty, unboundEmpty, inGcEmpty, phaseKnown, flagsKnown, releasedFew, releasedSome, releasedEmpty, sound}
-use Rattle.model.specs.Calls.{answered, Call, bind, alloc, prepare, mark, release, sharedRelease, refusalNumber, goodRequest, tooBig, goodOffer, goodObject, takePlan, planAlloc, mayRelease, releasePlan, planSound, plan, takeCell, finish, step, tablesIn, lentOf, call, setUp}
+use Rattle.model.specs.Calls.{answered, Call, bind, alloc, prepare, mark, release, sharedRelease, refusalNumber, goodRequest, tooBig, goodOffer, goodObject, mayRelease, andThen, phaseTest, bindTests, boundTests, requestTests, markTests, releaseTests, sharedTests, callTests, takePlan, releasePlan, planPassed, ifPassed, planSound, plan, takeCell, finish, step, tablesIn, lentOf, call, setUp}
 use Rattle.model.specs.Census.{censusParams, letter, awaitsSweep, printedChain}
 use Rattle.model.specs.Runs.{Cell, frees, entered, bookEvent, bookEvents, bookAnswer, takerOf, bookAfter, Write, written, Turn, State, foundBy, stepOf, resultOf, bookOf, turned, begun, covers, Holds, HoldersWrite, staysHeld, byteAt, RunKeeps, Demand3}
 use Rattle.model.specs.Port.{PortRun, turnsOf, portBegun, PortKeeps, ran, Demand3OfThePort}
@@ -151,7 +151,7 @@ after₈ = stands (standing 24 0 none 25600) (states 254) oneMark heap₈ (secon
 -- ---- each turn, computed. Who opens `machine` opens all that its line names
 
 machine : Params
-unfolding begun turned foundBy stepOf resultOf bookOf written takerOf bookAfter bookAnswer bookEvents bookEvent entered frees leadingZeros allBelow anyBelow member filter sumBelow eachBelow flag powerOfTwo lowerOk biased plusLower minusLower heapBytes heapEnd goodParams wordCount fits start blockAt inHeap isStart listOf listWord localSets available unswept consumed loadBytes bytesOf overwrite load store zeroed bitOf setBit markIndex marked setMark cleared view flat setFirst setLast setBound setReleased setNext setPrev setFree setSize setList setTls setPhase withReleased fours classWords cellBytes wordsIn highestBit binInOctave binOf raised shift alignAllocation push pop popHead removeBetween remove relabel link append walk blocksOn appended cellCount isCell cellsDown headD linkAll initChain initBlock simple keeps sweepChain sweptWords clearBlock eventHeap eventsHeap isSweep isRelease sweeps releases findFreeBlockWith recycleLocalBlocks acquireAbandoned acquireFresh findBlock freshWords freshTables isHolder isBound bindHolder abandonBin abandonBlocks abandonedBin abandonedBelow abandonedBlocks destroyHolder unmarkedState prepared markPlace releaseFrom releaseBlocks appendTo releaseBin releaseHolder sweepLaterBin sweepLater hasReleased allReleased partReleased merged stateOf stateKnown blockClear listNamed binNamed setNamed onListNamed sizeOk linkOk tlsOk blockSound linkedFrom linked ownerEmpty unboundEmpty inGcEmpty phaseKnown flagsKnown releasedFew releasedSome releasedEmpty sound refusalNumber goodRequest tooBig goodOffer goodObject takePlan planAlloc mayRelease releasePlan planSound plan takeCell finish step call setUp censusParams after₀ after₁ after₂ after₃ after₄ after₅ after₆ after₇ after₈ standing states none one noMarks oneMark heap₀ heap₂ heap₃ heap₄ heap₈ lent chainFrom freeChain letter awaitsSweep printedChain
+unfolding begun turned foundBy stepOf resultOf bookOf written takerOf bookAfter bookAnswer bookEvents bookEvent entered frees leadingZeros allBelow anyBelow member filter sumBelow eachBelow flag powerOfTwo lowerOk biased plusLower minusLower heapBytes heapEnd goodParams wordCount fits start blockAt inHeap isStart listOf listWord localSets available unswept consumed loadBytes bytesOf overwrite load store zeroed bitOf setBit markIndex marked setMark cleared view flat setFirst setLast setBound setReleased setNext setPrev setFree setSize setList setTls setPhase withReleased fours classWords cellBytes wordsIn highestBit binInOctave binOf raised shift alignAllocation push pop popHead removeBetween remove relabel link append walk blocksOn cellCount isCell cellsDown headD linkAll initChain initBlock simple keeps sweepChain sweptWords clearBlock eventHeap eventsHeap isSweep isRelease sweeps releases findFreeBlockWith recycleLocalBlocks acquireAbandoned acquireFresh findBlock freshWords freshTables isHolder isBound bindHolder abandonBin abandonBlocks destroyHolder unmarkedState prepared markPlace releaseFrom releaseBlocks appendTo releaseBin releaseHolder sweepLaterBin sweepLater hasReleased allReleased partReleased stateOf stateKnown blockClear listNamed binNamed setNamed onListNamed sizeOk linkOk tlsOk blockSound linkedFrom linked ownerEmpty unboundEmpty inGcEmpty phaseKnown flagsKnown releasedFew releasedSome releasedEmpty sound refusalNumber goodRequest tooBig goodOffer goodObject mayRelease andThen phaseTest bindTests boundTests requestTests markTests releaseTests sharedTests callTests takePlan releasePlan planPassed ifPassed planSound plan takeCell finish step call setUp censusParams after₀ after₁ after₂ after₃ after₄ after₅ after₆ after₇ after₈ standing states none one noMarks oneMark heap₀ heap₂ heap₃ heap₄ heap₈ lent chainFrom freeChain letter awaitsSweep printedChain appended abandonedBin abandonedBelow abandonedBlocks merged
 machine = censusParams
 
 set-up : begun p lent ≡ after₀

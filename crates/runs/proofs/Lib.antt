@@ -10,3 +10,4 @@ pub mod Counts
 pub mod Demand3
 pub mod Port
 pub mod Example
+pub mod Listings

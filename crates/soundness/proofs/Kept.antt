@@ -1,7 +1,7 @@
 -- Every call keeps tables sound, and set-up makes sound ones. So from set-up on no call is refused BadTables. Assumes nothing.
 use mathlib.Core.Path.{_≡_, refl, sym, ap, _∙_, subst}
 use mathlib.Core.Logic.{_≢_, inl, inr, ⊎-elim}
-use mathlib.Core.Bool.{Bool, true, false, not, _&&_, _||_}
+use mathlib.Core.Bool.{Bool, true, not, _&&_}
 use mathlib.Core.List.{List, []}
 use Prim.Native.Nat.{ℕ, _+_, _-_, _*_, _%_, _<_, _≤_}
 use native.Mathlib.Omega.{arith}
@@ -9,12 +9,13 @@ use lib.Dec.{eqb, ltb, leb}
 use lib.ListN.{getD, set, length, length-set, length-map, replicate, length-replicate}
 use lib.Seq.{set-getD, set-out}
 use native.Mathlib.Decide.{ℕ-discrete}
-use borrow.Author.Tests.{eq-eqb, eqb-true, not-false}
+use borrow.Author.Tests.{eq-eqb, eqb-true}
 use Rattle.model.specs.declared.Params.{Params}
 use Rattle.model.specs.declared.Offer.{Offer}
+use Rattle.model.specs.declared.Tested.the-variants.{Passed}
 use Rattle.model.specs.Params.{wordCount, inHeap, start, minusLower, lists, localSets}
 use Rattle.model.specs.Tables.{Words, Tables, withWords, setBound, setReleased, withReleased, setPhase, setFree}
-use Rattle.model.specs.Global.{isHolder, isBound, unmarkedState, freshWords, freshTables, bindHolder, destroyHolder, prepared, markPlace, allReleased, hasReleased, releaseHolder, sweepLater, partReleased}
+use Rattle.model.specs.Global.{Running, isHolder, isBound, unmarkedState, freshWords, freshTables, bindHolder, destroyHolder, prepared, markPlace, allReleased, hasReleased, releaseHolder, sweepLater, partReleased}
 use Rattle.model.specs.Memory.{marked}
 use Rattle.model.specs.Sound.{stateOf, linkOk, ownerEmpty, unboundEmpty, inGcEmpty, phaseKnown, flagsKnown, releasedFew, releasedSome, releasedEmpty, sound}
 use Rattle.model.specs.BlockList.{blocksOn}
@@ -22,11 +23,12 @@ use Rattle.model.specs.SizeClasses.{binOf, raised}
 use Rattle.model.specs.Block.{isCell}
 use Rattle.model.specs.Events.{Event}
 use Rattle.model.specs.FreeListAllocator.{findBlock}
-use Rattle.model.specs.Calls.{goodRequest, tooBig, goodOffer, takePlan, planAlloc, goodObject, mayRelease, releasePlan, Call, bind, destroy, alloc, prepare, mark, release, sharedRelease, End, says, takes, Plan, plan, planSound, Step, takeCell, finish, step}
-use Rattle.laws.proofs.Base.{and-left, and-right, if-cases, if-false, or-cases, or-none-left}
+use Rattle.model.specs.Calls.{goodOffer, takePlan, goodObject, releasePlan, callTests, planPassed, Call, bind, destroy, alloc, prepare, mark, release, sharedRelease, End, says, takes, Plan, plan, planSound, Step, takeCell, finish, step}
+use Rattle.laws.proofs.Base.{and-left, and-right, if-cases, if-false, or-cases}
 use Rattle.laws.proofs.Classes.{chosen, fits-raised}
 use Rattle.laws.proofs.Below.{true-not-false, and-both}
 use Rattle.laws.proofs.Params.{Bounds}
+use Rattle.laws.proofs.Tests.{phase-passed, bind-passed, bound-passed, alloc-passed, mark-passed, release-passed, plan-cases}
 use Rattle.laws.proofs.Tables.{Sized, sized-same, kept-lengths, sized-view, lengths-setBound, lengths-setFree, by-lt}
 use Rattle.soundness.proofs.SoundLists.{Good, sound-good, good-blocks, good-linked}
 use Rattle.soundness.proofs.Owners.{holder-framed, holder-empties, shared-framed}
@@ -227,35 +229,21 @@ module _ (p : Params) (B : Bounds p) where
         let E : Bool = leb (start p b) (minusLower p place) && ltb (minusLower p place) (start p b + p .bytes) in
         true-not-false (sym (and-right C D (and-right A (C && D) (and-left (A && (C && D)) E e))) ∙ ap not (eq-eqb _ _ z))
 
-    running : not (eqb (t .words .phase) 0) ≡ false → t .words .phase ≡ 0
-    running e = eqb-true _ _ (not-false _ e)
+    passed-kept : (c : Call) → callTests p t c ≡ Passed → Leaves (planPassed p t c)
+    unfolding callTests planPassed takePlan
+    passed-kept (bind h) e = let b = bind-passed (t .words) h e in bind-kept t K h (b .0) (b .1)
+    passed-kept (destroy h) e = let b = bound-passed (t .words) h e in destroy-kept t K h (b .0) (b .1)
+    passed-kept (alloc h size align offset offer) e =
+        let a = alloc-passed p t h size align offset offer e in
+        let n = chosen p (raised p size align) (omega (arith, fits-raised p size align (a .small), B .bytes-high)) in
+        find-kept t K h (binOf p (raised p size align)) offer (a .running) (a .bound) (n .from) (omega (arith, n .to)) (a .offered)
+    passed-kept prepare e = prepare-kept t K (phase-passed (t .words) Running e)
+    passed-kept (mark place b) e = mark-kept t K place b (object-occupied place b (mark-passed p t place b e .1))
+    passed-kept (release h) e = release-kept t K h (release-passed (t .words) h e .1)
+    passed-kept sharedRelease e = shared-kept t K
 
     plan-kept : (c : Call) → Leaves (planSound p t c)
-    unfolding planSound planAlloc takePlan
-    plan-kept (bind h) =
-        if-cases Leaves (not (eqb (t .words .phase) 0)) (λ e. K)
-        (λ e. if-cases Leaves (not (isHolder h) || isBound (t .words) h) (λ f. K) (λ f. bind-kept t K h (running e) (not-false _ (or-none-left _ _ f))))
-    plan-kept (destroy h) =
-        if-cases Leaves (not (eqb (t .words .phase) 0)) (λ e. K)
-        (λ e. if-cases Leaves (not (isBound (t .words) h)) (λ f. K) (λ f. destroy-kept t K h (running e) (not-false _ f)))
-    plan-kept (alloc h size align offset offer) =
-        if-cases Leaves (not (eqb (t .words .phase) 0)) (λ e. K)
-        (λ e. if-cases Leaves (not (isBound (t .words) h)) (λ f. K)
-        (λ f. if-cases Leaves (not (goodRequest p size align offset)) (λ g. K)
-        (λ g. if-cases Leaves (tooBig p size align) (λ i. K)
-        (λ i. if-cases Leaves (not (goodOffer p t offer)) (λ j. K)
-        (λ j.
-        let n = chosen p (raised p size align) (omega (arith, fits-raised p size align i, B .bytes-high)) in
-        find-kept t K h (binOf p (raised p size align)) offer (running e) (not-false _ f) (n .from) (omega (arith, n .to)) (not-false _ j))))))
-    plan-kept prepare = if-cases Leaves (not (eqb (t .words .phase) 0)) (λ e. K) (λ e. prepare-kept t K (running e))
-    plan-kept (mark place b) =
-        if-cases Leaves (not (eqb (t .words .phase) 1)) (λ e. K)
-        (λ e. if-cases Leaves (not (goodObject p t place b)) (λ f. K) (λ f. mark-kept t K place b (object-occupied place b (not-false _ f))))
-    plan-kept (release h) =
-        if-cases Leaves (not (mayRelease (t .words)) || (isHolder h && hasReleased (t .words) h)) (λ e. K)
-        (λ e. if-cases Leaves (not (isBound (t .words) h)) (λ f. K) (λ f. release-kept t K h (not-false _ f)))
-    plan-kept sharedRelease =
-        if-cases Leaves (not (mayRelease (t .words)) || hasReleased (t .words) 0) (λ e. K) (λ e. shared-kept t K)
+    plan-kept c = plan-cases Leaves p t c (λ r b. K) (λ e. passed-kept c e)
 
   pub step-kept : (t : Tables) (h : List ℕ) (c : Call) → Kept t → Kept (step p t h c .tables)
   unfolding step plan

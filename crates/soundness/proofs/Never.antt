@@ -1,10 +1,9 @@
 -- No call of a run from set-up is refused BadTables, whatever is lent, called and written. Assumes nothing.
 use mathlib.Core.Path.{_≡_, refl, sym, ap, _∙_}
 use mathlib.Core.Logic.{_≢_, ⊎-elim}
-use mathlib.Core.Bool.{true, not, _&&_, _||_}
+use mathlib.Core.Bool.{true}
 use mathlib.Core.List.{List, [], _∷_}
 use Prim.Native.Nat.{ℕ, _-_, _/_}
-use lib.Dec.{eqb}
 use lib.ListN.{length, length-set, length-replicate}
 use Rattle.model.specs.declared.Params.{Params}
 use Rattle.model.specs.Base.{In}
@@ -13,9 +12,9 @@ use Rattle.model.specs.Memory.{marked, zeroed}
 use Rattle.model.specs.Tables.{Tables}
 use Rattle.model.specs.Events.{Event, initialised, swept, released, taken, eventHeap, eventsHeap}
 use Rattle.model.specs.SizeClasses.{binOf, raised}
-use Rattle.model.specs.Global.{isHolder, isBound, hasReleased, freshTables, bindHolder, destroyHolder, prepared, markPlace}
+use Rattle.model.specs.Global.{freshTables, bindHolder, destroyHolder, prepared, markPlace}
 use Rattle.model.specs.Sound.{linkOk, sound}
-use Rattle.model.specs.Calls.{refusalNumber, Reply, answered, Call, bind, destroy, alloc, prepare, mark, release, sharedRelease, End, says, takes, Plan, goodRequest, tooBig, goodOffer, goodObject, takePlan, planAlloc, mayRelease, releasePlan, planSound, plan, Step, takeCell, finish, step, Result, lentOf, resultFrom, call, setUp}
+use Rattle.model.specs.Calls.{refusalNumber, Reply, Call, bind, destroy, alloc, prepare, mark, release, sharedRelease, End, says, takes, Plan, takePlan, releasePlan, planPassed, planSound, plan, Step, takeCell, finish, step, Result, lentOf, resultFrom, call}
 use Rattle.model.specs.Refusals.{NoBadTables}
 use Rattle.model.specs.Runs.{Write, written, Turn, State, foundBy, resultOf, turned, begun, Seen, trace}
 use Rattle.laws.proofs.Base.{if-cases}
@@ -24,6 +23,7 @@ use Rattle.laws.proofs.Memory.{length-overwrite}
 use Rattle.laws.proofs.Marks.{length-setMark, length-cleared}
 use Rattle.laws.proofs.Cells.{length-linkAll}
 use Rattle.laws.proofs.Lent.{fits-parts, answered-fits, set-up-is, call-is}
+use Rattle.laws.proofs.Tests.{plan-cases}
 use Rattle.soundness.proofs.Alloc.{find-marks}
 use Rattle.soundness.proofs.Replies.{never-bad}
 use Rattle.soundness.proofs.Kept.{Kept, fresh-kept, step-kept}
@@ -59,28 +59,19 @@ module _ (p : Params) where
     abbrev Same : Plan → Type 0
     Same q = length (q .tables .marks) ≡ length (t .marks)
 
+    passed-marks : (c : Call) → Same (planPassed p t c)
+    unfolding planPassed takePlan releasePlan bindHolder destroyHolder prepared markPlace
+    passed-marks (bind h) = refl
+    passed-marks (destroy h) = refl
+    passed-marks (alloc h size align offset offer) = ap length (find-marks p h (binOf p (raised p size align)) offer t)
+    passed-marks prepare = length-cleared (t .marks)
+    passed-marks (mark place b) =
+        if-cases (λ (x : Tables). length (x .marks) ≡ length (t .marks)) (marked p (t .marks) place) (λ g. refl) (λ g. length-setMark p (t .marks) place)
+    passed-marks (release h) = refl
+    passed-marks sharedRelease = refl
+
     plan-marks : (c : Call) → Same (planSound p t c)
-    unfolding planSound planAlloc takePlan releasePlan bindHolder destroyHolder prepared markPlace
-    plan-marks (bind h) =
-        if-cases Same (not (eqb (t .words .phase) 0)) (λ e. refl) (λ e. if-cases Same (not (isHolder h) || isBound (t .words) h) (λ f. refl) (λ f. refl))
-    plan-marks (destroy h) =
-        if-cases Same (not (eqb (t .words .phase) 0)) (λ e. refl) (λ e. if-cases Same (not (isBound (t .words) h)) (λ f. refl) (λ f. refl))
-    plan-marks (alloc h size align offset offer) =
-        if-cases Same (not (eqb (t .words .phase) 0)) (λ e. refl)
-        (λ e. if-cases Same (not (isBound (t .words) h)) (λ f. refl)
-        (λ f. if-cases Same (not (goodRequest p size align offset)) (λ g. refl)
-        (λ g. if-cases Same (tooBig p size align) (λ i. refl)
-        (λ i. if-cases Same (not (goodOffer p t offer)) (λ j. refl)
-        (λ j. ap length (find-marks p h (binOf p (raised p size align)) offer t))))))
-    plan-marks prepare = if-cases Same (not (eqb (t .words .phase) 0)) (λ e. refl) (λ e. length-cleared (t .marks))
-    plan-marks (mark place b) =
-        if-cases Same (not (eqb (t .words .phase) 1)) (λ e. refl)
-        (λ e. if-cases Same (not (goodObject p t place b)) (λ f. refl)
-        (λ f. if-cases (λ (x : Tables). length (x .marks) ≡ length (t .marks)) (marked p (t .marks) place) (λ g. refl) (λ g. length-setMark p (t .marks) place)))
-    plan-marks (release h) =
-        if-cases Same (not (mayRelease (t .words)) || (isHolder h && hasReleased (t .words) h)) (λ e. refl)
-        (λ e. if-cases Same (not (isBound (t .words) h)) (λ f. refl) (λ f. refl))
-    plan-marks sharedRelease = if-cases Same (not (mayRelease (t .words)) || hasReleased (t .words) 0) (λ e. refl) (λ e. refl)
+    plan-marks c = plan-cases Same p t c (λ r b. refl) (λ e. passed-marks c)
 
     step-marks : (h : List ℕ) (c : Call) → length (step p t h c .tables .marks) ≡ length (t .marks)
     unfolding step plan

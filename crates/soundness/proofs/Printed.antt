@@ -2,10 +2,8 @@
 -- and marks, and every sweep in it goes by them. Rides on the walk of the search. Assumes nothing.
 use mathlib.Core.Path.{_≡_, refl, sym, ap, _∙_, subst}
 use mathlib.Core.Logic.{⊎-elim}
-use mathlib.Core.Bool.{Bool, true, false, not}
 use mathlib.Core.List.{List, [], _∷_, _++_}
 use Prim.Native.Nat.{ℕ}
-use lib.Dec.{eqb}
 use lib.ListN.{getD}
 use Rattle.model.specs.declared.Params.{Params}
 use Rattle.model.specs.declared.Offer.{Offer}
@@ -16,14 +14,14 @@ use Rattle.model.specs.SizeClasses.{binOf, raised}
 use Rattle.model.specs.BlockList.{push, pop}
 use Rattle.model.specs.Block.{sweepChain, sweptWords}
 use Rattle.model.specs.Events.{Event, initialised, swept, released, taken}
-use Rattle.model.specs.FreeListAllocator.{sweepOf, Found, inFound, Search, acquireFresh, findBlock}
-use Rattle.model.specs.Global.{Running, isBound}
+use Rattle.model.specs.FreeListAllocator.{sweepOf, Found, Search, acquireFresh, findBlock}
 use Rattle.model.specs.Sound.{sound, linkOk}
-use Rattle.model.specs.Calls.{alloc, goodRequest, tooBig, goodOffer, Plan, takePlan, planAlloc, planSound, plan, End, says, takes, Step, takeCell, finish, step}
-use Rattle.model.specs.Census.{censusParams, awaitsSweep, printedChain, PrintedIsBuilt}
+use Rattle.model.specs.Calls.{alloc, Plan, takePlan, planPassed, plan, End, says, takes, Step, takeCell, finish, step}
+use Rattle.model.specs.Census.{censusParams, printedChain, PrintedIsBuilt}
 use Rattle.laws.proofs.Base.{if-cases, in-append}
 use Rattle.laws.proofs.Frame.{links-refl, push-links, pop-links}
 use Rattle.laws.proofs.Walks.{Files, Steps, find-keeps}
+use Rattle.laws.proofs.Tests.{plan-cases}
 
 module _ (p : Params) (ms sz : List ℕ) where
   -- a sweep built its chain from these marks and sizes; of other events nothing is said
@@ -95,21 +93,17 @@ module _ (p : Params) (t : Tables) where
       (record { size = refl; built = none-built p (t .marks) (t .words .size) })
 
   plan-built : (h size align offset : ℕ) (offer : Offer) → All (plan p t (alloc h size align offset offer) .events)
-  unfolding plan planSound planAlloc takePlan
+  unfolding plan planPassed takePlan
   plan-built h size align offset offer =
       if-cases Q (sound p t)
-      (λ s. if-cases Q (not (eqb (t .words .phase) Running)) no
-      (λ a. if-cases Q (not (isBound (t .words) h)) no
-      (λ b. if-cases Q (not (goodRequest p size align offset)) no
-      (λ c. if-cases Q (tooBig p size align) no
-      (λ d. if-cases Q (not (goodOffer p t offer)) no (λ e. find-built h (binOf p (raised p size align)) offer))))))
-      no
+      (λ s. plan-cases Q p t (alloc h size align offset offer) (λ r b. none) (λ e. find-built h (binOf p (raised p size align)) offer))
+      (λ s. none)
     where
       Q : Plan → Type 0
       Q q = All (q .events)
 
-      no : {b : Bool} {c : Bool} → b ≡ c → All []
-      no e = none-built p (t .marks) (t .words .size)
+      none : All []
+      none = none-built p (t .marks) (t .words .size)
 
   finish-built : (u : Tables) (es : List Event) (h : List ℕ) (e : End) → All es → All (finish p u es h e .events)
   unfolding finish takeCell Built

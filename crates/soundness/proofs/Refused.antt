@@ -2,18 +2,19 @@
 -- Assumes nothing.
 use mathlib.Core.Path.{_≡_, refl, sym, ap, _∙_, subst}
 use mathlib.Core.Logic.{_≢_, _⊎_, inl, inr, ⊎-elim}
-use mathlib.Core.Bool.{true, false, not, _&&_, _||_}
+use mathlib.Core.Bool.{true, false}
 use mathlib.Core.List.{List, [], _∷_, _++_, headD}
 use Prim.Native.Nat.{ℕ, _-_, _/_, _<_, _≤_}
 use native.Mathlib.Omega.{arith}
 use lib.Dec.{eqb, ltb}
 use lib.ListN.{getD, length}
-use borrow.Author.Tests.{eqb-true, ltb-true, eq-eqb, ne-eqb, not-false}
+use borrow.Author.Tests.{eqb-true, ltb-true, eq-eqb, ne-eqb}
 use Rattle.model.specs.declared.Params.{Params}
 use Rattle.model.specs.declared.Offer.{Offer}
 use Rattle.model.specs.declared.Offer.the-variants.{Nothing, Fresh}
 use Rattle.model.specs.declared.Refusal.{Refusal}
-use Rattle.model.specs.declared.Refusal.the-variants.{BadTables, WrongPhase, BadHolder, BadRequest, TooBig, BadOffer, BadObject}
+use Rattle.model.specs.declared.Refusal.the-variants.{BadTables}
+use Rattle.model.specs.declared.Tested.the-variants as Test
 use Rattle.model.specs.Params.{goodParams, Lent, fits, wordCount, heapBytes, start, blockAt, localSets, available}
 use Rattle.model.specs.Memory.{load}
 use Rattle.model.specs.Tables.{Words, Tables, tablesOf, view, flat, setFree, setSize, setTls}
@@ -22,9 +23,8 @@ use Rattle.model.specs.BlockList.{blocksOn, push}
 use Rattle.model.specs.Block.{initChain, initBlock, linkAll}
 use Rattle.model.specs.Events.{Event, initialised, eventHeap, eventsHeap}
 use Rattle.model.specs.FreeListAllocator.{Found, Search, inFound, acquireFresh, findBlock}
-use Rattle.model.specs.Global.{isHolder, isBound, hasReleased}
 use Rattle.model.specs.Sound.{linkOk, sound}
-use Rattle.model.specs.Calls.{refusalNumber, Call, bind, destroy, alloc, prepare, mark, release, sharedRelease, Plan, refuses, changes, goodRequest, tooBig, goodOffer, goodObject, takePlan, planAlloc, mayRelease, releasePlan, planSound, plan, Step, takeCell, finish, step, Result, tablesIn, lentOf, resultFrom, badSetup, call, setUp}
+use Rattle.model.specs.Calls.{refusalNumber, Call, bind, destroy, alloc, prepare, mark, release, sharedRelease, Plan, refuses, changes, goodOffer, takePlan, releasePlan, callTests, planPassed, planSound, plan, Step, takeCell, finish, step, Result, tablesIn, lentOf, resultFrom, badSetup, call, setUp}
 use Rattle.model.specs.Refusals.{Passed, Unmoved, TakenOver, SearchKeeps, KeptExhausted, KeptBadLink, OfAlloc, Refused, RefusalKeeps, SetUpKeeps}
 use Rattle.laws.proofs.Below.{and-five}
 use Rattle.laws.proofs.Base.{if-cases, and-left, not-both}
@@ -36,6 +36,7 @@ use Rattle.laws.proofs.Classes.{chosen, fits-raised, cell-in-block, cellBytes-l
 use Rattle.laws.proofs.Cells.{chain-in}
 use Rattle.laws.proofs.Frame.{links-refl, push-links}
 use Rattle.laws.proofs.Walks.{find-keeps}
+use Rattle.laws.proofs.Tests.{alloc-passed, plan-cases}
 use Rattle.soundness.proofs.SoundLists.{sound-good}
 use Rattle.soundness.proofs.Owners.{Framed, framed-refl}
 use Rattle.soundness.proofs.Held.{Held}
@@ -113,14 +114,6 @@ module _ (p : Params) (l : Lent) where
     unfolding finish refusalNumber eventsHeap
     plain c r f g z =
         record { values = refl; nothing = λ a b. back; badLink = λ q. absurd (f q); exhausted = λ q. absurd (g q) }
-
-    wrong-phase : (c : Call) → Fine c (refuses t WrongPhase)
-    unfolding refusalNumber
-    wrong-phase c = plain c WrongPhase (λ q. omega (arith, q)) (λ q. omega (arith, q))
-
-    bad-holder : (c : Call) → Fine c (refuses t BadHolder)
-    unfolding refusalNumber
-    bad-holder c = plain c BadHolder (λ q. omega (arith, q)) (λ q. omega (arith, q))
 
   done : (c : Call) (u : Tables) (vs : List ℕ) → Fine c (changes u vs)
   unfolding finish
@@ -259,42 +252,25 @@ module _ (p : Params) (l : Lent) (f : fits p l ≡ true) where
     H : Held p (l .marks) w (l .states)
     H = record { lists = λ n. blocksOn p n w; good = sound-good p B (tablesIn l) ok; sized = Z; states = parts .2 }
 
-    -- a refusal of another number
-    as-is : (r : Refusal) → refusalNumber r ≢ 8 → refusalNumber r ≢ 9 → (c : Call) → Fine p l c (refuses (tablesIn l) r)
-    as-is r a b c = plain p l (parts .1) c r a b
+    passed-fine : (c : Call) → callTests p (tablesIn l) c ≡ Test.Passed → Fine p l c (planPassed p (tablesIn l) c)
+    unfolding planPassed releasePlan finish
+    passed-fine (bind h) e = done p l (bind h) _ []
+    passed-fine (destroy h) e = done p l (destroy h) _ _
+    passed-fine (alloc h size align offset offer) e =
+        let a = alloc-passed p (tablesIn l) h size align offset offer e in
+        let P = bound-at w h (a .bound) in
+        let f = fits-raised p size align (a .small) in
+        let n = chosen p (raised p size align) (omega (arith, f, B .bytes-high)) in
+        alloc-fine p l B (parts .3) H h size align offset offer (P .low) (P .high) (omega (arith, n .to))
+        (cell-in-block p (good p (parts .0)) (raised p size align) f) (a .offered)
+    passed-fine prepare e = done p l prepare _ []
+    passed-fine (mark place b) e = done p l (mark place b) _ _
+    passed-fine (release h) e = λ z. absurd (z refl)
+    passed-fine sharedRelease e = λ z. absurd (z refl)
 
     plan-fine : (c : Call) → Fine p l c (planSound p (tablesIn l) c)
-    unfolding planSound planAlloc releasePlan finish refusalNumber
-    plan-fine (bind h) =
-        if-cases (Fine p l (bind h)) (not (eqb (w .phase) 0)) (λ e. wrong-phase p l (parts .1) (bind h))
-        (λ e. if-cases (Fine p l (bind h)) (not (isHolder h) || isBound w h) (λ g. bad-holder p l (parts .1) (bind h)) (λ g. done p l (bind h) _ []))
-    plan-fine (destroy h) =
-        if-cases (Fine p l (destroy h)) (not (eqb (w .phase) 0)) (λ e. wrong-phase p l (parts .1) (destroy h))
-        (λ e. if-cases (Fine p l (destroy h)) (not (isBound w h)) (λ g. bad-holder p l (parts .1) (destroy h)) (λ g. done p l (destroy h) _ _))
-    plan-fine (alloc h size align offset offer) =
-        let c : Call = alloc h size align offset offer in
-        if-cases (Fine p l c) (not (eqb (w .phase) 0)) (λ e. wrong-phase p l (parts .1) c)
-        (λ e. if-cases (Fine p l c) (not (isBound w h)) (λ g. bad-holder p l (parts .1) c)
-        (λ g. if-cases (Fine p l c) (not (goodRequest p size align offset)) (λ i. as-is BadRequest (λ q. omega (arith, q)) (λ q. omega (arith, q)) c)
-        (λ i. if-cases (Fine p l c) (tooBig p size align) (λ j. as-is TooBig (λ q. omega (arith, q)) (λ q. omega (arith, q)) c)
-        (λ j. if-cases (Fine p l c) (not (goodOffer p (tablesIn l) offer)) (λ k. as-is BadOffer (λ q. omega (arith, q)) (λ q. omega (arith, q)) c)
-        (λ k.
-        let P = bound-at w h (not-false _ g) in
-        let n = chosen p (raised p size align) (omega (arith, fits-raised p size align j, B .bytes-high)) in
-        alloc-fine p l B (parts .3) H h size align offset offer (P .low) (P .high) (omega (arith, n .to))
-        (cell-in-block p (good p (parts .0)) (raised p size align) (fits-raised p size align j)) (not-false _ k))))))
-    plan-fine prepare =
-        if-cases (Fine p l prepare) (not (eqb (w .phase) 0)) (λ e. wrong-phase p l (parts .1) prepare) (λ e. done p l prepare _ [])
-    plan-fine (mark place b) =
-        if-cases (Fine p l (mark place b)) (not (eqb (w .phase) 1)) (λ e. wrong-phase p l (parts .1) (mark place b))
-        (λ e. if-cases (Fine p l (mark place b)) (not (goodObject p (tablesIn l) place b))
-        (λ g. as-is BadObject (λ q. omega (arith, q)) (λ q. omega (arith, q)) (mark place b))
-        (λ g. done p l (mark place b) _ _))
-    plan-fine (release h) =
-        if-cases (Fine p l (release h)) (not (mayRelease w) || (isHolder h && hasReleased w h)) (λ e. wrong-phase p l (parts .1) (release h))
-        (λ e. if-cases (Fine p l (release h)) (not (isBound w h)) (λ g. bad-holder p l (parts .1) (release h)) (λ g z. absurd (z refl)))
-    plan-fine sharedRelease =
-        if-cases (Fine p l sharedRelease) (not (mayRelease w) || hasReleased w 0) (λ e. wrong-phase p l (parts .1) sharedRelease) (λ e z. absurd (z refl))
+    plan-fine c =
+        plan-cases (Fine p l c) p (tablesIn l) c (λ r b. plain p l (parts .1) c r (b .no-link) (b .no-search)) (λ e. passed-fine c e)
 
 pub refusal-keeps : RefusalKeeps
 unfolding RefusalKeeps call step plan refusalNumber

@@ -3,25 +3,26 @@
 -- state byte changes; who goes over is in Over.antt. Assumes nothing.
 use mathlib.Core.Path.{_≡_, refl, sym, ap, _∙_}
 use mathlib.Core.Logic.{_≢_}
-use mathlib.Core.Bool.{Bool, true, false, not, _&&_, _||_}
+use mathlib.Core.Bool.{Bool, true, false, not, _&&_}
 use mathlib.Core.List.{List, [], _∷_, _++_}
 use Prim.Native.Nat.{ℕ, _+_, _-_, _*_, _/_, _<_}
 use native.Mathlib.Omega.{arith}
 use native.Mathlib.Decide.{ℕ-discrete}
 use lib.Dec.{eqb}
 use lib.ListN.{length, getD, set, length-set, length-append, List·getD-eq-default}
-use borrow.Author.Tests.{eqb-true, eq-eqb, ne-eqb, not-false}
+use borrow.Author.Tests.{eqb-true, eq-eqb, ne-eqb}
 use Rattle.model.specs.declared.Params.{Params}
 use Rattle.model.specs.declared.Refusal.{Refusal}
-use Rattle.model.specs.declared.Refusal.the-variants.{BadTables, WrongPhase, BadHolder}
+use Rattle.model.specs.declared.Refusal.the-variants.{BadTables}
+use Rattle.model.specs.declared.Tested.the-variants.{Passed}
 use Rattle.model.specs.Base.{filter, flag, sumBelow}
 use Rattle.model.specs.Params.{goodParams, Lent, fits, wordCount, heapBytes, localSets}
 use Rattle.model.specs.Tables.{Words, view, tablesOf, setBound, setPhase, setReleased}
 use Rattle.model.specs.BlockList.{blocksOn}
 use Rattle.model.specs.Events.{Event, released, eventsHeap, isRelease, releases}
-use Rattle.model.specs.Global.{abandonBlocks, abandonedBlocks, destroyHolder, Freed, freed, releaseBlocks, appendTo, isHolder, isBound, hasReleased, releaseHolder, sweepLater, partReleased, merged}
+use Rattle.model.specs.Global.{abandonBlocks, abandonedBlocks, destroyHolder, Freed, freed, releaseBlocks, appendTo, isBound, releaseHolder, sweepLater, partReleased, merged}
 use Rattle.model.specs.Sound.{sound}
-use Rattle.model.specs.Calls.{refusalNumber, Call, destroy, release, sharedRelease, Plan, refuses, changes, mayRelease, releasePlan, planSound, plan, finish, step, Result, tablesIn, lentOf, resultFrom, call}
+use Rattle.model.specs.Calls.{refusalNumber, Call, destroy, release, sharedRelease, callTests, Plan, refuses, changes, releasePlan, planPassed, planSound, plan, finish, step, Result, tablesIn, lentOf, resultFrom, call}
 use Rattle.model.specs.Refusals.{madeUnallocated, blocksOf, wentOver, CountsReleased, ReleasedCounts, DestroyedCounts}
 use Rattle.laws.proofs.Base.{if-cases, filter-append}
 use Rattle.laws.proofs.Below.{and-five}
@@ -31,6 +32,7 @@ use Rattle.laws.proofs.Lent.{fits-parts}
 use Rattle.laws.proofs.Stores.{set-at, set-off}
 use Rattle.laws.proofs.Pigeon.{sum-same, sum-zero, sum-add, sum-one}
 use Rattle.laws.proofs.Walks.{releasedOne, blocks-keep-any, bins-keep-any, later-keeps-any}
+use Rattle.laws.proofs.Tests.{bound-passed, release-passed, plan-cases}
 use Rattle.soundness.proofs.SoundLists.{sound-good}
 use Rattle.soundness.proofs.Held.{Held}
 use Rattle.soundness.proofs.Flags.{BoundAt, bound-at}
@@ -210,28 +212,20 @@ module _ (p : Params) (l : Lent) where
         left = abandoned-count p B (l .marks) 8 (h - 1) (omega arith) (omega (arith, P .high)) (omega (arith, P .low, P .high)) (omega arith) (l .states) w held
 
   module _ (v : Lent → List ℕ) where
-    wrong-phase : Planned v (refuses (tablesIn l) WrongPhase)
-    unfolding refusalNumber
-    wrong-phase = refused-counts v WrongPhase (λ e. omega (arith, e))
-
-    bad-holder : Planned v (refuses (tablesIn l) BadHolder)
-    unfolding refusalNumber
-    bad-holder = refused-counts v BadHolder (λ e. omega (arith, e))
-
-    call-counts : (c : Call) → (fits p l ≡ true → sound p (tablesIn l) ≡ true → Planned v (planSound p (tablesIn l) c)) → Counts v (call p l c)
+    -- a call, by what its plan says if it passed its tests
+    call-counts : (c : Call) → (fits p l ≡ true → sound p (tablesIn l) ≡ true → callTests p (tablesIn l) c ≡ Passed → Planned v (planPassed p (tablesIn l) c))
+        → Counts v (call p l c)
     unfolding call step plan refusalNumber
     call-counts c h =
         if-cases (Counts v) (fits p l)
-        (λ e. if-cases (Planned v) (sound p (tablesIn l)) (λ s. h e s) (λ s. refused-counts v BadTables (λ z. omega (arith, z))))
+        (λ e. if-cases (Planned v) (sound p (tablesIn l))
+        (λ s. plan-cases (Planned v) p (tablesIn l) c (λ r b. refused-counts v r (λ z. omega (arith, z, b .from))) (h e s))
+        (λ s. refused-counts v BadTables (λ z. omega (arith, z))))
         (λ e z. absurd (omega (arith, z)))
 
-    -- destroy, by what its plan says if the holder is bound
     destroy-counts : (h : ℕ) → (fits p l ≡ true → sound p (tablesIn l) ≡ true → isBound w h ≡ true → Planned v (destroyed h)) → Counts v (call p l (destroy h))
-    unfolding planSound
-    destroy-counts h k =
-        call-counts (destroy h)
-        (λ e s. if-cases (Planned v) (not (eqb (w .phase) 0)) (λ f. wrong-phase)
-        (λ f. if-cases (Planned v) (not (isBound w h)) (λ g. bad-holder) (λ g. k e s (not-false _ g))))
+    unfolding callTests planPassed
+    destroy-counts h k = call-counts (destroy h) (λ e s q. k e s (bound-passed w h q .1))
 
 pub destroyed-counted : DestroyedCounts
 unfolding DestroyedCounts
@@ -241,18 +235,15 @@ destroyed-counted p l h e = (
 )
 
 pub released-counted : ReleasedCounts
-unfolding ReleasedCounts CountsReleased planSound
+unfolding ReleasedCounts CountsReleased callTests planPassed
 released-counted p l = (
   (λ h. call-counts p l v (release h)
-      (λ e s. if-cases (Planned p l v) (not (mayRelease (w p l)) || (isHolder h && hasReleased (w p l) h)) (λ f. wrong-phase p l v)
-      (λ f. if-cases (Planned p l v) (not (isBound (w p l) h)) (λ g. bad-holder p l v)
-      (λ g. let P = bound-at (w p l) h (not-false _ g) in
+      (λ e s q. let P = bound-at (w p l) h (release-passed (w p l) h q .1) in
       released-counts p l e s h _ (holder-tally (p .blocks) (l .states) p (w p l) (fits-states p l e) h)
-      (holder-apart p (B p l e s) (l .marks) (w p l) (l .states) h (P .low) (P .high) (held p l e s)))))),
+      (holder-apart p (B p l e s) (l .marks) (w p l) (l .states) h (P .low) (P .high) (held p l e s)))),
   call-counts p l v sharedRelease
-      (λ e s. if-cases (Planned p l v) (not (mayRelease (w p l)) || hasReleased (w p l) 0) (λ f. wrong-phase p l v)
-      (λ f. released-counts p l e s 0 _ (shared-tally (p .blocks) (l .states) p (w p l) (fits-states p l e))
-      (shared-apart p (B p l e s) (l .marks) (w p l) (l .states) (held p l e s)))),
+      (λ e s q. released-counts p l e s 0 _ (shared-tally (p .blocks) (l .states) p (w p l) (fits-states p l e))
+      (shared-apart p (B p l e s) (l .marks) (w p l) (l .states) (held p l e s))),
 )
   where
     v : Lent → List ℕ

@@ -1,21 +1,20 @@
 -- What a call answers: on sound tables 0 or a refusal other than BadTables, on others BadTables. Assumes nothing.
 use mathlib.Core.Path.{_≡_}
 use mathlib.Core.Logic.{_≢_}
-use mathlib.Core.Bool.{Bool, true, false, not, _||_, _&&_}
+use mathlib.Core.Bool.{true, false}
 use mathlib.Core.List.{List}
 use Prim.Native.Nat.{ℕ, _≤_}
 use native.Mathlib.Omega.{arith}
 use lib.Dec.{eqb}
 use Rattle.model.specs.declared.Params.{Params}
-use Rattle.model.specs.declared.Refusal.the-variants.{BadTables, WrongPhase, BadHolder}
-use Rattle.model.specs.Base.{if_then_else_}
+use Rattle.model.specs.declared.Refusal.the-variants.{BadTables}
 use Rattle.model.specs.Tables.{Tables}
 use Rattle.model.specs.Events.{Event}
 use Rattle.model.specs.FreeListAllocator.{Search}
-use Rattle.model.specs.Global.{isHolder, isBound, hasReleased}
 use Rattle.model.specs.Sound.{linkOk, sound}
-use Rattle.model.specs.Calls.{refusalNumber, refused, Call, bind, destroy, alloc, prepare, mark, release, sharedRelease, End, says, takes, Plan, goodRequest, tooBig, goodOffer, goodObject, takePlan, planAlloc, mayRelease, releasePlan, planSound, plan, Step, takeCell, finish, step}
+use Rattle.model.specs.Calls.{refusalNumber, refused, Call, bind, destroy, alloc, prepare, mark, release, sharedRelease, End, says, takes, Plan, takePlan, releasePlan, planPassed, planSound, plan, Step, takeCell, finish, step}
 use Rattle.laws.proofs.Base.{if-cases}
+use Rattle.laws.proofs.Tests.{plan-cases}
 
 -- 0, or a refusal's number up to BadObject that is not BadTables
 abbrev pub Fair : ℕ → Type 0
@@ -38,14 +37,6 @@ module _ (p : Params) where
     abbrev Plans : Plan → Type 0
     Plans q = Says (q .end)
 
-    wrong-phase : Fair (refusalNumber WrongPhase)
-    unfolding refusalNumber
-    wrong-phase = (omega arith, λ z. omega (arith, z))
-
-    bad-holder : Fair (refusalNumber BadHolder)
-    unfolding refusalNumber
-    bad-holder = (omega arith, λ z. omega (arith, z))
-
     done : Fair 0
     done = (omega arith, λ z. omega (arith, z))
 
@@ -53,28 +44,19 @@ module _ (p : Params) where
     unfolding takePlan Says refusalNumber
     take-says align offset s = if-cases Says (eqb (s .at) 0) (λ e. (omega arith, λ z. omega (arith, z))) (λ e. tt)
 
+    passed-says : (c : Call) → Plans (planPassed p t c)
+    unfolding planPassed releasePlan Says
+    passed-says (bind h) = done
+    passed-says (destroy h) = done
+    passed-says (alloc h size align offset offer) = take-says align offset _
+    passed-says prepare = done
+    passed-says (mark place b) = done
+    passed-says (release h) = done
+    passed-says sharedRelease = done
+
     plan-says : (c : Call) → Plans (planSound p t c)
-    unfolding planSound planAlloc releasePlan Says refusalNumber
-    plan-says (bind h) =
-        if-cases Plans (not (eqb (t .words .phase) 0)) (λ e. wrong-phase)
-        (λ e. if-cases Plans (not (isHolder h) || isBound (t .words) h) (λ f. bad-holder) (λ f. done))
-    plan-says (destroy h) =
-        if-cases Plans (not (eqb (t .words .phase) 0)) (λ e. wrong-phase)
-        (λ e. if-cases Plans (not (isBound (t .words) h)) (λ f. bad-holder) (λ f. done))
-    plan-says (alloc h size align offset offer) =
-        if-cases Plans (not (eqb (t .words .phase) 0)) (λ e. wrong-phase)
-        (λ e. if-cases Plans (not (isBound (t .words) h)) (λ f. bad-holder)
-        (λ f. if-cases Plans (not (goodRequest p size align offset)) (λ g. (omega arith, λ z. omega (arith, z)))
-        (λ g. if-cases Plans (tooBig p size align) (λ i. (omega arith, λ z. omega (arith, z)))
-        (λ i. if-cases Plans (not (goodOffer p t offer)) (λ j. (omega arith, λ z. omega (arith, z))) (λ j. take-says align offset _)))))
-    plan-says prepare = if-cases Plans (not (eqb (t .words .phase) 0)) (λ e. wrong-phase) (λ e. done)
-    plan-says (mark place b) =
-        if-cases Plans (not (eqb (t .words .phase) 1)) (λ e. wrong-phase)
-        (λ e. if-cases Plans (not (goodObject p t place b)) (λ f. (omega arith, λ z. omega (arith, z))) (λ f. done))
-    plan-says (release h) =
-        if-cases Plans (not (mayRelease (t .words)) || (isHolder h && hasReleased (t .words) h)) (λ e. wrong-phase)
-        (λ e. if-cases Plans (not (isBound (t .words) h)) (λ f. bad-holder) (λ f. done))
-    plan-says sharedRelease = if-cases Plans (not (mayRelease (t .words)) || hasReleased (t .words) 0) (λ e. wrong-phase) (λ e. done)
+    unfolding Says
+    plan-says c = plan-cases Plans p t c (λ r b. (b .to, λ z. omega (arith, z, b .from))) (λ e. passed-says c)
 
     -- on sound tables
     pub fair-reply : (h : List ℕ) (c : Call) → sound p t ≡ true → Fair (step p t h c .reply .number)

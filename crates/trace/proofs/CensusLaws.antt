@@ -12,22 +12,15 @@ use Rattle.model.specs.Sound.{stateOf}
 use Rattle.model.specs.Census.{section, occupied, blockRow, freeSection, linesOf, censusParams, censusLent, runLines, Ran, listing, census}
 use Rattle.listing.specs.Print.{refusedRows}
 use Rattle.model.specs.Text.{placeAfter, Printed}
-use Rattle.laws.proofs.Text.{printed-append, length-printed}
+use Rattle.laws.proofs.Text.{length-printed}
 use Rattle.model.specs.Memory.{overwrite}
 use Rattle.trace.proofs.Room.{census-short}
 use Rattle.model.specs.Promise.{lend, SetUpPromised}
 use Rattle.trace.specs.Run.{TraceRan}
-use Rattle.trace.specs.Sections.{tablesRead, blocksText, freeText}
+use Rattle.listing.specs.Sections.{tablesRead, blocksText, freeText}
 use Rattle.model.specs.Text.{Listed}
-use Rattle.trace.specs.Census.{listedFrom, listingText}
-
--- printed one behind the other
-pub three-printed : {h h′ h″ h‴ : List ℕ} {r b f : ℕ} (lines numbers words states marks heap : List ℕ)
-    → Printed h h′ 0 r (section (114 ∷ 101 ∷ 102 ∷ 117 ∷ 115 ∷ 101 ∷ 100 ∷ []) (refusedRows lines numbers))
-    → Printed h′ h″ r b (blocksText words states) → Printed h″ h‴ b f (freeText words states marks heap)
-    → Printed h h‴ 0 f (listingText lines numbers words states marks heap)
-unfolding listingText
-three-printed lines numbers words states marks heap p q r = printed-append p (printed-append q r)
+use Rattle.listing.specs.Listing.{listingText}
+use Rattle.trace.specs.Census.{listedFrom}
 
 -- no block's row looks at a mark
 sections-same : (w s m h : List ℕ) (rows : List (List ℕ)) (name : List ℕ)

@@ -1,5 +1,9 @@
+pub mod NumberLaws
+pub mod WordsLaws
+pub mod LineLaws
+pub mod LinesLaws
+pub mod Left
 pub mod RunLaws
-pub mod SectionsLaws
 pub mod Room
 pub mod CensusLaws
 pub mod Whole

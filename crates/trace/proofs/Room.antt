@@ -29,7 +29,7 @@ use Rattle.laws.proofs.Below.{true-not-false}
 use Rattle.laws.proofs.Params.{Bounds, good-bounds, start-in}
 use Rattle.laws.proofs.Tables.{view-flat}
 use Rattle.laws.proofs.Classes.{cellBytes-least}
-use Rattle.trace.proofs.SectionsLaws.{fine, flatten-append}
+use Rattle.listing.proofs.SectionsLaws.{fine, flatten-append}
 use Rattle.soundness.proofs.SoundLists.{sound-parts, block-parts}
 use Rattle.soundness.proofs.Replies.{fair-reply, bad-reply}
 use Rattle.soundness.proofs.Kept.{Kept, fresh-kept, step-kept}

@@ -23,13 +23,13 @@ use Rattle.model.specs.Census.{censusParams, lineResult, RefusedLine, Ran, runL
 use Rattle.laws.proofs.Base.{if-cases}
 use Rattle.model.specs.Text.{linesFrom}
 use Rattle.listing.specs.Print.{refusedFrom}
-use Rattle.listing.specs.declared.Line.{Line as Kind}
-use Rattle.listing.specs.declared.Line.the-variants.{Asks, Bad}
-use Rattle.listing.specs.Line.{lineFor}
-use Rattle.listing.specs.declared.NextLine.{NextLine}
-use Rattle.listing.specs.declared.NextLine.the-variants as Next
-use Rattle.listing.specs.Lines.{nextLine}
-use Rattle.listing.proofs.LinesLaws.{lineBytes, left-round, left-none, left-end}
+use Rattle.trace.specs.declared.Line.{Line as Kind}
+use Rattle.trace.specs.declared.Line.the-variants.{Asks, Bad}
+use Rattle.trace.specs.Line.{lineFor}
+use Rattle.trace.specs.declared.NextLine.{NextLine}
+use Rattle.trace.specs.declared.NextLine.the-variants as Next
+use Rattle.trace.specs.Lines.{nextLine}
+use Rattle.trace.proofs.LinesLaws.{lineBytes, left-round, left-none, left-end}
 use Rattle.trace.specs.Run.{Kept, LineRan, TraceRan, placed}
 
 -- ---- one line

@@ -1,3 +1,6 @@
+pub mod Number
+pub mod Words
+pub mod Line
+pub mod Lines
 pub mod Run
-pub mod Sections
 pub mod Census

@@ -1,5 +1,8 @@
-// A trace run on the native mark-sweep space, and its listing: the work of the census program.
-use listing::print;
+// A trace: its lines read, and run on the native mark-sweep space; with its listing, the work of the census program. specs/
+// ties each piece to the model's Census.
+use listing::space;
+use model::Ask;
+use model::Offer;
 use native_ms::global;
 ghost use Prim.Native.Nat.{_≤_};
 ghost use lib.ListN.{length};
@@ -7,30 +10,38 @@ ghost use Rattle.model.specs.Census.{census};
 ghost use Rattle.model.specs.Promise.{lend};
 ghost use Rattle.model.specs.Text.{Printed};
 ghost use Rattle.model.specs.Text.{Listed, Whole};
-ghost use Rattle.trace.specs.Census.{listingText, listedFrom};
+ghost use Rattle.trace.specs.Census.{listedFrom};
 
-mod chain;
+mod line_words;
+pub mod lines;
+mod numbers;
 mod run;
-mod sections;
 
 // No listing is longer: `whole_listing` needs it.
 pub const LISTING_BYTES: usize = 20000;
 
-// The three sections of what stands after a trace's lines.
-fn listing(
-    out: &mut [u8],
-    lines: &[usize],
-    numbers: &[usize],
-    words: &[usize],
-    states: &[u8],
-    marks: &[u8],
-    heap: &[u8],
-) -> usize
-    ensures { λ r. ⌜ Printed (now (out .entry)) (now (out .exit)) 0 r (listingText (now (lines .entry)) (now (numbers .entry)) (now (words .entry)) (now (states .entry)) (now (marks .entry)) (now (heap .entry))) ⌝ }
-{
-    let refused = print::refused_section(out, 0, lines, numbers);
-    let blocks = sections::blocks_section(out, refused, words, states);
-    sections::free_section(out, blocks, words, states, marks, heap)
+// What a word says: a number, or nothing that is one.
+pub enum Number {
+    Value(usize),
+    None,
+}
+
+// What a line asks; `Bad` is a line of another form.
+pub enum Line {
+    Asks(Ask),
+    Bad,
+}
+
+// What an alloc's last word says: an offer, or nothing that is one.
+pub enum Offered {
+    Offer(Offer),
+    None,
+}
+
+// What a trace holds at a place: a line, from its first byte to before its newline, with the place of the next; or no more.
+pub enum NextLine {
+    Line { from: usize, to: usize, next: usize },
+    End,
 }
 
 // Sets up on what is lent, runs the trace and lists what stands then.
@@ -47,9 +58,9 @@ fn run_and_list(
     requires { ⌜ (256 ≤ length (now lines)) × (256 ≤ length (now numbers)) ⌝ }
     ensures { λ r. ⌜ Printed (now (out .entry)) (now (out .exit)) 0 r (listedFrom (lend (now (words .entry)) (now (states .entry)) (now (marks .entry)) (now (heap .entry))) (now (trace .entry))) ⌝ }
 {
-    global::set_up(run::params(), words, states, marks, heap);
+    global::set_up(space::params(), words, states, marks, heap);
     let n = run::run(trace, words, states, marks, heap, lines, numbers);
-    listing(out, &lines[..n], &numbers[..n], words, states, marks, heap)
+    listing::listing(out, &lines[..n], &numbers[..n], words, states, marks, heap)
 }
 
 // The listing of a trace, as many of its bytes as the buffer holds. The answer is how many.

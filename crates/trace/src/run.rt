@@ -1,33 +1,17 @@
 // A trace's lines, run one after the other: each makes the call that it asks for, on the space of the census.
-use listing::Line;
-use listing::NextLine;
-use listing::lines;
-use model::Params;
+use crate::Line;
+use crate::NextLine;
+use crate::lines;
+use listing::space;
 use model::Refusal;
 ghost use mathlib.Core.Path.{_≡_};
 ghost use Prim.Native.Nat.{_≤_, _<_};
 ghost use lib.ListN.{length, take};
-ghost use Rattle.model.specs.Census.{censusParams, linesOf, runLines};
+ghost use Rattle.model.specs.Census.{linesOf, runLines};
 ghost use Rattle.model.specs.Text.{linesFrom};
 ghost use Rattle.model.specs.Promise.{lend};
-ghost use Rattle.listing.specs.Line.{lineFor};
+ghost use Rattle.trace.specs.Line.{lineFor};
 ghost use Rattle.trace.specs.Run.{LineRan, Kept, TraceRan};
-
-// "4 blocks of 4,096, base 16384, MIN = MAX = 8, unified, no offsets, L 0."
-pub(crate) fn params() -> Params
-    ensures { λ r. ⌜ r ≡ censusParams ⌝ }
-{
-    Params {
-        base: 16384,
-        bytes: 4096,
-        blocks: 4,
-        min: 8,
-        max: 8,
-        offsets: false,
-        unified: true,
-        lower: 0,
-    }
-}
 
 // Makes the call that a line asks for. The answer is the refusal's number, 0 for none.
 fn run_line(
@@ -42,7 +26,7 @@ fn run_line(
     let Line::Asks(ask) = line else {
         return calls::refusal_number(Refusal::BadLine);
     };
-    let p = params();
+    let p = space::params();
     let s = calls::perform(p, words, states, marks, heap, ask);
     s.number
 }

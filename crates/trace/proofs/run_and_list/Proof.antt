@@ -6,8 +6,8 @@ use Rattle.trace.proofs.run_and_list.Tie as tie
 use Rattle.trace.proofs.run_and_list.Reads as reads
 use Rattle.trace.proofs.run_and_list.Lts as lts
 use Rattle.native_ms.proofs.global.set_up.Reads as set-up-reads
-use Rattle.trace.proofs.listing.Reads as listing-reads
-use Rattle.trace.proofs.run.params.Reads as params-reads
+use Rattle.listing.proofs.listing.Reads as listing-reads
+use Rattle.listing.proofs.space.params.Reads as params-reads
 use Rattle.trace.proofs.run.run.Reads as run-reads
 
 -- src/lib.rt:48:20

@@ -11,6 +11,7 @@ use Rattle.model.specs.FreeListAllocator.{acquireAbandoned}
 use Rattle.native_ms.specs.Closing.{closed}
 use Rattle.native_ms.proofs.Abandoned.{flag-low, acquire-end, acquire-none, acquire-found, acquire-step}
 use borrow.Author.Needs.{needs}
+use Rattle.native_ms.proofs.Offsets.{known-on}
 use Rattle.native_ms.proofs.free_list_allocator.acquire_abandoned.Statement.{statement}
 use Rattle.native_ms.proofs.free_list_allocator.acquire_abandoned.Tie as tie
 
@@ -23,9 +24,9 @@ abbrev μ-loop : tie.MeasureT-loop
 loop-holds : tie.Need-loop-holds Inv-loop μ-loop
 loop-holds c = (refl, refl, search needs, refl)
 
---@ pop-abandoned-requires c κs = (@pre .0, @pre .3)
+--@ pop-abandoned-requires c κs = (@pre .0 .good, @pre .3)
 pop-abandoned-requires : tie.Need-pop-abandoned-requires Inv-loop μ-loop
-pop-abandoned-requires c κs = (c .before .before .before .before .before .before .pre .0, c .before .before .before .before .before .before .pre .3)
+pop-abandoned-requires c κs = (c .before .before .before .before .before .before .pre .0 .good, c .before .before .before .before .before .before .pre .3)
 
 --@ same-length c = @pop-abandoned .kept .1 .0 ∙ @loop .inv .0
 same-length : tie.Need-same-length Inv-loop μ-loop
@@ -39,20 +40,20 @@ same-length-2 c = c .before .before .before .before .before .before .before .loo
 returns : tie.Need-returns Inv-loop μ-loop
 returns c = acquire-none _ _ _ _ _ _ _ _ (c .before .before .before .before .pop-abandoned .ensures) (c .before .before .before .before .before .before .loop-test .taken) (c .if1 .taken) ∙ c .before .before .before .before .before .before .before .loop .inv .3
 
---@ block-at-requires c κs = @pre .0
+--@ block-at-requires c κs = @pre .0 .good
 block-at-requires : tie.Need-block-at-requires Inv-loop μ-loop
-block-at-requires c κs = c .before .before .before .before .before .before .before .before .before .before .before .pre .0
+block-at-requires c κs = c .before .before .before .before .before .before .before .before .before .before .before .pre .0 .good
 
---@ take-over-requires c κs = (@pre .0, @pre .1, @pre .2, @pre .3)
+--@ take-over-requires c κs = (known-on _ (@pre .0) (@pop-abandoned .kept .1 .0 ∙ @loop .inv .0) (@loop .inv .1), @pre .1, @pre .2, @pre .3)
 take-over-requires : tie.Need-take-over-requires Inv-loop μ-loop
-take-over-requires c κs = (c .before .before .before .before .before .before .before .before .before .before .before .before .before .before .pre .0, c .before .before .before .before .before .before .before .before .before .before .before .before .before .before .pre .1, c .before .before .before .before .before .before .before .before .before .before .before .before .before .before .pre .2, c .before .before .before .before .before .before .before .before .before .before .before .before .before .before .pre .3)
+take-over-requires c κs = (known-on _ (c .before .before .before .before .before .before .before .before .before .before .before .before .before .before .pre .0) (c .before .before .before .before .before .before .before .pop-abandoned .kept .1 .0 ∙ c .before .before .before .before .before .before .before .before .before .before .loop .inv .0) (c .before .before .before .before .before .before .before .before .before .before .loop .inv .1), c .before .before .before .before .before .before .before .before .before .before .before .before .before .before .pre .1, c .before .before .before .before .before .before .before .before .before .before .before .before .before .before .pre .2, c .before .before .before .before .before .before .before .before .before .before .before .before .before .before .pre .3)
 
 one-if-requires : tie.Need-one-if-requires Inv-loop μ-loop
 one-if-requires c κs = tt
 
---@ add-n c = omega (arith, @loop .inv .2, @pre .4, good-bounds (@args .p) (@pre .0) .blocks-high, flag-low _ (@one-if .ensures))
+--@ add-n c = omega (arith, @loop .inv .2, @pre .4, good-bounds (@args .p) (@pre .0 .good) .blocks-high, flag-low _ (@one-if .ensures))
 add-n : tie.Need-add-n Inv-loop μ-loop
-add-n c = omega (arith, c .before .before .before .before .before .before .before .before .before .before .before .before .before .before .before .before .loop .inv .2, c .before .before .before .before .before .before .before .before .before .before .before .before .before .before .before .before .before .before .before .before .pre .4, good-bounds (c .before .before .before .before .before .before .before .before .before .before .before .before .before .before .before .before .before .before .before .before .args .p) (c .before .before .before .before .before .before .before .before .before .before .before .before .before .before .before .before .before .before .before .before .pre .0) .blocks-high, flag-low _ (c .one-if .ensures))
+add-n c = omega (arith, c .before .before .before .before .before .before .before .before .before .before .before .before .before .before .before .before .loop .inv .2, c .before .before .before .before .before .before .before .before .before .before .before .before .before .before .before .before .before .before .before .before .pre .4, good-bounds (c .before .before .before .before .before .before .before .before .before .before .before .before .before .before .before .before .before .before .before .before .args .p) (c .before .before .before .before .before .before .before .before .before .before .before .before .before .before .before .before .before .before .before .before .pre .0 .good) .blocks-high, flag-low _ (c .one-if .ensures))
 
 --@ same-length-3 c = @take-over .kept .1 .0 ∙ @pop-abandoned .kept .1 .0 ∙ @loop .inv .0
 same-length-3 : tie.Need-same-length-3 Inv-loop μ-loop

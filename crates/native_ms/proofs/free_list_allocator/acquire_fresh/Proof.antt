@@ -2,6 +2,9 @@
 use mathlib.Core.Path.{_∙_}
 use Rattle.native_ms.proofs.Search.{sets-low}
 use Rattle.native_ms.proofs.Ending.{freshened}
+use native.Mathlib.Omega.{arith}
+use Rattle.laws.proofs.Classes.{cellBytes-least}
+use Rattle.native_ms.proofs.Offsets.{standing-on}
 use Rattle.native_ms.proofs.free_list_allocator.acquire_fresh.Statement.{statement}
 use Rattle.native_ms.proofs.free_list_allocator.acquire_fresh.Tie as tie
 
@@ -16,13 +19,13 @@ available-requires c κs = (sets-low _ (c .before .before .before .before .pre .
 class-bytes-requires : tie.Need-class-bytes-requires
 class-bytes-requires c κs = tt
 
---@ push-requires c κs = (@pre .0, @available .ensures .low)
+--@ push-requires c κs = (@pre .0 .good, @available .ensures .low)
 push-requires : tie.Need-push-requires
-push-requires c κs = (c .before .before .before .before .before .before .before .pre .0, c .before .before .available .ensures .low)
+push-requires c κs = (c .before .before .before .before .before .before .before .pre .0 .good, c .before .before .available .ensures .low)
 
---@ init-block-requires c κs = @pre .0
+--@ init-block-requires c κs = (standing-on _ (@pre .0) (@push .kept .1 .0), omega (arith, @class-bytes .ensures (@args .p), cellBytes-least (@args .p) (@pre .3)))
 init-block-requires : tie.Need-init-block-requires
-init-block-requires c κs = c .before .before .before .before .before .before .before .before .before .before .before .before .pre .0
+init-block-requires c κs = (standing-on _ (c .before .before .before .before .before .before .before .before .before .before .before .before .pre .0) (c .before .before .before .before .push .kept .1 .0), omega (arith, c .before .before .before .before .before .before .class-bytes .ensures (c .before .before .before .before .before .before .before .before .before .before .before .before .args .p), cellBytes-least (c .before .before .before .before .before .before .before .before .before .before .before .before .args .p) (c .before .before .before .before .before .before .before .before .before .before .before .before .pre .3)))
 
 set-state-requires : tie.Need-set-state-requires
 set-state-requires c κs = tt

@@ -3,12 +3,13 @@
 use Rattle.native_ms.proofs.Ending.{global-found, global-none, global-fresh}
 use Rattle.model.specs.Tables.{view}
 use borrow.Author.Needs.{needs}
+use Rattle.native_ms.proofs.Offsets.{known-standing}
 use Rattle.native_ms.proofs.free_list_allocator.acquire_global_block.Statement.{statement}
 use Rattle.native_ms.proofs.free_list_allocator.acquire_global_block.Tie as tie
 
---@ acquire-abandoned-requires c κs = @pre
+--@ acquire-abandoned-requires c κs = (@pre .0, @pre .1, @pre .2, @pre .3, @pre .4)
 acquire-abandoned-requires : tie.Need-acquire-abandoned-requires
-acquire-abandoned-requires c κs = (c .before .before .before .before .before .before .pre)
+acquire-abandoned-requires c κs = (c .before .before .before .before .before .before .pre .0, c .before .before .before .before .before .before .pre .1, c .before .before .before .before .before .before .pre .2, c .before .before .before .before .before .before .pre .3, c .before .before .before .before .before .before .pre .4)
 
 same-length : tie.Need-same-length
 same-length c = search needs
@@ -26,13 +27,13 @@ enum-told c = search needs
 enum-known-offer : tie.Need-enum-known-offer
 enum-known-offer c = search needs
 
---@ acquire-fresh-requires c κs = (@pre .0, @pre .1, @pre .2, @pre .3)
+--@ acquire-fresh-requires c κs = (known-standing _ _ (@pre .0) (@acquire-abandoned .kept .1 .0) (@acquire-abandoned .kept .1 .1 .1 .0) (@pre .5 .block _ (@offer .given .1)), @pre .1, @pre .2, @pre .3)
 acquire-fresh-requires : tie.Need-acquire-fresh-requires
-acquire-fresh-requires c κs = (c .before .before .before .before .before .before .before .before .before .before .before .before .before .before .before .before .before .before .before .pre .0, c .before .before .before .before .before .before .before .before .before .before .before .before .before .before .before .before .before .before .before .pre .1, c .before .before .before .before .before .before .before .before .before .before .before .before .before .before .before .before .before .before .before .pre .2, c .before .before .before .before .before .before .before .before .before .before .before .before .before .before .before .before .before .before .before .pre .3)
+acquire-fresh-requires c κs = (known-standing _ _ (c .before .before .before .before .before .before .before .before .before .before .before .before .before .before .before .before .before .before .before .pre .0) (c .before .before .before .before .before .before .before .before .before .before .before .before .acquire-abandoned .kept .1 .0) (c .before .before .before .before .before .before .before .before .before .before .before .before .acquire-abandoned .kept .1 .1 .1 .0) (c .before .before .before .before .before .before .before .before .before .before .before .before .before .before .before .before .before .before .before .pre .5 .block _ (c .before .before .before .before .offer .given .1)), c .before .before .before .before .before .before .before .before .before .before .before .before .before .before .before .before .before .before .before .pre .1, c .before .before .before .before .before .before .before .before .before .before .before .before .before .before .before .before .before .before .before .pre .2, c .before .before .before .before .before .before .before .before .before .before .before .before .before .before .before .before .before .before .before .pre .3)
 
---@ start-requires c κs = @pre .0
+--@ start-requires c κs = @pre .0 .good
 start-requires : tie.Need-start-requires
-start-requires c κs = c .before .before .before .before .before .before .before .before .before .before .before .before .before .before .before .before .before .before .before .before .before .before .before .before .before .before .pre .0
+start-requires c κs = c .before .before .before .before .before .before .before .before .before .before .before .before .before .before .before .before .before .before .before .before .before .before .before .before .before .before .pre .0 .good
 
 same-length-3 : tie.Need-same-length-3
 same-length-3 c = search needs

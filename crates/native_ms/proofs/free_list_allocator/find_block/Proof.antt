@@ -1,10 +1,12 @@
 -- `free_list_allocator::find_block` searches as `findBlock` does. One law for each way out.
+use mathlib.Core.Path.{refl, _∙_}
 use native.Mathlib.Omega.{arith}
 use Rattle.laws.proofs.Params.{good-bounds}
 use Rattle.native_ms.proofs.Search.{sets-low}
 use Rattle.native_ms.proofs.Ending.{find-skimmed, find-recycled, find-global}
 use Rattle.model.specs.Tables.{view}
 use borrow.Author.Needs.{needs}
+use Rattle.native_ms.proofs.Offsets.{known-on}
 use Rattle.native_ms.proofs.free_list_allocator.find_block.Statement.{statement}
 use Rattle.native_ms.proofs.free_list_allocator.find_block.Tie as tie
 
@@ -20,9 +22,9 @@ available-requires c κs = (sets-low _ (c .before .before .before .before .befor
 consumed-requires : tie.Need-consumed-requires
 consumed-requires c κs = (sets-low _ (c .before .before .before .before .before .before .pre .2) (c .before .local-sets .ensures), c .before .before .before .before .before .before .pre .3)
 
---@ find-free-block-with-requires c κs = (@pre .0, @available .ensures .low, @consumed .ensures .low)
+--@ find-free-block-with-requires c κs = (@pre .0 .good, @available .ensures .low, @consumed .ensures .low)
 find-free-block-with-requires : tie.Need-find-free-block-with-requires
-find-free-block-with-requires c κs = (c .before .before .before .before .before .before .before .before .pre .0, c .before .before .available .ensures .low, c .before .consumed .ensures .low)
+find-free-block-with-requires c κs = (c .before .before .before .before .before .before .before .before .pre .0 .good, c .before .before .available .ensures .low, c .before .consumed .ensures .low)
 
 same-length : tie.Need-same-length
 same-length c = search needs
@@ -31,9 +33,9 @@ same-length c = search needs
 returns : tie.Need-returns
 returns c = find-skimmed (c .before .before .before .before .before .before .before .before .before .before .before .before .args .p) (c .before .before .before .before .before .before .before .before .before .before .before .before .args .holder) (c .before .before .before .before .before .before .before .before .before .before .before .before .args .bin) (c .before .before .before .before .before .before .before .before .before .before .before .before .args .offer) (view (c .before .before .before .before .before .before .before .before .before .before .before .before .args .w .now)) (c .before .before .before .before .before .before .before .before .before .before .before .before .args .st .now) (c .before .before .before .before .before .before .before .before .before .before .before .before .args .m .now) (c .before .before .before .before .before .before .before .before .before .before .before .before .args .h .now) (c .before .before .before .before .before .before .before .local-sets .ensures) (c .before .before .before .before .before .before .available .ensures .same) (c .before .before .before .before .before .consumed .ensures .same) (c .before .before .before .find-free-block-with .ensures) (c .if1 .taken)
 
---@ recycle-local-blocks-requires c κs = (@pre .0, sets-low _ (@pre .2) (@local-sets .ensures), @pre .3)
+--@ recycle-local-blocks-requires c κs = (known-on _ (@pre .0) (@find-free-block-with .kept .1 .0) refl, sets-low _ (@pre .2) (@local-sets .ensures), @pre .3)
 recycle-local-blocks-requires : tie.Need-recycle-local-blocks-requires
-recycle-local-blocks-requires c κs = (c .before .before .before .before .before .before .before .before .before .before .before .before .before .before .pre .0, sets-low _ (c .before .before .before .before .before .before .before .before .before .before .before .before .before .before .pre .2) (c .before .before .before .before .before .before .before .before .before .local-sets .ensures), c .before .before .before .before .before .before .before .before .before .before .before .before .before .before .pre .3)
+recycle-local-blocks-requires c κs = (known-on _ (c .before .before .before .before .before .before .before .before .before .before .before .before .before .before .pre .0) (c .before .before .before .before .before .find-free-block-with .kept .1 .0) refl, sets-low _ (c .before .before .before .before .before .before .before .before .before .before .before .before .before .before .pre .2) (c .before .before .before .before .before .before .before .before .before .local-sets .ensures), c .before .before .before .before .before .before .before .before .before .before .before .before .before .before .pre .3)
 
 same-length-2 : tie.Need-same-length-2
 same-length-2 c = search needs
@@ -45,9 +47,9 @@ same-length-3 c = search needs
 returns-2 : tie.Need-returns-2
 returns-2 c = find-recycled (c .before .before .before .before .before .before .before .before .before .before .before .before .before .before .before .before .before .before .before .before .before .args .p) (c .before .before .before .before .before .before .before .before .before .before .before .before .before .before .before .before .before .before .before .before .before .args .holder) (c .before .before .before .before .before .before .before .before .before .before .before .before .before .before .before .before .before .before .before .before .before .args .bin) (c .before .before .before .before .before .before .before .before .before .before .before .before .before .before .before .before .before .before .before .before .before .args .offer) (view (c .before .before .before .before .before .before .before .before .before .before .before .before .before .before .before .before .before .before .before .before .before .args .w .now)) (c .before .before .before .before .before .before .before .before .before .before .before .before .before .before .before .before .before .before .before .before .before .args .st .now) (c .before .before .before .before .before .before .before .before .before .before .before .before .before .before .before .before .before .before .before .before .before .args .m .now) (c .before .before .before .before .before .before .before .before .before .before .before .before .before .before .before .before .before .before .before .before .before .args .h .now) (c .before .before .before .before .before .before .before .before .before .before .before .before .before .before .before .before .local-sets .ensures) (c .before .before .before .before .before .before .before .before .before .before .before .before .before .before .before .available .ensures .same) (c .before .before .before .before .before .before .before .before .before .before .before .before .before .before .consumed .ensures .same) (c .before .before .before .before .before .before .before .before .before .before .before .before .find-free-block-with .ensures) (c .before .before .before .before .before .before .before .before .before .if1 .left) (c .before .before .before .before .before .before .recycle-local-blocks .ensures) (c .if2 .taken)
 
---@ acquire-global-block-requires c κs = (@pre .0, @pre .1, @pre .2, @pre .3, omega (arith, @recycle-local-blocks .ensures .few, good-bounds (@args .p) (@pre .0) .blocks-high))
+--@ acquire-global-block-requires c κs = (known-on _ (@pre .0) (@recycle-local-blocks .kept .1 .0 ∙ @find-free-block-with .kept .1 .0) (@recycle-local-blocks .kept .1 .1 .1 .0), @pre .1, @pre .2, @pre .3, omega (arith, @recycle-local-blocks .ensures .few, good-bounds (@args .p) (@pre .0 .good) .blocks-high), @pre .4)
 acquire-global-block-requires : tie.Need-acquire-global-block-requires
-acquire-global-block-requires c κs = (c .before .before .before .before .before .before .before .before .before .before .before .before .before .before .before .before .before .before .before .before .before .before .before .before .pre .0, c .before .before .before .before .before .before .before .before .before .before .before .before .before .before .before .before .before .before .before .before .before .before .before .before .pre .1, c .before .before .before .before .before .before .before .before .before .before .before .before .before .before .before .before .before .before .before .before .before .before .before .before .pre .2, c .before .before .before .before .before .before .before .before .before .before .before .before .before .before .before .before .before .before .before .before .before .before .before .before .pre .3, omega (arith, c .before .before .before .before .before .before .before .before .before .recycle-local-blocks .ensures .few, good-bounds (c .before .before .before .before .before .before .before .before .before .before .before .before .before .before .before .before .before .before .before .before .before .before .before .before .args .p) (c .before .before .before .before .before .before .before .before .before .before .before .before .before .before .before .before .before .before .before .before .before .before .before .before .pre .0) .blocks-high))
+acquire-global-block-requires c κs = (known-on _ (c .before .before .before .before .before .before .before .before .before .before .before .before .before .before .before .before .before .before .before .before .before .before .before .before .pre .0) (c .before .before .before .before .before .before .before .before .before .recycle-local-blocks .kept .1 .0 ∙ c .before .before .before .before .before .before .before .before .before .before .before .before .before .before .before .find-free-block-with .kept .1 .0) (c .before .before .before .before .before .before .before .before .before .recycle-local-blocks .kept .1 .1 .1 .0), c .before .before .before .before .before .before .before .before .before .before .before .before .before .before .before .before .before .before .before .before .before .before .before .before .pre .1, c .before .before .before .before .before .before .before .before .before .before .before .before .before .before .before .before .before .before .before .before .before .before .before .before .pre .2, c .before .before .before .before .before .before .before .before .before .before .before .before .before .before .before .before .before .before .before .before .before .before .before .before .pre .3, omega (arith, c .before .before .before .before .before .before .before .before .before .recycle-local-blocks .ensures .few, good-bounds (c .before .before .before .before .before .before .before .before .before .before .before .before .before .before .before .before .before .before .before .before .before .before .before .before .args .p) (c .before .before .before .before .before .before .before .before .before .before .before .before .before .before .before .before .before .before .before .before .before .before .before .before .pre .0 .good) .blocks-high), c .before .before .before .before .before .before .before .before .before .before .before .before .before .before .before .before .before .before .before .before .before .before .before .before .pre .4)
 
 same-length-4 : tie.Need-same-length-4
 same-length-4 c = search needs

@@ -11,6 +11,7 @@ use Rattle.model.specs.FreeListAllocator.{recycleLocalBlocks}
 use Rattle.native_ms.specs.Closing.{closed}
 use Rattle.native_ms.proofs.Search.{recycle-end, recycle-none, recycle-found, recycle-step}
 use borrow.Author.Needs.{needs}
+use Rattle.native_ms.proofs.Offsets.{known-on}
 use Rattle.native_ms.proofs.free_list_allocator.recycle_local_blocks.Statement.{statement}
 use Rattle.native_ms.proofs.free_list_allocator.recycle_local_blocks.Tie as tie
 
@@ -35,9 +36,9 @@ consumed-requires c κs = (c .before .before .before .before .before .pre .1, c 
 loop-holds : tie.Need-loop-holds Inv-loop μ-loop
 loop-holds c = (refl, refl, search needs, refl)
 
---@ pop-requires c κs = (@pre .0, @unswept .ensures .low)
+--@ pop-requires c κs = (@pre .0 .good, @unswept .ensures .low)
 pop-requires : tie.Need-pop-requires Inv-loop μ-loop
-pop-requires c κs = (c .before .before .before .before .before .before .before .before .before .pre .0, c .before .before .before .before .before .unswept .ensures .low)
+pop-requires c κs = (c .before .before .before .before .before .before .before .before .before .pre .0 .good, c .before .before .before .before .before .unswept .ensures .low)
 
 --@ same-length c = @pop .kept .1 .0 ∙ @loop .inv .0
 same-length : tie.Need-same-length Inv-loop μ-loop
@@ -51,21 +52,21 @@ same-length-2 c = c .before .before .before .before .before .before .loop .inv .
 returns : tie.Need-returns Inv-loop μ-loop
 returns c = record { same = recycle-none _ _ _ _ _ _ _ (c .before .before .before .before .before .before .before .before .before .unswept .ensures .same) (c .before .before .before .pop .ensures) _ (c .before .before .before .before .before .loop-test .taken) (c .if1 .taken) ∙ c .before .before .before .before .before .before .loop .inv .3; few = omega (arith, c .before .before .before .before .before .before .loop .inv .2) }
 
---@ block-at-requires c κs = @pre .0
+--@ block-at-requires c κs = @pre .0 .good
 block-at-requires : tie.Need-block-at-requires Inv-loop μ-loop
-block-at-requires c κs = c .before .before .before .before .before .before .before .before .before .before .before .before .before .pre .0
+block-at-requires c κs = c .before .before .before .before .before .before .before .before .before .before .before .before .before .pre .0 .good
 
---@ sweep-requires c κs = @pre .0
+--@ sweep-requires c κs = known-on _ (@pre .0) (@pop .kept .1 .0 ∙ @loop .inv .0) (@loop .inv .1)
 sweep-requires : tie.Need-sweep-requires Inv-loop μ-loop
-sweep-requires c κs = c .before .before .before .before .before .before .before .before .before .before .before .before .before .before .before .before .pre .0
+sweep-requires c κs = known-on _ (c .before .before .before .before .before .before .before .before .before .before .before .before .before .before .before .before .pre .0) (c .before .before .before .before .before .before .pop .kept .1 .0 ∙ c .before .before .before .before .before .before .before .before .before .loop .inv .0) (c .before .before .before .before .before .before .before .before .before .loop .inv .1)
 
---@ add-n c = omega (arith, @loop .inv .2, good-bounds (@args .p) (@pre .0) .blocks-high)
+--@ add-n c = omega (arith, @loop .inv .2, good-bounds (@args .p) (@pre .0 .good) .blocks-high)
 add-n : tie.Need-add-n Inv-loop μ-loop
-add-n c = omega (arith, c .before .before .before .before .before .before .before .before .before .before .before .before .before .before .loop .inv .2, good-bounds (c .before .before .before .before .before .before .before .before .before .before .before .before .before .before .before .before .before .before .before .before .before .args .p) (c .before .before .before .before .before .before .before .before .before .before .before .before .before .before .before .before .before .before .before .before .before .pre .0) .blocks-high)
+add-n c = omega (arith, c .before .before .before .before .before .before .before .before .before .before .before .before .before .before .loop .inv .2, good-bounds (c .before .before .before .before .before .before .before .before .before .before .before .before .before .before .before .before .before .before .before .before .before .args .p) (c .before .before .before .before .before .before .before .before .before .before .before .before .before .before .before .before .before .before .before .before .before .pre .0 .good) .blocks-high)
 
---@ file-block-requires c κs = (@pre .0, @available .ensures .low, @consumed .ensures .low)
+--@ file-block-requires c κs = (@pre .0 .good, @available .ensures .low, @consumed .ensures .low)
 file-block-requires : tie.Need-file-block-requires Inv-loop μ-loop
-file-block-requires c κs = (c .before .before .before .before .before .before .before .before .before .before .before .before .before .before .before .before .before .before .before .before .before .before .pre .0, c .before .before .before .before .before .before .before .before .before .before .before .before .before .before .before .before .before .available .ensures .low, c .before .before .before .before .before .before .before .before .before .before .before .before .before .before .before .before .consumed .ensures .low)
+file-block-requires c κs = (c .before .before .before .before .before .before .before .before .before .before .before .before .before .before .before .before .before .before .before .before .before .before .pre .0 .good, c .before .before .before .before .before .before .before .before .before .before .before .before .before .before .before .before .before .available .ensures .low, c .before .before .before .before .before .before .before .before .before .before .before .before .before .before .before .before .consumed .ensures .low)
 
 --@ same-length-3 c = @file-block .kept .1 .0 ∙ @sweep .kept .1 .0 ∙ @pop .kept .1 .0 ∙ @loop .inv .0
 same-length-3 : tie.Need-same-length-3 Inv-loop μ-loop

@@ -1,5 +1,6 @@
 -- `free_list_allocator::serve` ends as the machine does once its search is made: no block, a bad link, or a cell. One law for each.
 -- The cell is low enough to be shifted, since free heads stay low in a search.
+use mathlib.Core.Path.{_∙_}
 use Rattle.model.specs.Answers.{allocReply}
 use Rattle.native_ms.proofs.Ending.{serve-none, serve-bad, serve-cell, cell-low}
 use Rattle.model.specs.FreeListAllocator.{findBlock}
@@ -8,9 +9,9 @@ use borrow.Author.Needs.{needs}
 use Rattle.native_ms.proofs.free_list_allocator.serve.Statement.{statement}
 use Rattle.native_ms.proofs.free_list_allocator.serve.Tie as tie
 
---@ find-block-requires c κs = (@pre .good, @pre .holder-from, @pre .holder-to, @pre .bin-low)
+--@ find-block-requires c κs = (@pre .1, @pre .0 .holder-from, @pre .0 .holder-to, @pre .0 .bin-low, @pre .2)
 find-block-requires : tie.Need-find-block-requires
-find-block-requires c κs = (c .before .before .before .before .before .before .before .pre .good, c .before .before .before .before .before .before .before .pre .holder-from, c .before .before .before .before .before .before .before .pre .holder-to, c .before .before .before .before .before .before .before .pre .bin-low)
+find-block-requires c κs = (c .before .before .before .before .before .before .before .pre .1, c .before .before .before .before .before .before .before .pre .0 .holder-from, c .before .before .before .before .before .before .before .pre .0 .holder-to, c .before .before .before .before .before .before .before .pre .0 .bin-low, c .before .before .before .before .before .before .before .pre .2)
 
 same-length : tie.Need-same-length
 same-length c = search needs
@@ -26,13 +27,13 @@ returns : tie.Need-returns
 unfolding allocReply
 returns c = serve-none (c .before .before .before .before .before .before .before .before .before .before .before .before .before .before .before .before .args .p) (c .before .before .before .before .before .before .before .before .before .before .before .before .before .before .before .before .args .align) (c .before .before .before .before .before .before .before .before .before .before .before .before .before .before .before .before .args .offset) (c .before .before .before .before .before .before .before .before .before .before .before .before .before .before .before .before .args .h .now) (findBlock (c .before .before .before .before .before .before .before .before .before .before .before .before .before .before .before .before .args .p) (c .before .before .before .before .before .before .before .before .before .before .before .before .before .before .before .before .args .holder) (c .before .before .before .before .before .before .before .before .before .before .before .before .before .before .before .before .args .bin) (c .before .before .before .before .before .before .before .before .before .before .before .before .before .before .before .before .args .offer) (tablesOf (view (c .before .before .before .before .before .before .before .before .before .before .before .before .before .before .before .before .args .w .now)) (c .before .before .before .before .before .before .before .before .before .before .before .before .before .before .before .before .args .st .now) (c .before .before .before .before .before .before .before .before .before .before .before .before .before .before .before .before .args .m .now))) (c .before .before .before .before .before .before .before .before .find-block .ensures) (c .if1 .taken)
 
---@ block-at-requires c κs = @pre .good
+--@ block-at-requires c κs = @pre .0 .good
 block-at-requires : tie.Need-block-at-requires
-block-at-requires c κs = c .before .before .before .before .before .before .before .before .before .before .before .before .before .before .before .before .pre .good
+block-at-requires c κs = c .before .before .before .before .before .before .before .before .before .before .before .before .before .before .before .before .pre .0 .good
 
---@ block-alloc-requires c κs = @pre .good
+--@ block-alloc-requires c κs = (@pre .0 .good, @find-block .kept .1 .0 ∙ @pre .1 .count)
 block-alloc-requires : tie.Need-block-alloc-requires
-block-alloc-requires c κs = c .before .before .before .before .before .before .before .before .before .before .before .before .before .before .before .before .before .before .before .pre .good
+block-alloc-requires c κs = (c .before .before .before .before .before .before .before .before .before .before .before .before .before .before .before .before .before .before .before .pre .0 .good, c .before .before .before .before .before .before .before .before .before .before .before .find-block .kept .1 .0 ∙ c .before .before .before .before .before .before .before .before .before .before .before .before .before .before .before .before .before .before .before .pre .1 .count)
 
 enum-told : tie.Need-enum-told
 enum-told c = search needs
@@ -40,9 +41,9 @@ enum-told c = search needs
 enum-known-cell : tie.Need-enum-known-cell
 enum-known-cell c = search needs
 
---@ align-allocation-requires c κs = (@pre .align-from, @pre .align-to, cell-low (@args .p) (@args .holder) (@args .bin) (@args .offer) (view (@args .w .now)) (@args .st .now) (@args .h .now) _ (@pre .good) (@pre .heads) (@find-block .ensures) (@block-alloc .ensures) (@cell .given .1), @pre .offset-low)
+--@ align-allocation-requires c κs = (@pre .0 .align-from, @pre .0 .align-to, cell-low (@args .p) (@args .holder) (@args .bin) (@args .offer) (view (@args .w .now)) (@args .st .now) (@args .h .now) _ (@pre .0 .good) (@pre .0 .heads) (@find-block .ensures) (@block-alloc .ensures) (@cell .given .1), @pre .0 .offset-low)
 align-allocation-requires : tie.Need-align-allocation-requires
-align-allocation-requires c κs = (c .before .before .before .before .before .before .before .before .before .before .before .before .before .before .before .before .before .before .before .before .before .before .before .before .before .before .before .pre .align-from, c .before .before .before .before .before .before .before .before .before .before .before .before .before .before .before .before .before .before .before .before .before .before .before .before .before .before .before .pre .align-to, cell-low (c .before .before .before .before .before .before .before .before .before .before .before .before .before .before .before .before .before .before .before .before .before .before .before .before .before .before .before .args .p) (c .before .before .before .before .before .before .before .before .before .before .before .before .before .before .before .before .before .before .before .before .before .before .before .before .before .before .before .args .holder) (c .before .before .before .before .before .before .before .before .before .before .before .before .before .before .before .before .before .before .before .before .before .before .before .before .before .before .before .args .bin) (c .before .before .before .before .before .before .before .before .before .before .before .before .before .before .before .before .before .before .before .before .before .before .before .before .before .before .before .args .offer) (view (c .before .before .before .before .before .before .before .before .before .before .before .before .before .before .before .before .before .before .before .before .before .before .before .before .before .before .before .args .w .now)) (c .before .before .before .before .before .before .before .before .before .before .before .before .before .before .before .before .before .before .before .before .before .before .before .before .before .before .before .args .st .now) (c .before .before .before .before .before .before .before .before .before .before .before .before .before .before .before .before .before .before .before .before .before .before .before .before .before .before .before .args .h .now) _ (c .before .before .before .before .before .before .before .before .before .before .before .before .before .before .before .before .before .before .before .before .before .before .before .before .before .before .before .pre .good) (c .before .before .before .before .before .before .before .before .before .before .before .before .before .before .before .before .before .before .before .before .before .before .before .before .before .before .before .pre .heads) (c .before .before .before .before .before .before .before .before .before .before .before .before .before .before .before .before .before .before .before .find-block .ensures) (c .before .before .before .before .before .before .before .block-alloc .ensures) (c .before .cell .given .1), c .before .before .before .before .before .before .before .before .before .before .before .before .before .before .before .before .before .before .before .before .before .before .before .before .before .before .before .pre .offset-low)
+align-allocation-requires c κs = (c .before .before .before .before .before .before .before .before .before .before .before .before .before .before .before .before .before .before .before .before .before .before .before .before .before .before .before .pre .0 .align-from, c .before .before .before .before .before .before .before .before .before .before .before .before .before .before .before .before .before .before .before .before .before .before .before .before .before .before .before .pre .0 .align-to, cell-low (c .before .before .before .before .before .before .before .before .before .before .before .before .before .before .before .before .before .before .before .before .before .before .before .before .before .before .before .args .p) (c .before .before .before .before .before .before .before .before .before .before .before .before .before .before .before .before .before .before .before .before .before .before .before .before .before .before .before .args .holder) (c .before .before .before .before .before .before .before .before .before .before .before .before .before .before .before .before .before .before .before .before .before .before .before .before .before .before .before .args .bin) (c .before .before .before .before .before .before .before .before .before .before .before .before .before .before .before .before .before .before .before .before .before .before .before .before .before .before .before .args .offer) (view (c .before .before .before .before .before .before .before .before .before .before .before .before .before .before .before .before .before .before .before .before .before .before .before .before .before .before .before .args .w .now)) (c .before .before .before .before .before .before .before .before .before .before .before .before .before .before .before .before .before .before .before .before .before .before .before .before .before .before .before .args .st .now) (c .before .before .before .before .before .before .before .before .before .before .before .before .before .before .before .before .before .before .before .before .before .before .before .before .before .before .before .args .h .now) _ (c .before .before .before .before .before .before .before .before .before .before .before .before .before .before .before .before .before .before .before .before .before .before .before .before .before .before .before .pre .0 .good) (c .before .before .before .before .before .before .before .before .before .before .before .before .before .before .before .before .before .before .before .before .before .before .before .before .before .before .before .pre .0 .heads) (c .before .before .before .before .before .before .before .before .before .before .before .before .before .before .before .before .before .before .before .find-block .ensures) (c .before .before .before .before .before .before .before .block-alloc .ensures) (c .before .cell .given .1), c .before .before .before .before .before .before .before .before .before .before .before .before .before .before .before .before .before .before .before .before .before .before .before .before .before .before .before .pre .0 .offset-low)
 
 same-length-4 : tie.Need-same-length-4
 same-length-4 c = search needs

@@ -1,8 +1,10 @@
 -- `free_list_allocator::take_over` gives the block its holder, sweeps it if it was unswept, and files it. One law for each arm.
+use mathlib.Core.Path.{refl}
 use Rattle.laws.proofs.Tables.{put-tls}
 use Rattle.native_ms.proofs.Search.{sets-low}
 use Rattle.native_ms.proofs.Abandoned.{over-available, over-unswept}
 use borrow.Author.Needs.{needs}
+use Rattle.native_ms.proofs.Offsets.{known-on}
 use Rattle.native_ms.proofs.free_list_allocator.take_over.Statement.{statement}
 use Rattle.native_ms.proofs.free_list_allocator.take_over.Tie as tie
 
@@ -21,13 +23,13 @@ consumed-requires c κs = (sets-low _ (c .before .before .before .before .before
 set-tls-requires : tie.Need-set-tls-requires
 set-tls-requires c κs = tt
 
---@ sweep-requires c κs = @pre .0
+--@ sweep-requires c κs = known-on _ (@pre .0) (@set-tls .kept .0) refl
 sweep-requires : tie.Need-sweep-requires
-sweep-requires c κs = c .before .before .before .before .before .before .before .before .before .before .before .before .before .pre .0
+sweep-requires c κs = known-on _ (c .before .before .before .before .before .before .before .before .before .before .before .before .before .pre .0) (c .before .before .before .before .before .set-tls .kept .0) refl
 
---@ file-block-requires c κs = (@pre .0, @available .ensures .low, @consumed .ensures .low)
+--@ file-block-requires c κs = (@pre .0 .good, @available .ensures .low, @consumed .ensures .low)
 file-block-requires : tie.Need-file-block-requires
-file-block-requires c κs = (c .before .before .before .before .before .before .before .before .before .before .before .before .before .before .before .before .before .before .before .pre .0, c .before .before .before .before .before .before .before .before .before .before .before .before .before .before .available .ensures .low, c .before .before .before .before .before .before .before .before .before .before .before .before .before .consumed .ensures .low)
+file-block-requires c κs = (c .before .before .before .before .before .before .before .before .before .before .before .before .before .before .before .before .before .before .before .pre .0 .good, c .before .before .before .before .before .before .before .before .before .before .before .before .before .before .available .ensures .low, c .before .before .before .before .before .before .before .before .before .before .before .before .before .consumed .ensures .low)
 
 same-length : tie.Need-same-length
 same-length c = search needs
@@ -39,9 +41,9 @@ same-length-2 c = search needs
 returns : tie.Need-returns
 returns c = over-unswept _ _ _ _ _ _ _ (c .before .before .before .before .before .before .before .before .before .before .before .before .before .before .before .before .before .before .local-sets .ensures) (c .before .before .before .before .before .before .before .before .before .before .before .before .before .before .before .before .before .available .ensures .same) (c .before .before .before .before .before .before .before .before .before .before .before .before .before .before .before .before .consumed .ensures .same) (put-tls _ _ _ (c .before .before .before .before .before .before .before .before .before .before .before .before .before .before .set-tls .ensures)) (c .before .before .before .before .before .before .before .before .before .before .before .if1 .taken) (c .before .before .before .before .before .before .before .before .sweep .ensures) (c .before .before .file-block .ensures)
 
---@ file-block-requires-2 c κs = (@pre .0, @available .ensures .low, @consumed .ensures .low)
+--@ file-block-requires-2 c κs = (@pre .0 .good, @available .ensures .low, @consumed .ensures .low)
 file-block-requires-2 : tie.Need-file-block-requires-2
-file-block-requires-2 c κs = (c .before .before .before .before .before .before .before .before .before .before .before .before .pre .0, c .before .before .before .before .before .before .before .available .ensures .low, c .before .before .before .before .before .before .consumed .ensures .low)
+file-block-requires-2 c κs = (c .before .before .before .before .before .before .before .before .before .before .before .before .pre .0 .good, c .before .before .before .before .before .before .before .available .ensures .low, c .before .before .before .before .before .before .consumed .ensures .low)
 
 same-length-3 : tie.Need-same-length-3
 same-length-3 c = search needs

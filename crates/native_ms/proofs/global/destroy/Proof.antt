@@ -1,16 +1,13 @@
--- `global::destroy` promises `call`, refused or not. Assumes nothing.
-use lib.Dec.{lit≤}
-use mathlib.Core.Path.{_∙_}
+-- `global::destroy` promises `call`: refused by its first tests, or its step on sound tables. Assumes nothing.
 use Rattle.model.specs.Answers.{destroyReply}
-use Rattle.laws.proofs.Tables.{put-bound}
-use Rattle.native_ms.proofs.Tests.{through, good-through, passed-by, refused-by}
-use Rattle.native_ms.proofs.SpaceCalls.{bound-low, bound-high, sets-low, destroy-plan, bound-by, destroy-done}
+use Rattle.native_ms.proofs.Tests.{lent-refused, lent-passed, open-good}
+use mathlib.Core.Path.{sym, _∙_}
 use borrow.Author.Needs.{needs}
 use Rattle.native_ms.proofs.global.destroy.Statement.{statement}
 use Rattle.native_ms.proofs.global.destroy.Tie as tie
 
-check-bound-requires : tie.Need-check-bound-requires
-check-bound-requires c κs = tt
+check-lent-requires : tie.Need-check-lent-requires
+check-lent-requires c κs = tt
 
 enum-known-r : tie.Need-enum-known-r
 enum-known-r c = search needs
@@ -18,49 +15,33 @@ enum-known-r c = search needs
 enum-told : tie.Need-enum-told
 enum-told c = search needs
 
---@ local-sets-requires c κs = let b = bound-by _ _ (through (@args .p) _ _ _ _ _ (@check-bound .ensures) (@enum-told .given .1) .next) in (bound-low _ _ b, bound-high _ _ b)
-local-sets-requires : tie.Need-local-sets-requires
-local-sets-requires c κs = let b = bound-by _ _ (through (c .before .before .before .before .before .before .before .before .args .p) _ _ _ _ _ (c .before .before .check-bound .ensures) (c .enum-told .given .1) .next) in (bound-low _ _ b, bound-high _ _ b)
-
---@ abandon-blocks-requires c κs = let t = through (@args .p) _ _ _ _ _ (@check-bound .ensures) (@enum-told .given .1) in (good-through t, lit≤ tt, sets-low _ (bound-high _ _ (bound-by _ _ (t .next))) (@local-sets .ensures))
-abandon-blocks-requires : tie.Need-abandon-blocks-requires
-abandon-blocks-requires c κs = let t = through (c .before .before .before .before .before .before .before .before .before .before .args .p) _ _ _ _ _ (c .before .before .before .before .check-bound .ensures) (c .before .before .enum-told .given .1) in (good-through t, lit≤ tt, sets-low _ (bound-high _ _ (bound-by _ _ (t .next))) (c .before .local-sets .ensures))
-
---@ sub-set-bound c = bound-low _ _ (bound-by _ _ (through (@args .p) _ _ _ _ _ (@check-bound .ensures) (@enum-told .given .1) .next))
-sub-set-bound : tie.Need-sub-set-bound
-sub-set-bound c = bound-low _ _ (bound-by _ _ (through (c .before .before .before .before .before .before .before .before .before .before .before .before .before .before .args .p) _ _ _ _ _ (c .before .before .before .before .before .before .before .before .check-bound .ensures) (c .before .before .before .before .before .before .enum-told .given .1) .next))
-
-set-bound-requires : tie.Need-set-bound-requires
-set-bound-requires c κs = tt
+--@ do-destroy-requires c κs = open-good (@args .p) _ _ _ _ (sym (@check-lent .ensures) ∙ @enum-told .given .1)
+do-destroy-requires : tie.Need-do-destroy-requires
+do-destroy-requires c κs = open-good (c .before .before .before .before .before .before .before .before .before .args .p) _ _ _ _ (sym (c .before .before .before .check-lent .ensures) ∙ c .before .enum-told .given .1)
 
 same-length : tie.Need-same-length
 same-length c = search needs
 
---@ returns c = refused-by (@args .p) _ _ _ _ _ _ _ (destroy-plan (@args .p) _ _) (@check-bound .ensures) (@r .given .1)
+--@ returns c = lent-refused (@args .p) _ _ _ _ _ (@check-lent .ensures) (@r .given .1)
 returns : tie.Need-returns
 unfolding destroyReply
-returns c = refused-by (c .before .before .before .before .before .before .before .before .before .args .p) _ _ _ _ _ _ _ (destroy-plan (c .before .before .before .before .before .before .before .before .before .args .p) _ _) (c .before .before .before .check-bound .ensures) (c .before .r .given .1)
+returns c = lent-refused (c .before .before .before .before .before .before .before .before .before .args .p) _ _ _ _ _ (c .before .before .before .check-lent .ensures) (c .before .r .given .1)
 
---@ same-length-2 c = @set-bound .kept .0 ∙ @abandon-blocks .kept .1 .0
 same-length-2 : tie.Need-same-length-2
-same-length-2 c = c .before .before .set-bound .kept .0 ∙ c .before .before .before .before .before .before .abandon-blocks .kept .1 .0
+same-length-2 c = search needs
 
---@ returns-2 c = destroy-done _ (passed-by (@args .p) _ _ _ _ _ _ _ (destroy-plan (@args .p) _ _) (@check-bound .ensures) (@enum-told .given .1)) (@set-bound .kept .0 ∙ @abandon-blocks .kept .1 .0) (@local-sets .ensures) (@abandon-blocks .ensures) (put-bound _ _ _ (@set-bound .ensures))
+--@ returns-2 c = lent-passed (@args .p) _ _ _ _ _ (@check-lent .ensures) (@enum-told .given .1) (@do-destroy .kept .1 .0) (@do-destroy .ensures _ _ _)
 returns-2 : tie.Need-returns-2
-unfolding destroyReply
-returns-2 c = destroy-done _ (passed-by (c .before .before .before .before .before .before .before .before .before .before .before .before .before .before .before .before .before .args .p) _ _ _ _ _ _ _ (destroy-plan (c .before .before .before .before .before .before .before .before .before .before .before .before .before .before .before .before .before .args .p) _ _) (c .before .before .before .before .before .before .before .before .before .before .before .check-bound .ensures) (c .before .before .before .before .before .before .before .before .before .enum-told .given .1)) (c .before .before .set-bound .kept .0 ∙ c .before .before .before .before .before .before .abandon-blocks .kept .1 .0) (c .before .before .before .before .before .before .before .before .local-sets .ensures) (c .before .before .before .before .before .before .abandon-blocks .ensures) (put-bound _ _ _ (c .before .before .set-bound .ensures))
+returns-2 c = lent-passed (c .before .before .before .before .before .before .before .before .before .before .before .before .args .p) _ _ _ _ _ (c .before .before .before .before .before .before .check-lent .ensures) (c .before .before .before .before .enum-told .given .1) (c .before .before .do-destroy .kept .1 .0) (c .before .before .do-destroy .ensures _ _ _)
 
 pub destroy-spec : {M : Type 1} → statement M
 destroy-spec =
     tie.close
     (tie.spec
-    check-bound-requires
+    check-lent-requires
     enum-known-r
     enum-told
-    local-sets-requires
-    abandon-blocks-requires
-    sub-set-bound
-    set-bound-requires
+    do-destroy-requires
     same-length
     returns
     same-length-2

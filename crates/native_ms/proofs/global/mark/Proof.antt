@@ -1,14 +1,13 @@
--- `global::mark` promises `call`, refused or not. A repeated mark leaves the state alone. Assumes nothing.
+-- `global::mark` promises `call`: refused by its first tests, or its step on sound tables. Assumes nothing.
 use Rattle.model.specs.Answers.{markReply}
-use Rattle.model.specs.Base.{flag}
-use Rattle.native_ms.proofs.Tests.{through, good-through, passed-by, refused-by}
-use Rattle.native_ms.proofs.SpaceCalls.{mark-plan, mark-old, mark-new}
+use Rattle.native_ms.proofs.Tests.{lent-refused, lent-passed, open-good}
+use mathlib.Core.Path.{refl, sym, _∙_}
 use borrow.Author.Needs.{needs}
 use Rattle.native_ms.proofs.global.mark.Statement.{statement}
 use Rattle.native_ms.proofs.global.mark.Tie as tie
 
-check-mark-requires : tie.Need-check-mark-requires
-check-mark-requires c κs = tt
+check-lent-requires : tie.Need-check-lent-requires
+check-lent-requires c κs = tt
 
 enum-known-r : tie.Need-enum-known-r
 enum-known-r c = search needs
@@ -16,9 +15,9 @@ enum-known-r c = search needs
 enum-told : tie.Need-enum-told
 enum-told c = search needs
 
---@ is-marked-requires c κs = good-through (through (@args .p) _ _ _ _ _ (@check-mark .ensures) (@enum-told .given .1))
-is-marked-requires : tie.Need-is-marked-requires
-is-marked-requires c κs = good-through (through (c .before .before .before .before .before .before .before .before .before .args .p) _ _ _ _ _ (c .before .before .before .check-mark .ensures) (c .before .enum-told .given .1))
+--@ do-mark-requires c κs = open-good (@args .p) _ _ _ _ (sym (@check-lent .ensures) ∙ @enum-told .given .1)
+do-mark-requires : tie.Need-do-mark-requires
+do-mark-requires c κs = open-good (c .before .before .before .before .before .before .before .before .before .before .before .args .p) _ _ _ _ (sym (c .before .before .before .before .check-lent .ensures) ∙ c .before .before .enum-told .given .1)
 
 same-length : tie.Need-same-length
 same-length c = search needs
@@ -26,51 +25,32 @@ same-length c = search needs
 same-length-2 : tie.Need-same-length-2
 same-length-2 c = search needs
 
---@ returns c = mark-old _ _ (passed-by (@args .p) _ _ _ _ _ _ _ (mark-plan (@args .p) _ _ _ _ _) (@check-mark .ensures) (@enum-told .given .1)) (@is-marked .ensures) (@if1 .taken)
+--@ returns c = lent-refused (@args .p) _ _ _ _ _ (@check-lent .ensures) (@r .given .1)
 returns : tie.Need-returns
-unfolding markReply flag
-returns c = mark-old _ _ (passed-by (c .before .before .before .before .before .before .before .before .before .before .before .args .p) _ _ _ _ _ _ _ (mark-plan (c .before .before .before .before .before .before .before .before .before .before .before .args .p) _ _ _ _ _) (c .before .before .before .before .before .check-mark .ensures) (c .before .before .before .enum-told .given .1)) (c .before .is-marked .ensures) (c .if1 .taken)
-
-set-state-requires : tie.Need-set-state-requires
-set-state-requires c κs = tt
-
-set-mark-requires : tie.Need-set-mark-requires
-set-mark-requires c κs = tt
+unfolding markReply
+returns c = lent-refused (c .before .before .before .before .before .before .before .before .before .before .args .p) _ _ _ _ _ (c .before .before .before .check-lent .ensures) (c .before .r .given .1)
 
 same-length-3 : tie.Need-same-length-3
 same-length-3 c = search needs
 
---@ returns-2 c = refused-by (@args .p) _ _ _ _ _ _ _ (mark-plan (@args .p) _ _ _ _ _) (@check-mark .ensures) (@r .given .1)
-returns-2 : tie.Need-returns-2
-unfolding markReply
-returns-2 c = refused-by (c .before .before .before .before .before .before .before .before .before .args .p) _ _ _ _ _ _ _ (mark-plan (c .before .before .before .before .before .before .before .before .before .args .p) _ _ _ _ _) (c .before .before .before .check-mark .ensures) (c .before .r .given .1)
-
 same-length-4 : tie.Need-same-length-4
 same-length-4 c = search needs
 
-same-length-5 : tie.Need-same-length-5
-same-length-5 c = search needs
-
---@ returns-3 c = mark-new _ _ (passed-by (@args .p) _ _ _ _ _ _ _ (mark-plan (@args .p) _ _ _ _ _) (@check-mark .ensures) (@enum-told .given .1)) (@is-marked .ensures) (@if1 .left) (@set-state .ensures) (@set-mark .ensures)
-returns-3 : tie.Need-returns-3
-unfolding markReply flag
-returns-3 c = mark-new _ _ (passed-by (c .before .before .before .before .before .before .before .before .before .before .before .before .before .before .before .before .before .before .before .args .p) _ _ _ _ _ _ _ (mark-plan (c .before .before .before .before .before .before .before .before .before .before .before .before .before .before .before .before .before .before .before .args .p) _ _ _ _ _) (c .before .before .before .before .before .before .before .before .before .before .before .before .before .check-mark .ensures) (c .before .before .before .before .before .before .before .before .before .before .before .enum-told .given .1)) (c .before .before .before .before .before .before .before .before .before .is-marked .ensures) (c .before .before .before .before .before .before .before .before .if1 .left) (c .before .before .before .before .before .before .set-state .ensures) (c .before .before .set-mark .ensures)
+--@ returns-2 c = lent-passed (@args .p) _ _ _ _ _ (@check-lent .ensures) (@enum-told .given .1) refl (@do-mark .ensures _)
+returns-2 : tie.Need-returns-2
+returns-2 c = lent-passed (c .before .before .before .before .before .before .before .before .before .before .before .before .before .before .before .before .args .p) _ _ _ _ _ (c .before .before .before .before .before .before .before .before .before .check-lent .ensures) (c .before .before .before .before .before .before .before .enum-told .given .1) refl (c .before .before .before .before .do-mark .ensures _)
 
 pub mark-spec : {M : Type 1} → statement M
 mark-spec =
     tie.close
     (tie.spec
-    check-mark-requires
+    check-lent-requires
     enum-known-r
     enum-told
-    is-marked-requires
+    do-mark-requires
     same-length
     same-length-2
     returns
-    set-state-requires
-    set-mark-requires
     same-length-3
-    returns-2
     same-length-4
-    same-length-5
-    returns-3)
+    returns-2)

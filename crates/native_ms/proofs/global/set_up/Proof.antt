@@ -9,6 +9,15 @@ use Rattle.native_ms.proofs.global.set_up.Tie as tie
 lent-fits-requires : tie.Need-lent-fits-requires
 lent-fits-requires c κs = tt
 
+same-length : tie.Need-same-length
+same-length c = search needs
+
+same-length-2 : tie.Need-same-length-2
+same-length-2 c = search needs
+
+same-length-3 : tie.Need-same-length-3
+same-length-3 c = search needs
+
 --@ returns c = bad-set-up _ _ _ _ _ (@lent-fits .ensures) (not-true _ (@if1 .taken))
 returns : tie.Need-returns
 unfolding replyOf
@@ -23,14 +32,14 @@ clear-all-requires c κs = tt
 clear-all-requires-2 : tie.Need-clear-all-requires-2
 clear-all-requires-2 c κs = tt
 
-same-length : tie.Need-same-length
-same-length c = search needs
+same-length-4 : tie.Need-same-length-4
+same-length-4 c = search needs
 
-same-length-2 : tie.Need-same-length-2
-same-length-2 c = search needs
+same-length-5 : tie.Need-same-length-5
+same-length-5 c = search needs
 
-same-length-3 : tie.Need-same-length-3
-same-length-3 c = search needs
+same-length-6 : tie.Need-same-length-6
+same-length-6 c = search needs
 
 --@ returns-2 c = set-up-done _ _ _ _ _ (@lent-fits .ensures) (not-false _ (@if1 .left)) (@clear-words .ensures) (@clear-all .ensures) (@clear-all2 .ensures)
 returns-2 : tie.Need-returns-2
@@ -42,11 +51,14 @@ set-up-spec =
     tie.close
     (tie.spec
     lent-fits-requires
+    same-length
+    same-length-2
+    same-length-3
     returns
     clear-words-requires
     clear-all-requires
     clear-all-requires-2
-    same-length
-    same-length-2
-    same-length-3
+    same-length-4
+    same-length-5
+    same-length-6
     returns-2)

@@ -1,33 +1,40 @@
--- `size_class::class_bytes` meets its contract: the constant array is the model's list of classes.
+-- `size_class::class_bytes` meets its contract. Leans on the computed test of all bins; assumes nothing.
 use mathlib.Core.Path.{sym}
-use native.Mathlib.Omega.{arith}
-use native.Mathlib.Nat.{mul-comm}
-use lib.ListN.{getD}
-use Rattle.model.specs.SizeClasses.{classWords, fours, cellBytes}
-use Rattle.model.specs.Census.{censusParams}
-use Rattle.laws.proofs.Classes.{cellBytes-most, cellBytes-past}
 use borrow.Author.Needs.{needs}
+use Rattle.laws.proofs.Classes.{cellBytes-past}
+use Rattle.native_ms.proofs.ClassSizes.{bytes-none, bytes-low, bytes-high}
 use Rattle.native_ms.proofs.size_class.class_bytes.Statement.{statement}
 use Rattle.native_ms.proofs.size_class.class_bytes.Tie as tie
+
+--@ returns c = λ p. bytes-none p _ (@if3 .taken)
+returns : tie.Need-returns
+returns c = λ p. bytes-none p _ (c .if3 .taken)
 
 mul-result : tie.Need-mul-result
 mul-result c = search needs
 
-array-read-result : tie.Need-array-read-result
-array-read-result c = search needs
-
---@ mul-result-2 c = record { fits = omega (arith, cellBytes-most censusParams (@if1 .taken)) }
-mul-result-2 : tie.Need-mul-result-2
-unfolding cellBytes classWords fours
-mul-result-2 c = record { fits = omega (arith, cellBytes-most censusParams (c .if1 .taken)) }
-
---@ returns c = λ p. mul-comm (getD classWords (@args .bin) 0) 8
-returns : tie.Need-returns
-unfolding cellBytes classWords fours
-returns c = λ p. mul-comm (getD classWords (c .before .args .bin) 0) 8
-
+--@ returns-2 c = λ p. bytes-low p _ (@if2 .taken) (@if3 .left)
 returns-2 : tie.Need-returns-2
-returns-2 c = λ p. sym (cellBytes-past p _ (c .if1 .left))
+returns-2 c = λ p. bytes-low p _ (c .before .if2 .taken) (c .if3 .left)
+
+add-result : tie.Need-add-result
+add-result c = search needs
+
+add-result-2 : tie.Need-add-result-2
+add-result-2 c = search needs
+
+shl-result : tie.Need-shl-result
+shl-result c = search needs
+
+--@ returns-3 c = λ p. bytes-high p _ (@if1 .taken) (@if2 .left)
+returns-3 : tie.Need-returns-3
+returns-3 c = λ p. bytes-high p _ (c .before .if1 .taken) (c .if2 .left)
+
+--@ returns-4 c = λ p. sym (cellBytes-past p _ (@if1 .left))
+returns-4 : tie.Need-returns-4
+returns-4 c = λ p. sym (cellBytes-past p _ (c .if1 .left))
 
 pub class-bytes-spec : {M : Type 1} → statement M
-class-bytes-spec = tie.close (tie.spec mul-result array-read-result mul-result-2 returns returns-2)
+class-bytes-spec =
+    tie.close
+    (tie.spec returns mul-result returns-2 add-result add-result-2 shl-result returns-3 returns-4)

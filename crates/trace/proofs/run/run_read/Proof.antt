@@ -5,7 +5,7 @@ use Prim.Native.Nat.{_-_}
 use native.Mathlib.Omega.{arith}
 use lib.ListN.{length}
 use Rattle.model.specs.Promise.{lend}
-use Rattle.listing.proofs.LinesLaws.{lineBytes, next-step}
+use Rattle.trace.proofs.LinesLaws.{lineBytes, next-step}
 use Rattle.trace.proofs.RunLaws.{Running, running-start, running-round, running-over, running-end}
 use borrow.Author.Needs.{needs}
 use Rattle.trace.proofs.run.run_read.Statement.{statement}

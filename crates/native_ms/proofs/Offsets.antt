@@ -1,0 +1,334 @@
+-- Loops that link cells by heap offset: what is linked so far; and what init and the simple sweep make of a block. Leans on the
+-- laws of cells; assumes nothing.
+use Prim.Native.Nat.{ℕ, suc, _+_, _-_, _*_, _/_, _%_, _^_, _≤_, _<_}
+use mathlib.Core.Path.{_≡_, refl, sym, ap, _∙_}
+use mathlib.Core.Bool.{Bool, true, false, _||_}
+use mathlib.Core.List.{List, _∷_, headD}
+use native.Mathlib.Nat.{mul-le-mul-right, suc-mul, add-mul, div-mul-le-self, mul-mod-left}
+use native.Mathlib.Omega.{arith}
+use native.Mathlib.Decide.{decLt}
+use lib.Bits.{bitAnd, and-mask}
+use lib.Dec.{eqb}
+use lib.ListN.{length, getD, List·getD-eq-default}
+use Rattle.model.specs.declared.Params.{Params}
+use Rattle.model.specs.Base.{anyBelow}
+use Rattle.model.specs.Params.{heapBytes, inHeap, wordCount, start}
+use Rattle.model.specs.Tables.{Words, setFree, setSize, setTls}
+use Rattle.model.specs.Memory.{store, bytesOf, overwrite, bitOf, marked}
+use Rattle.model.specs.Block.{cellsDown, linkAll, cellCount, initBlock, initChain}
+use Rattle.laws.proofs.Params.{Bounds, good-bounds, inHeap-yes, start-in, mod-through}
+use Rattle.laws.proofs.Memory.{length-store}
+use Rattle.laws.proofs.Marks.{heap-lines, marked-inside}
+use Rattle.laws.proofs.Cells.{cellsDown-kept, cellsDown-freed}
+use Rattle.native_ms.specs.Block.{keptBy, Linked, Initialised, SweptBy}
+use Rattle.native_ms.specs.Bits.{bitAt, anyBit, Run}
+use Rattle.native_ms.specs.Places.{Known, WholeWords, Standing, Sweepable, Places, Inside, ByBits, Extends}
+
+pub test-by-mask : (v i : ℕ) → eqb (bitAnd (v / 2 ^ i) 1) 1 ≡ bitOf v i
+unfolding bitOf
+test-by-mask v i = ap (λ (x : ℕ). eqb x 1) (and-mask (v / 2 ^ i) 1)
+
+-- the word of an offset is that of its address
+pub store-at : (p : Params) (h : List ℕ) (o v : ℕ) → overwrite o (bytesOf 8 v) h ≡ store p h (p .base + o) v
+unfolding store
+store-at p h o v = let e : (p .base + o) - p .base ≡ o = omega arith in rw e
+
+-- the next of the cells ends in the heap
+pub record Next (p : Params) (heap s o : ℕ) : Type 0 where
+  pub bounds : Bounds p
+  pub ends : o + s ≤ heap
+  pub word : 8 ≤ s
+  pub low : heap ≤ 67108864
+  pub base : p .base + heap ≤ 2 ^ 47
+
+pub next-in : (p : Params) (heap at s n k : ℕ) {o : ℕ} → Places p heap at s n → k < n → o ≡ at + k * s → Next p heap s o
+unfolding heapBytes
+next-in p heap at s n k r l e =
+    let g : Bounds p = good-bounds p (r .good) in
+    let step : k * s + s ≤ n * s = omega (arith, mul-le-mul-right {m = suc k} {n = n} s l, suc-mul k s) in
+    record {
+      bounds = g;
+      ends = omega (arith, e, r .fits, step);
+      word = r .word;
+      low = omega (arith, r .whole, g .heap-high);
+      base = omega (arith, r .whole, g .end-high);
+    }
+
+-- linked so far: k of the n cells were looked at, the next is at the offset o, and h is what the heap h₀ became
+pub record Linking (p : Params) (kept : ℕ → Bool) (at s n k : ℕ) (h₀ : List ℕ) (o last : ℕ) (h : List ℕ) : Type 0 where
+  pub done : k ≤ n
+  pub here : o ≡ at + k * s
+  pub same : length h ≡ length h₀
+  pub linked : Linked p (cellsDown kept (p .base + at) s k) h₀ last h
+
+pub linking-start : (p : Params) (kept : ℕ → Bool) (at s n : ℕ) (h : List ℕ) → Linking p kept at s n 0 h at 0 h
+unfolding cellsDown headD linkAll
+linking-start p kept at s n h =
+    record { done = omega arith; here = omega arith; same = refl; linked = record { head = refl; heap = refl } }
+
+module _ (p : Params) (kept : ℕ → Bool) (at s n k : ℕ) (h₀ : List ℕ) (o last : ℕ) (h : List ℕ)
+    (r : Linking p kept at s n k h₀ o last h) (lt : k < n) where
+  address : p .base + o ≡ (p .base + at) + k * s
+  address = omega (arith, r .here)
+
+  pub linking-kept : kept (p .base + o) ≡ true → Linking p kept at s n (k + 1) h₀ (o + s) last h
+  linking-kept e =
+      let c : cellsDown kept (p .base + at) s k ≡ cellsDown kept (p .base + at) s (k + 1) = cellsDown-kept kept (p .base + at) s k address e in
+      record {
+        done = omega arith;
+        here = omega (arith, r .here);
+        same = r .same;
+        linked = record { head = r .linked .head ∙ ap (λ (l : List ℕ). headD l 0) c; heap = r .linked .heap ∙ ap (λ (l : List ℕ). linkAll p l h₀) c };
+      }
+
+  pub linking-freed : {h₁ : List ℕ} → kept (p .base + o) ≡ false → h₁ ≡ overwrite o (bytesOf 8 last) h
+      → Linking p kept at s n (k + 1) h₀ (o + s) (p .base + o) h₁
+  unfolding headD linkAll
+  linking-freed {h₁} e w =
+      let st : h₁ ≡ store p h (p .base + o) last = w ∙ store-at p h o last in
+      let c : ((p .base + o) ∷ cellsDown kept (p .base + at) s k) ≡ cellsDown kept (p .base + at) s (k + 1) = cellsDown-freed kept (p .base + at) s k address e in
+      record {
+        done = omega arith;
+        here = omega (arith, r .here);
+        same = ap length st ∙ length-store p h (p .base + o) last ∙ r .same;
+        linked = record {
+          head = ap (λ (l : List ℕ). headD l 0) c;
+          heap = st ∙ (λ i. store p (r .linked .heap i) (p .base + o) (r .linked .head i)) ∙ ap (λ (l : List ℕ). linkAll p l h₀) c;
+        };
+      }
+
+pub linking-end : (p : Params) (kept : ℕ → Bool) (at s n k : ℕ) (h₀ : List ℕ) (o last : ℕ) (h : List ℕ)
+    → Linking p kept at s n k h₀ o last h → n ≤ k → Linked p (cellsDown kept (p .base + at) s n) h₀ last h
+linking-end p kept at s n k h₀ o last h r le =
+    let e : k ≡ n = omega (arith, r .done) in
+    rw (← e) (r .linked)
+
+-- ---- a chain that goes on, by mark bits
+
+pub record Running (p : Params) (ms : List ℕ) (s at n first count last₀ : ℕ) (h₀ : List ℕ) (k o g last : ℕ) (h : List ℕ) : Type 0 where
+  pub done : k ≤ n
+  pub here : o ≡ at + k * s
+  pub bit : 8 * g + at ≡ o + 8 * first
+  pub same : length h ≡ length h₀
+  pub on : (kept : ℕ → Bool) → ByBits p ms kept s at (at + n * s) first count → Extends p kept s at k last₀ h₀ last h
+
+pub running-start : (p : Params) (ms : List ℕ) (s at n first count last : ℕ) (h : List ℕ)
+    → Running p ms s at n first count last h 0 at first last h
+running-start p ms s at n first count last h =
+    record {
+      done = omega arith;
+      here = omega arith;
+      bit = omega arith;
+      same = refl;
+      on = λ kept b. record { on = λ from k h₀ e l. let z : k + 0 ≡ k = omega arith in rw z l };
+    }
+
+-- where the cell with the number k from `at` on stands, from the chain's first cell on
+cell-stands : (base at from j k s o : ℕ) → from + j * s ≡ base + at → o ≡ at + k * s → base + o ≡ from + (j + k) * s
+cell-stands base at from j k s o e f = omega (arith, e, f, add-mul j k s)
+
+module _ (p : Params) (kept : ℕ → Bool) (s at last₀ : ℕ) (h₀ : List ℕ) (k o last : ℕ) (h : List ℕ) (here : o ≡ at + k * s)
+    (x : Extends p kept s at k last₀ h₀ last h) where
+  extends-kept : kept (p .base + o) ≡ true → Extends p kept s at (k + 1) last₀ h₀ last h
+  extends-kept e =
+      record {
+        on = λ from j h₁ f l.
+            let q = x .on from j h₁ f l in
+            let z : j + (k + 1) ≡ (j + k) + 1 = omega arith in
+            let c : cellsDown kept from s (j + k) ≡ cellsDown kept from s ((j + k) + 1) = cellsDown-kept kept from s (j + k) (cell-stands (p .base) at from j k s o f here) e in
+            rw z (record { head = q .head ∙ ap (λ (y : List ℕ). headD y 0) c; heap = q .heap ∙ ap (λ (y : List ℕ). linkAll p y h₁) c });
+      }
+
+  extends-freed : {h₂ : List ℕ} → kept (p .base + o) ≡ false → h₂ ≡ store p h (p .base + o) last → Extends p kept s at (k + 1) last₀ h₀ (p .base + o) h₂
+  unfolding headD linkAll
+  extends-freed {h₂} e st =
+      record {
+        on = λ from j h₁ f l.
+            let q = x .on from j h₁ f l in
+            let z : j + (k + 1) ≡ (j + k) + 1 = omega arith in
+            let c : ((p .base + o) ∷ cellsDown kept from s (j + k)) ≡ cellsDown kept from s ((j + k) + 1) = cellsDown-freed kept from s (j + k) (cell-stands (p .base) at from j k s o f here) e in
+            rw z (record {
+              head = ap (λ (y : List ℕ). headD y 0) c;
+              heap = st ∙ (λ i. store p (q .heap i) (p .base + o) (q .head i)) ∙ ap (λ (y : List ℕ). linkAll p y h₁) c;
+            });
+      }
+
+step-in : (k n s : ℕ) → k < n → k * s + s ≤ n * s
+step-in k n s l = omega (arith, mul-le-mul-right {m = suc k} {n = n} s l, suc-mul k s)
+
+module _ (p : Params) (ms : List ℕ) (s at n first count last₀ : ℕ) (h₀ : List ℕ) (k o g last : ℕ) (h : List ℕ)
+    (r : Running p ms s at n first count last₀ h₀ k o g last h) (lt : k < n) (aligned : s % 8 ≡ 0) where
+  next-bit : 8 * (g + s / 8) + at ≡ (o + s) + 8 * first
+  next-bit = omega (arith, r .bit, aligned)
+
+  next-here : o + s ≡ at + (k + 1) * s
+  next-here = omega (arith, r .here, suc-mul k s, next-suc)
+    where
+      next-suc : (k + 1) * s ≡ suc k * s
+      next-suc = let e : k + 1 ≡ suc k = omega arith in rw e
+
+  read : (kept : ℕ → Bool) → ByBits p ms kept s at (at + n * s) first count → {t : Bool} → anyBit ms g count ≡ t → kept (p .base + o) ≡ t
+  read kept b e = b .by o g (omega (arith, r .here)) (omega (arith, r .here, step-in k n s lt)) (r .bit) ∙ e
+
+  pub running-kept : anyBit ms g count ≡ true → Running p ms s at n first count last₀ h₀ (k + 1) (o + s) (g + s / 8) last h
+  running-kept e =
+      record {
+        done = omega arith;
+        here = next-here;
+        bit = next-bit;
+        same = r .same;
+        on = λ kept b. extends-kept p kept s at last₀ h₀ k o last h (r .here) (r .on kept b) (read kept b e);
+      }
+
+  pub running-freed : {h₂ : List ℕ} → anyBit ms g count ≡ false → h₂ ≡ overwrite o (bytesOf 8 last) h
+      → Running p ms s at n first count last₀ h₀ (k + 1) (o + s) (g + s / 8) (p .base + o) h₂
+  running-freed {h₂} e w =
+      let st : h₂ ≡ store p h (p .base + o) last = w ∙ store-at p h o last in
+      record {
+        done = omega arith;
+        here = next-here;
+        bit = next-bit;
+        same = ap length st ∙ length-store p h (p .base + o) last ∙ r .same;
+        on = λ kept b. extends-freed p kept s at last₀ h₀ k o last h (r .here) (r .on kept b) (read kept b e) st;
+      }
+
+pub running-end : (p : Params) (ms : List ℕ) (s at n first count last₀ : ℕ) (h₀ : List ℕ) (k o g last : ℕ) (h : List ℕ)
+    → Running p ms s at n first count last₀ h₀ k o g last h → n ≤ k
+    → (kept : ℕ → Bool) → ByBits p ms kept s at (at + n * s) first count → Extends p kept s at n last₀ h₀ last h
+running-end p ms s at n first count last₀ h₀ k o g last h r le kept b =
+    let e : k ≡ n = omega (arith, r .done) in
+    rw e at (r .on kept b)
+
+-- a chain that begins
+pub extends-all : (p : Params) (kept : ℕ → Bool) (s at n : ℕ) (h : List ℕ) {r : ℕ} {h₁ : List ℕ} → Extends p kept s at n 0 h r h₁
+    → Linked p (cellsDown kept (p .base + at) s n) h r h₁
+unfolding cellsDown headD linkAll
+extends-all p kept s at n h x =
+    let z : 0 + n ≡ n = omega arith in
+    rw z at (x .on (p .base + at) 0 h (omega arith) (record { head = refl; heap = refl }))
+
+-- ---- the bits of the cells
+
+module _ (p : Params) {marks heap at s n first : ℕ} (r : Inside p marks heap at s n first) (k g : ℕ) {o : ℕ} (l : k < n)
+    (here : o ≡ at + k * s) (bit : 8 * g + at ≡ o + 8 * first) where
+  -- the cell's bits end in the heap
+  pub bits-end : 8 * g + s ≤ heap
+  bits-end = omega (arith, step-in k n s l, here, bit, r .ends)
+
+  pub run : Run marks g (s / 8)
+  unfolding heapBytes
+  run =
+      let b : Bounds p = good-bounds p (r .cells .good) in
+      record {
+        some = omega (arith, r .cells .word);
+        fits = omega (arith, heap-lines p b, r .lines, r .cells .whole, bits-end, r .aligned);
+        low = omega (arith, bits-end, r .cells .whole, b .heap-high);
+      }
+
+  pub bit-there : g / 8 < marks
+  bit-there = omega (arith, run .fits, run .some)
+
+pub one-bit : (ms : List ℕ) (g : ℕ) {t : Bool} → t ≡ bitOf (getD ms (g / 8) 0) (g % 8) → anyBit ms g 1 ≡ t
+unfolding anyBit anyBelow bitAt
+one-bit ms g e = let z : g + 0 ≡ g = omega arith in rw z (or-false _ ∙ sym e)
+  where
+    or-false : (b : Bool) → (b || false) ≡ b
+    or-false true = refl
+    or-false false = refl
+
+-- the mark at a cell's start
+pub by-start : (p : Params) (ms : List ℕ) (heap s at n : ℕ) → Places p heap at s n → at % 8 ≡ 0
+    → ByBits p ms (keptBy true p ms s) s at (at + n * s) (at / 8) 1
+unfolding keptBy heapBytes
+by-start p ms heap s at n r a =
+    record {
+      by = λ o g low high e.
+          let same : o / 8 ≡ g = omega (arith, e, a) in
+          let inside : inHeap p (p .base + o) ≡ true = inHeap-yes p (p .base + o) (omega arith) (omega (arith, high, r .fits, r .word, r .whole)) in
+          let mark : bitOf (getD ms (o / 8 / 8) 0) (o / 8 % 8) ≡ marked p ms (p .base + o) = marked-inside p ms (p .base + o) {i = o} inside (omega arith) refl in
+          sym mark ∙ sym (one-bit ms g (ap (λ (x : ℕ). bitOf (getD ms (x / 8) 0) (x % 8)) same));
+    }
+
+-- ---- a block
+
+-- its place, as an offset
+pub block-inside : (b k s : ℕ) → b < k → b * s + s ≤ k * s
+block-inside b k s l = omega (arith, mul-le-mul-right {m = suc b} {n = k} s l, suc-mul b s)
+
+module _ (p : Params) {words heap b : ℕ} (r : Standing p words heap b) where
+  pub block-low : b * p .bytes + p .bytes ≤ 67108864
+  block-low = omega (arith, block-inside b (p .blocks) (p .bytes) (r .block), good-bounds p (r .good) .heap-high)
+
+  pub block-places : (s : ℕ) → 8 ≤ s → Places p heap (b * p .bytes) s (p .bytes / s)
+  unfolding heapBytes
+  block-places s word =
+      record {
+        good = r .good;
+        whole = r .whole;
+        word = word;
+        fits = omega (arith, block-inside b (p .blocks) (p .bytes) (r .block), div-mul-le-self (p .bytes) s, r .whole);
+      }
+
+  pub initialised : (s tls : ℕ) {v : ℕ} {t₁ t₂ t₃ : Words} {h₁ : List ℕ} (t : Words) (h : List ℕ)
+      → Linked p (cellsDown (λ a. false) (p .base + b * p .bytes) s (p .bytes / s)) h v h₁
+      → t₁ ≡ setFree b v t → t₂ ≡ setSize b s t₁ → t₃ ≡ setTls b tls t₂ → Initialised p b s tls t h t₃ h₁
+  unfolding initBlock initChain cellCount
+  initialised s tls t h l e₁ e₂ e₃ =
+      let from : start p b ≡ p .base + b * p .bytes = start-in p b (r .block) in
+      record { words = rw (e₃, e₂, e₁, l .head, from); heap = rw (l .heap, from) }
+
+  pub swept-in : (kept : ℕ → ℕ → Bool) {s v : ℕ} {t₁ : Words} {h₁ : List ℕ} (t : Words) (h : List ℕ)
+      → s ≡ getD (t .size) b 0 → Linked p (cellsDown (kept s) (p .base + b * p .bytes) s (p .bytes / s)) h v h₁
+      → t₁ ≡ setFree b v t → SweptBy p kept b t h t₁ h₁
+  unfolding cellCount
+  swept-in kept t h es l et =
+      let from : start p b ≡ p .base + b * p .bytes = start-in p b (r .block) in
+      record { words = rw (et, l .head, from, es); heap = rw (l .heap, from, es) }
+
+  pub block-words : b * p .bytes % 8 ≡ 0
+  block-words = mod-through (b * p .bytes) (p .bytes) 8 (mul-mod-left b (p .bytes)) (good-bounds p (r .good) .bytes-words)
+
+-- what is lent has the same lengths further on
+pub known-on : (p : Params) {w m h w₁ h₁ : ℕ} → Known p w m h → w₁ ≡ w → h₁ ≡ h → Known p w₁ m h₁
+known-on p k ew eh = record { good = k .good; count = ew ∙ k .count; lines = k .lines; whole = eh ∙ k .whole }
+
+pub known-standing : (p : Params) {w m h w₁ h₁ : ℕ} (b : ℕ) → Known p w m h → w₁ ≡ w → h₁ ≡ h → b < p .blocks → Standing p w₁ h₁ b
+known-standing p b k ew eh l = record { good = k .good; count = ew ∙ k .count; whole = eh ∙ k .whole; block = l }
+
+pub standing-on : (p : Params) {w h w₁ b : ℕ} → Standing p w h b → w₁ ≡ w → Standing p w₁ h b
+standing-on p s ew = record { good = s .good; count = ew ∙ s .count; whole = s .whole; block = s .block }
+
+-- the count of words, as the words of a block ask for it
+pub words-known : (p : Params) {words : ℕ} → words ≡ wordCount p → words ≡ 2958 + 6 * p .blocks
+unfolding wordCount
+words-known p e = e
+
+-- ---- a sweep
+
+pub sweep-standing : (p : Params) {words marks heap b s : ℕ} → Sweepable p words marks heap b s → Standing p words heap b
+sweep-standing p r = record { good = r .lent .good; count = r .lent .count; whole = r .lent .whole; block = r .block }
+
+-- the bits at the starts of its cells are there
+pub sweep-inside : (p : Params) {words marks heap b s : ℕ} → Sweepable p words marks heap b s
+    → Inside p marks heap (b * p .bytes) s (p .bytes / s) (b * p .bytes / 8)
+sweep-inside p {words} {marks} {heap} {b} {s} r =
+    let i = sweep-standing p r in
+    let c = block-places p i s (r .cells .word) in
+    record { cells = c; lines = r .lent .lines; aligned = r .cells .aligned; ends = omega (arith, c .fits, block-words p i) }
+
+-- a block with a size is there
+sized-there : (l : List ℕ) (b n : ℕ) → length l ≡ n → (getD l b 0 ≡ 0 → ⊥) → b < n
+sized-there l b n e ne = go (decLt b n)
+  where
+    go : Dec (b < n) → b < n
+    go (yes y) = y
+    go (no y) = absurd (ne (List·getD-eq-default l 0 {n = b} (omega (arith, e, y))))
+
+pub sweepable : (p : Params) {words marks heap s : ℕ} (t : Words) (b : ℕ) → Known p words marks heap → length (t .size) ≡ p .blocks
+    → s ≡ getD (t .size) b 0 → WholeWords s → Sweepable p words marks heap b (getD (t .size) b 0)
+sweepable p t b k len es ww =
+    record {
+      lent = k;
+      block = sized-there (t .size) b (p .blocks) len (λ z. omega (arith, ww .word, es, z));
+      cells = rw es at ww;
+    }
