@@ -9,6 +9,9 @@ pub mod Records
 pub mod Lower
 pub mod Chains
 pub mod Offsets
+pub mod Span
+pub mod Window
+pub mod Reaches
 pub mod BlockWords
 pub mod ClassSizes
 pub mod TakeCell

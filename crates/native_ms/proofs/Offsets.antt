@@ -12,7 +12,8 @@ use lib.Dec.{eqb}
 use lib.ListN.{length, getD, List·getD-eq-default}
 use Rattle.model.specs.declared.Params.{Params}
 use Rattle.model.specs.Base.{anyBelow}
-use Rattle.model.specs.Params.{heapBytes, inHeap, wordCount, start}
+use Rattle.model.specs.Params.{heapBytes, inHeap, wordCount, start, biased, plusLower}
+use Rattle.model.specs.SizeClasses.{wordsIn}
 use Rattle.model.specs.Tables.{Words, setFree, setSize, setTls}
 use Rattle.model.specs.Memory.{store, bytesOf, overwrite, bitOf, marked}
 use Rattle.model.specs.Block.{cellsDown, linkAll, cellCount, initBlock, initChain}
@@ -22,7 +23,7 @@ use Rattle.laws.proofs.Marks.{heap-lines, marked-inside}
 use Rattle.laws.proofs.Cells.{cellsDown-kept, cellsDown-freed}
 use Rattle.native_ms.specs.Block.{keptBy, Linked, Initialised, SweptBy}
 use Rattle.native_ms.specs.Bits.{bitAt, anyBit, Run}
-use Rattle.native_ms.specs.Places.{Known, WholeWords, Standing, Sweepable, Places, Inside, ByBits, Extends}
+use Rattle.native_ms.specs.Places.{Known, WholeWords, Standing, Sweepable, Places, Inside, ByBits, Extends, Reach}
 
 pub test-by-mask : (v i : ℕ) → eqb (bitAnd (v / 2 ^ i) 1) 1 ≡ bitOf v i
 unfolding bitOf
@@ -199,6 +200,54 @@ running-end p ms s at n first count last₀ h₀ k o g last h r le kept b =
     let e : k ≡ n = omega (arith, r .done) in
     rw e at (r .on kept b)
 
+-- the same with no bits: by what is kept
+
+pub record Walking (p : Params) (kept : ℕ → Bool) (s at n last₀ : ℕ) (h₀ : List ℕ) (k o last : ℕ) (h : List ℕ) : Type 0 where
+  pub done : k ≤ n
+  pub here : o ≡ at + k * s
+  pub same : length h ≡ length h₀
+  pub on : Extends p kept s at k last₀ h₀ last h
+
+pub walking-start : (p : Params) (kept : ℕ → Bool) (s at n last : ℕ) (h : List ℕ) → Walking p kept s at n last h 0 at last h
+walking-start p kept s at n last h =
+    record { done = omega arith; here = omega arith; same = refl; on = record { on = λ from k h₀ e l. let z : k + 0 ≡ k = omega arith in rw z l } }
+
+next-stands : (at k s o : ℕ) → o ≡ at + k * s → o + s ≡ at + (k + 1) * s
+next-stands at k s o e = let z : k + 1 ≡ suc k = omega arith in rw z (omega (arith, e, suc-mul k s))
+
+module _ (p : Params) (kept : ℕ → Bool) (s at n last₀ : ℕ) (h₀ : List ℕ) (k o last : ℕ) (h : List ℕ)
+    (r : Walking p kept s at n last₀ h₀ k o last h) (lt : k < n) where
+  pub walking-kept : kept (p .base + o) ≡ true → Walking p kept s at n last₀ h₀ (k + 1) (o + s) last h
+  walking-kept e =
+      record { done = omega arith; here = next-stands at k s o (r .here); same = r .same; on = extends-kept p kept s at last₀ h₀ k o last h (r .here) (r .on) e }
+
+  pub walking-freed : {h₂ : List ℕ} → kept (p .base + o) ≡ false → h₂ ≡ overwrite o (bytesOf 8 last) h
+      → Walking p kept s at n last₀ h₀ (k + 1) (o + s) (p .base + o) h₂
+  walking-freed {h₂} e w =
+      let st : h₂ ≡ store p h (p .base + o) last = w ∙ store-at p h o last in
+      record {
+        done = omega arith;
+        here = next-stands at k s o (r .here);
+        same = ap length st ∙ length-store p h (p .base + o) last ∙ r .same;
+        on = extends-freed p kept s at last₀ h₀ k o last h (r .here) (r .on) e st;
+      }
+
+pub walking-end : (p : Params) (kept : ℕ → Bool) (s at n last₀ : ℕ) (h₀ : List ℕ) (k o last : ℕ) (h : List ℕ)
+    → Walking p kept s at n last₀ h₀ k o last h → n ≤ k → Extends p kept s at n last₀ h₀ last h
+walking-end p kept s at n last₀ h₀ k o last h r le =
+    let e : k ≡ n = omega (arith, r .done) in
+    rw e at (r .on)
+
+-- a chain that goes on twice
+pub extends-twice : (p : Params) (kept : ℕ → Bool) (s at a b : ℕ) {l₀ l₁ l₂ : ℕ} {h₀ h₁ h₂ : List ℕ} → Extends p kept s at a l₀ h₀ l₁ h₁
+    → Extends p kept s (at + a * s) b l₁ h₁ l₂ h₂ → Extends p kept s at (a + b) l₀ h₀ l₂ h₂
+extends-twice p kept s at a b x y =
+    record {
+      on = λ from k h e l.
+          let z : (k + a) + b ≡ k + (a + b) = omega arith in
+          rw z at (y .on from (k + a) h (omega (arith, e, add-mul k a s)) (x .on from k h e l));
+    }
+
 -- a chain that begins
 pub extends-all : (p : Params) (kept : ℕ → Bool) (s at n : ℕ) (h : List ℕ) {r : ℕ} {h₁ : List ℕ} → Extends p kept s at n 0 h r h₁
     → Linked p (cellsDown kept (p .base + at) s n) h r h₁
@@ -235,6 +284,14 @@ one-bit ms g e = let z : g + 0 ≡ g = omega arith in rw z (or-false _ ∙ sym e
     or-false : (b : Bool) → (b || false) ≡ b
     or-false true = refl
     or-false false = refl
+
+-- cells of one word have one bit
+pub one-word : (p : Params) {ms : List ℕ} {kept : ℕ → Bool} {s at end first : ℕ} → s ≡ 8 → ByBits p ms kept s at end first (s / 8) → ByBits p ms kept s at end first 1
+one-word p {ms} {kept} {s} {at} {end} {first} e b = let z : s / 8 ≡ 1 = omega (arith, e) in record { by = λ o g l h q. rw z at (b .by o g l h q) }
+
+pub kept-brute : (p : Params) (ms : List ℕ) (s a : ℕ) {t : Bool} → t ≡ anyBelow (wordsIn s) (λ k. marked p ms (plusLower p (a + 8 * k))) → keptBy false p ms s a ≡ t
+unfolding keptBy
+kept-brute p ms s a e = sym e
 
 -- the mark at a cell's start
 pub by-start : (p : Params) (ms : List ℕ) (heap s at n : ℕ) → Places p heap at s n → at % 8 ≡ 0
@@ -315,6 +372,20 @@ sweep-inside p {words} {marks} {heap} {b} {s} r =
     let i = sweep-standing p r in
     let c = block-places p i s (r .cells .word) in
     record { cells = c; lines = r .lent .lines; aligned = r .cells .aligned; ends = omega (arith, c .fits, block-words p i) }
+
+-- and so are all that the brute-force sweep asks for
+pub sweep-reach : (p : Params) {words marks heap b s up : ℕ} → Sweepable p words marks heap b s → up ≡ biased (p .lower)
+    → Reach p marks heap (b * p .bytes) s (p .bytes / s) up
+sweep-reach p {words} {marks} {heap} {b} {s} r e =
+    let i = sweep-standing p r in
+    record {
+      cells = block-places p i s (r .cells .word);
+      lines = r .lent .lines;
+      aligned = r .cells .aligned;
+      starts = block-words p i;
+      high = r .cells .high;
+      lower = e;
+    }
 
 -- a block with a size is there
 sized-there : (l : List ℕ) (b n : ℕ) → length l ≡ n → (getD l b 0 ≡ 0 → ⊥) → b < n

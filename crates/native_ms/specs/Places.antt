@@ -7,7 +7,7 @@ use Rattle.model.specs.declared.Params.{Params}
 use Rattle.model.specs.declared.Block.{Block}
 use Rattle.model.specs.declared.Offer.{Offer}
 use Rattle.model.specs.declared.Offer.the-variants.{Fresh}
-use Rattle.model.specs.Params.{goodParams, wordCount, heapBytes}
+use Rattle.model.specs.Params.{goodParams, wordCount, heapBytes, biased}
 use Rattle.model.specs.Block.{cellsDown}
 use Rattle.native_ms.specs.Block.{Linked}
 use Rattle.native_ms.specs.Bits.{anyBit}
@@ -55,6 +55,15 @@ pub record Inside (p : Params) (marks heap at s n first : ℕ) : Type 0 where
   pub lines : marks ≡ heapBytes p / 64
   pub aligned : s % 8 ≡ 0
   pub ends : 8 * first + n * s ≤ heap
+
+-- n cells of s bytes, whole words, from the offset `at` on, some of whose places may lie outside the heap; `up` is L + 64
+pub record Reach (p : Params) (marks heap at s n up : ℕ) : Type 0 where
+  pub cells : Places p heap at s n
+  pub lines : marks ≡ heapBytes p / 64
+  pub aligned : s % 8 ≡ 0
+  pub starts : at % 8 ≡ 0
+  pub high : s ≤ 65536
+  pub lower : up ≡ biased (p .lower)
 
 -- a cell of s bytes between the offsets `at` and `end` is kept exactly if one of `count` mark bits is set, those from `first` on for the
 -- cell at `at`, and so on, a bit for each word

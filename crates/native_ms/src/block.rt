@@ -2,6 +2,7 @@
 // Rust's block.rs, with `init_block` and `block_alloc` of free_list_allocator.rs.
 mod chain;
 mod known;
+mod marks;
 
 use crate::address;
 use crate::memory;
@@ -15,10 +16,7 @@ ghost use mathlib.Core.Bool.{true, false, _||_};
 ghost use Prim.Native.Nat.{_+_, _*_, _^_, _≤_};
 ghost use lib.Dec.{eqb};
 ghost use lib.ListN.{length, getD};
-ghost use Rattle.model.specs.Base.{anyBelow};
-ghost use Rattle.model.specs.Params.{goodParams, wordCount, lowerOk, biased, plusLower};
-ghost use Rattle.model.specs.Memory.{marked};
-ghost use Rattle.model.specs.SizeClasses.{wordsIn};
+ghost use Rattle.model.specs.Params.{goodParams, wordCount, lowerOk, biased};
 ghost use Rattle.model.specs.Tables.{view};
 ghost use Rattle.model.specs.Block.{simple, cellCount, cellsDown, isCell};
 ghost use Rattle.native_ms.specs.Block.{keptBy, Room, Linked, SweptBy, Swept, Initialised, Cleared, took, takeFree};
@@ -45,18 +43,6 @@ pub(crate) fn biased(l: i64) -> usize
     (l + 64) as usize
 }
 
-// a + L: the place at which an object is marked whose reference lies L above a. L may be negative, so the sum is made first.
-fn plus_lower(p: Params, a: Address) -> Address
-    requires { ⌜ (goodParams p ≡ true) × (a .0 ≤ 2 ^ 60) ⌝ }
-    ensures { λ r. ⌜ r .0 ≡ plusLower p (a .0) ⌝ }
-{
-    let v = a.0 + biased(p.lower);
-    if v < 64 {
-        return Address(0);
-    }
-    Address(v - 64)
-}
-
 // Whether the simple sweep will do: a cell's address is that of its object.
 pub(crate) fn is_simple(p: Params) -> bool
     ensures { λ r. ⌜ r ≡ simple p ⌝ }
@@ -70,26 +56,6 @@ pub(crate) fn is_simple(p: Params) -> bool
     p.unified
 }
 
-// The brute-force reading of one cell: whether one of its places is marked, tried in ascending order.
-fn any_marked(p: Params, m: &[u8], cell: Address, s: usize) -> bool
-    requires { ⌜ (goodParams p ≡ true) × (cell .0 ≤ 2 ^ 50) × (s ≤ 65536) ⌝ }
-    ensures { λ r. ⌜ r ≡ anyBelow (wordsIn s) (λ k. marked p (now (m .entry)) (plusLower p (cell .0 + 8 * k))) ⌝ }
-{
-    let a = cell.0;
-    let n = (s + 7) / 8;
-    let mut word: usize = 0;
-    while word < n {
-        let at = a + 8 * word;
-        let place = plus_lower(p, Address(at));
-        let found = memory::is_marked(p, m, place);
-        if found {
-            return true;
-        }
-        word = word + 1;
-    }
-    false
-}
-
 // Whether a sweep keeps the cell.
 pub(crate) fn cell_is_marked(p: Params, simple: bool, m: &[u8], cell: Address, s: usize) -> bool
     requires { ⌜ (goodParams p ≡ true) × (cell .0 ≤ 2 ^ 50) × (s ≤ 65536) ⌝ }
@@ -98,7 +64,7 @@ pub(crate) fn cell_is_marked(p: Params, simple: bool, m: &[u8], cell: Address, s
     if simple {
         return memory::is_marked(p, m, cell);
     }
-    any_marked(p, m, cell, s)
+    marks::any_marked(p, m, cell, s)
 }
 
 // How many whole cells of s bytes a block has; the short tail is none.
@@ -180,12 +146,26 @@ fn simple_sweep(p: Params, w: &mut [usize], m: &[u8], h: &mut [u8], b: Block)
     known::set_free(w, blocks, b, head);
 }
 
+// L + 64 of good parameters.
+fn up_by(p: Params) -> usize
+    requires { ⌜ goodParams p ≡ true ⌝ }
+    ensures { λ r. ⌜ r ≡ biased (p .lower) ⌝ }
+{
+    biased(p.lower)
+}
+
 // Frees each whole cell with no mark at any of its places.
 fn naive_brute_force_sweep(p: Params, w: &mut [usize], m: &[u8], h: &mut [u8], b: Block)
-    requires { ⌜ goodParams p ≡ true ⌝ }
+    requires { ⌜ Sweepable p (length (now w)) (length (now m)) (length (now h)) (b .0) (getD (view (now w) .size) (b .0) 0) ⌝ }
     ensures { λ _. ⌜ SweptBy p (keptBy false p (now (m .entry))) (b .0) (view (now (w .entry))) (now (h .entry)) (view (now (w .exit))) (now (h .exit)) ⌝ }
 {
-    sweep_by(p, false, w, m, h, b);
+    let blocks = p.blocks;
+    let s = known::size(w, blocks, b);
+    let at = b.0 * p.bytes;
+    let n = p.bytes / s;
+    let up = up_by(p);
+    let head = chain::link_brute(p, m, h, at, s, n, up);
+    known::set_free(w, blocks, b, head);
 }
 
 // The sweep that the parameters choose.

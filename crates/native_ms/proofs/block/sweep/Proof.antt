@@ -49,9 +49,9 @@ same-length-4 c = search needs
 returns-2 : tie.Need-returns-2
 returns-2 c = swept _ _ _ true (sym (c .before .before .before .before .before .before .before .if2 .taken) ∙ c .before .before .before .before .before .before .before .before .before .before .is-simple .ensures) (c .before .before .before .before .simple-sweep .ensures)
 
---@ naive-brute-force-sweep-requires c κs = @pre .good
+--@ naive-brute-force-sweep-requires c κs = sweepable _ (view (@args .w .now)) (@args .b .0) @pre (sized-view _ (@args .w .now) (words-known _ (@pre .count)) .size) (@size .ensures) (@is-whole-words .ensures (not-false _ (@if1 .left)))
 naive-brute-force-sweep-requires : tie.Need-naive-brute-force-sweep-requires
-naive-brute-force-sweep-requires c κs = c .before .before .before .before .before .before .before .before .before .before .before .pre .good
+naive-brute-force-sweep-requires c κs = sweepable _ (view (c .before .before .before .before .before .before .before .before .before .before .before .args .w .now)) (c .before .before .before .before .before .before .before .before .before .before .before .args .b .0) (c .before .before .before .before .before .before .before .before .before .before .before .pre) (sized-view _ (c .before .before .before .before .before .before .before .before .before .before .before .args .w .now) (words-known _ (c .before .before .before .before .before .before .before .before .before .before .before .pre .count)) .size) (c .before .before .before .before .before .before .size .ensures) (c .before .before .before .before .is-whole-words .ensures (not-false _ (c .before .before .before .if1 .left)))
 
 same-length-5 : tie.Need-same-length-5
 same-length-5 c = search needs

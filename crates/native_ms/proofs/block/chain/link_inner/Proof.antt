@@ -1,0 +1,53 @@
+-- `chain::link_inner` meets its contract: a loop for each kind of cell. Assumes nothing.
+use borrow.Author.Needs.{needs}
+use mathlib.Core.Path.{refl}
+use Rattle.native_ms.proofs.Offsets.{one-word}
+use Rattle.native_ms.proofs.block.chain.link_inner.Statement.{statement}
+use Rattle.native_ms.proofs.block.chain.link_inner.Tie as tie
+
+--@ link-by-bit-requires c κs = @pre
+link-by-bit-requires : tie.Need-link-by-bit-requires
+link-by-bit-requires c κs = (c .before .before .before .before .pre)
+
+same-length : tie.Need-same-length
+same-length c = search needs
+
+--@ returns c = λ kept b. @link-by-bit .ensures kept (one-word _ (@if1 .taken) b)
+returns : tie.Need-returns
+returns c = λ kept b. c .before .before .link-by-bit .ensures kept (one-word _ (c .before .before .before .before .if1 .taken) b)
+
+--@ link-few-requires c κs = (@pre, @if2 .taken)
+link-few-requires : tie.Need-link-few-requires
+link-few-requires c κs = ((c .before .before .before .before .before .pre), c .before .if2 .taken)
+
+same-length-2 : tie.Need-same-length-2
+same-length-2 c = search needs
+
+--@ returns-2 c = @link-few .ensures
+returns-2 : tie.Need-returns-2
+returns-2 c = c .before .before .link-few .ensures
+
+--@ link-many-requires c κs = (@pre, @if2 .left)
+link-many-requires : tie.Need-link-many-requires
+link-many-requires c κs = ((c .before .before .before .before .before .pre), c .before .if2 .left)
+
+same-length-3 : tie.Need-same-length-3
+same-length-3 c = search needs
+
+--@ returns-3 c = @link-many .ensures
+returns-3 : tie.Need-returns-3
+returns-3 c = c .before .before .link-many .ensures
+
+pub link-inner-spec : {M : Type 1} → statement M
+link-inner-spec =
+    tie.close
+    (tie.spec
+    link-by-bit-requires
+    same-length
+    returns
+    link-few-requires
+    same-length-2
+    returns-2
+    link-many-requires
+    same-length-3
+    returns-3)
