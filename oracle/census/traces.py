@@ -120,6 +120,20 @@ def every_letter_releasing():
                   'm 19456 0', 'm 23552 1', 'm 27648 2', 'm 28672 3', 'r 1')
 
 
+def left_in_marking():
+    """R-10: holder 1 leaves while marking runs; holder 2 and the shared part
+    are due then. Block 0 keeps a mark, block 2 of the departed holder none."""
+    return joined(*HALF[:6], alloc(2, 1, 4096), 'p', 'm 19456 0', 'd 1',
+                  'm 23552 1', 'd 1', 'b 1', 's', 'd 2', 'r 1', 'r 2',
+                  alloc('-', 2))
+
+
+def last_one_left():
+    """The last bound holder leaves: the shared release is first and last, so
+    the bind and the alloc after it are of Running, and the alloc sweeps."""
+    return joined(*COLLECTED, 'd 1', 's', 's', 'b 2', alloc('-', 2))
+
+
 def unswept_again():
     """A block of u that no alloc asked for, through a second collection."""
     return joined(*HALF, 'r 1', 'r 2', 's', 'p', 'm 18432 0', 'm 20480 1')
@@ -169,6 +183,9 @@ TRACES = [
     ('left, then collected', joined(*COLLECTED[:5], 'd 1', 'p', 's')),
     ('left, marked, collected', joined(*COLLECTED[:5], 'd 1', 'p', 'm 17408 0',
                                        's', 'b 3', alloc('-', 3))),
+    ('left in marking', left_in_marking()),
+    ('left in marking, not yet shared', joined(*COLLECTED, 'd 1')),
+    ('the last one left in marking', last_one_left()),
     ('512 cells of a word', joined('b 8', 'a 8 8 8 0 3', 'a 8 0 8 0 2')),
     ('2,044 free cells', four_blocks_of_words()),
     ('all blocks, then none', joined('b 1', *[alloc(b, 1, 4096)

@@ -460,8 +460,9 @@ class Space:
         self.bound |= 1 << h
 
     def destroy(self, h):
+        """R-10 of document 02: in Marking too, as in Running."""
         self.begin()
-        refuse_unless(self.phase == RUNNING, WRONG_PHASE)
+        refuse_unless(self.phase in (RUNNING, MARKING), WRONG_PHASE)
         refuse_unless(self.is_bound(h), BAD_HOLDER)
         left = self.abandon_blocks(h, ABANDONED)
         self.bound &= ~(1 << h)

@@ -217,6 +217,36 @@ class StaleMarks(ref.Space):
                     b * part:(b + 1) * part]
 
 
+class LeavesInReleasing(ref.Space):
+    """Answers destroy in Releasing too (R-10 of document 02)."""
+
+    def destroy(self, h):
+        self.begin()
+        if self.phase != ref.RELEASING:
+            return super().destroy(h)
+        ref.refuse_unless(self.is_bound(h), ref.BAD_HOLDER)
+        self.abandon_blocks(h, ref.ABANDONED)
+        self.bound &= ~(1 << h)
+
+
+class BindingKept(ref.Space):
+    """A holder that leaves in Marking stays bound."""
+
+    def destroy(self, h):
+        bound = self.bound
+        super().destroy(h)
+        if self.phase == ref.MARKING:
+            self.bound = bound
+
+
+class ListsLeftBehind(ref.Space):
+    """A holder that leaves in Marking leaves its blocks on its own lists."""
+
+    def abandon_blocks(self, h, owner):
+        if not (self.phase == ref.MARKING and owner == ref.ABANDONED):
+            super().abandon_blocks(h, owner)
+
+
 class SweptNotCounted(ref.Space):
     """Counts only the sweeps that freed a cell."""
 
@@ -344,6 +374,9 @@ MUTANTS = {
     'cell-start-only': ('rust', CellStartOnly),
     'last-place-missed': ('rust', LastPlaceMissed),
     'stale-marks': ('rust', StaleMarks),
+    'leaves-in-releasing': ('all', LeavesInReleasing),
+    'binding-kept': ('rust', BindingKept),
+    'lists-left-behind': ('rust', ListsLeftBehind),
     'swept-not-counted': ('rust', SweptNotCounted),
     'unswept-not-counted': ('rust', UnsweptNotCounted),
     'merged-early': ('rust', MergedEarly),

@@ -2,7 +2,7 @@
 -- passed may lean on; which refusals are theirs. Assumes nothing.
 use Prim.Native.Nat.{ℕ, _≤_}
 use mathlib.Core.Path.{_≡_, refl}
-use mathlib.Core.Logic.{_≢_}
+use mathlib.Core.Logic.{_≢_, ⊎-elim}
 use mathlib.Core.Bool.{Bool, true, false, not, _&&_, _||_}
 use native.Mathlib.Omega.{arith}
 use lib.Dec.{eqb}
@@ -15,8 +15,8 @@ use Rattle.model.specs.declared.Tested.{Tested}
 use Rattle.model.specs.declared.Tested.the-variants.{Passed, Refused}
 use Rattle.model.specs.Tables.{Words, Tables}
 use Rattle.model.specs.Global.{Running, Marking, isHolder, isBound, hasReleased}
-use Rattle.model.specs.Calls.{refusalNumber, Call, bind, destroy, alloc, prepare, mark, release, sharedRelease, Plan, refuses, goodRequest, tooBig, goodOffer, goodObject, mayRelease, refusedIf, andThen, phaseTest, bindTests, boundTests, requestTests, markTests, releaseTests, sharedTests, callTests, planPassed, ifPassed, planSound}
-use Rattle.laws.proofs.Base.{or-none-left}
+use Rattle.model.specs.Calls.{refusalNumber, Call, bind, destroy, alloc, prepare, mark, release, sharedRelease, Plan, refuses, goodRequest, tooBig, goodOffer, goodObject, mayLeave, mayRelease, refusedIf, andThen, phaseTest, bindTests, leaveTests, boundTests, requestTests, markTests, releaseTests, sharedTests, callTests, planPassed, ifPassed, planSound}
+use Rattle.laws.proofs.Base.{or-cases, or-none-left}
 
 -- ---- one test, and tests in order
 
@@ -50,6 +50,15 @@ module _ (w : Words) (holder : ℕ) where
       let q = passed-both (phaseTest w Running) _ e in
       let f = passed-if (not (isHolder holder) || isBound w holder) BadHolder (q .1) in
       (phase-passed w Running (q .0), not-false _ (or-none-left (not (isHolder holder)) (isBound w holder) f))
+
+  pub leave-passed : leaveTests w holder ≡ Passed → (w .phase ≤ 1) × (isBound w holder ≡ true)
+  unfolding leaveTests mayLeave
+  leave-passed e =
+      let q = passed-both (refusedIf (not (mayLeave w)) WrongPhase) _ e in (
+        ⊎-elim (λ r. omega (arith, eqb-true (w .phase) 0 r)) (λ r. omega (arith, eqb-true (w .phase) 1 r))
+            (or-cases (eqb (w .phase) 0) (eqb (w .phase) 1) (passed-not (mayLeave w) WrongPhase (q .0))),
+        passed-not (isBound w holder) BadHolder (q .1),
+      )
 
   pub bound-passed : boundTests w holder ≡ Passed → (w .phase ≡ Running) × (isBound w holder ≡ true)
   unfolding boundTests
@@ -169,11 +178,13 @@ module _ (w : Words) where
   early-bound holder = early-both _ _ (early-phase Running) (early-if (not (isBound w holder)) BadHolder bad-holder)
 
 early : (p : Params) (t : Tables) (c : Call) → Early (callTests p t c)
-unfolding callTests bindTests requestTests markTests releaseTests sharedTests
+unfolding callTests bindTests leaveTests requestTests markTests releaseTests sharedTests
 early p t (bind holder) =
     early-both _ _ (early-phase (t .words) Running)
     (early-if (not (isHolder holder) || isBound (t .words) holder) BadHolder bad-holder)
-early p t (destroy holder) = early-bound (t .words) holder
+early p t (destroy holder) =
+    early-both _ _ (early-if (not (mayLeave (t .words))) WrongPhase wrong-phase)
+    (early-if (not (isBound (t .words) holder)) BadHolder bad-holder)
 early p t (alloc holder size align offset offer) =
     early-both _ _ (early-bound (t .words) holder)
     (early-both _ _ (early-if (not (goodRequest p size align offset)) BadRequest bad-request)

@@ -105,6 +105,11 @@ goodObject p t place b =
     && (ltb b (p .blocks) && not (eqb (stateOf t b) Unallocated))
     && (leb (start p b) (minusLower p place) && ltb (minusLower p place) (start p b + p .bytes))
 
+-- the phase of a destroy. 02, R-10: "Answer it in Marking as in Running: the lists go to abandoned and the shared release treats
+-- them. In Releasing it remains WrongPhase."
+unfoldable pub mayLeave : Words → Bool
+mayLeave w = eqb (w .phase) Running || eqb (w .phase) Marking
+
 -- "WrongPhase: call not of this phase", of a release; "or released already" is tested beside it, below
 unfoldable pub mayRelease : Words → Bool
 mayRelease w = eqb (w .phase) Marking || eqb (w .phase) Releasing
@@ -127,7 +132,11 @@ phaseTest w phase = refusedIf (not (eqb (w .phase) phase)) WrongPhase
 unfoldable pub bindTests : Words → ℕ → Tested
 bindTests w holder = andThen (phaseTest w Running) (refusedIf (not (isHolder holder) || isBound w holder) BadHolder)
 
--- ; not bound (others)": destroy, alloc
+-- ; not bound (others)": destroy,
+unfoldable pub leaveTests : Words → ℕ → Tested
+leaveTests w holder = andThen (refusedIf (not (mayLeave w)) WrongPhase) (refusedIf (not (isBound w holder)) BadHolder)
+
+-- and alloc
 unfoldable pub boundTests : Words → ℕ → Tested
 boundTests w holder = andThen (phaseTest w Running) (refusedIf (not (isBound w holder)) BadHolder)
 
@@ -152,7 +161,7 @@ sharedTests w = refusedIf (not (mayRelease w) || hasReleased w 0) WrongPhase
 
 unfoldable pub callTests : Params → Tables → Call → Tested
 callTests p t (bind holder) = bindTests (t .words) holder
-callTests p t (destroy holder) = boundTests (t .words) holder
+callTests p t (destroy holder) = leaveTests (t .words) holder
 callTests p t (alloc holder size align offset offer) =
     andThen (boundTests (t .words) holder) (requestTests p t size align offset offer)
 callTests p t prepare = phaseTest (t .words) Running

@@ -2,7 +2,8 @@
 --
 -- | call           | phase              | blocks                                                                    | after      |
 -- |----------------|--------------------|---------------------------------------------------------------------------|------------|
--- | bind, destroy  | Running            | destroy: the holder's lists go behind the abandoned ones                  | Running    |
+-- | bind           | Running            |                                                                           | Running    |
+-- | destroy        | Running, Marking   | the holder's lists go behind the abandoned ones                           | the same   |
 -- | alloc          | Running            | full blocks to consumed; unswept blocks swept; abandoned ones taken over; | Running    |
 -- |                |                    | an offered block becomes Unmarked, on available                           |            |
 -- | prepare        | Running            | occupied blocks Unmarked, all marks cleared                               | Marking    |
@@ -77,7 +78,7 @@ abandonedBelow n p to from t = sumBelow n (λ bin. abandonedBin p to from bin (e
 unfoldable pub abandonedBlocks : Params → ℕ → ℕ → Words → ℕ
 abandonedBlocks p to from t = abandonedBelow bins p to from t
 
--- "Destroy (Running) hands lists to abandoned."
+-- "Destroy (Running) hands lists to abandoned."; since R-10 in Marking too, in the same way (Calls `mayLeave`)
 unfoldable pub destroyHolder : Params → ℕ → Tables → Tables
 destroyHolder p h t = withWords (setBound (h - 1) 0 (abandonBlocks p abandoned (localSets h) (t .words))) t
 

@@ -46,6 +46,8 @@ pub mod Answers
 pub mod Promise
 -- the book, runs, and demand 3 as a proposition
 pub mod Runs
+-- what holds from one turn of a run to a later one, as propositions
+pub mod Spans
 -- what a refusal leaves, what a release counts, kept tables, as propositions
 pub mod Refusals
 -- demand 3 of any chain of the promises

@@ -25,11 +25,11 @@ use Rattle.model.specs.Events.{releases, eventsHeap}
 use Rattle.model.specs.BlockList.{append}
 use Rattle.model.specs.Global.{Running, Marking, freshWords, freshTables, isHolder, isBound, hasReleased, bindHolder, destroyHolder, abandonBin, abandonBlocks, abandonedBlocks, unmarkedState, prepared, markPlace, Freed, releaseHolder, sweepLater, allReleased, partReleased, merged}
 use Rattle.model.specs.Sound.{stateOf}
-use Rattle.model.specs.Calls.{answered, refused, Call, bind, destroy, prepare, mark, release, sharedRelease, goodObject, mayRelease, phaseTest, bindTests, boundTests, markTests, releaseTests, sharedTests, callTests, releasePlan, planPassed, finish, carried, setUp}
+use Rattle.model.specs.Calls.{answered, refused, Call, bind, destroy, prepare, mark, release, sharedRelease, goodObject, mayLeave, mayRelease, phaseTest, bindTests, leaveTests, markTests, releaseTests, sharedTests, callTests, releasePlan, planPassed, finish, carried, setUp}
 use Rattle.laws.proofs.Below.{and-left, and-right, or-left}
 use Rattle.laws.proofs.Params.{good-bounds, start-in, block-small}
 use Rattle.laws.proofs.Tables.{flat-view}
-use Rattle.laws.proofs.Tests.{bind-passed, bound-passed, release-passed}
+use Rattle.laws.proofs.Tests.{bind-passed, leave-passed, release-passed}
 use Rattle.model.specs.Promise.{lend, SetUpPromised}
 use Rattle.native_ms.specs.Released.{Out, out, total}
 use Rattle.native_ms.specs.Moved.{Moved, moved, binsMove, partMoves}
@@ -82,10 +82,21 @@ bind-refused t n e z p s m h = step-refused p (tablesOf t s m) h (bind n) e z
 
 -- ---- destroy
 
-pub bound-by : (t : Words) (n : ℕ) {r : Tested} → r ≡ boundTests t n → r ≡ Passed → (1 ≤ n) × (n ≤ 8)
-bound-by t n e z = let b = bound-passed t n (sym e ∙ z) .1 in (bound-low t n b, bound-high t n b)
+or-none-first : {a b : Bool} → a ≡ false → (a || b) ≡ b
+or-none-first z = rw z
 
-module _ (p : Params) (t : Words) (n : ℕ) {r : Tested} (e : r ≡ boundTests t n) where
+pub leave-running : (t : Words) {f : ℕ} → f ≡ t .phase → f ≡ 0 → true ≡ mayLeave t
+unfolding mayLeave
+leave-running t {f} e q = sym (or-left _ (eq-eqb (t .phase) 0 (sym e ∙ q)))
+
+pub leave-else : (t : Words) {f : ℕ} → f ≡ t .phase → (f ≡ 0 → ⊥) → eqb f 1 ≡ mayLeave t
+unfolding mayLeave
+leave-else t {f} e q = ap (λ (k : ℕ). eqb k 1) e ∙ sym (or-none-first (ne-eqb (t .phase) 0 (λ z. q (e ∙ z))))
+
+pub leaves-bound : (t : Words) (n : ℕ) {r : Tested} → r ≡ leaveTests t n → r ≡ Passed → (1 ≤ n) × (n ≤ 8)
+leaves-bound t n e z = let b = leave-passed t n (sym e ∙ z) .1 in (bound-low t n b, bound-high t n b)
+
+module _ (p : Params) (t : Words) (n : ℕ) {r : Tested} (e : r ≡ leaveTests t n) where
   pub destroy-done : {owner k : ℕ} {t₁ t₂ : Words} → r ≡ Passed → owner ≡ localSets n → moved k t₁ ≡ binsMove bins p abandoned owner t
       → t₂ ≡ setBound (n - 1) 0 t₁ → (s m h : List ℕ) → Does p (tablesOf t s m) h (destroy n) (answered (k ∷ [])) (tablesOf t₂ s m) h
   unfolding callTests planPassed destroyHolder finish eventsHeap
@@ -277,9 +288,6 @@ may-marking t {f} e q = sym (or-left _ (eq-eqb (t .phase) 1 (sym e ∙ q)))
 pub may-else : (t : Words) {f : ℕ} → f ≡ t .phase → (f ≡ 1 → ⊥) → eqb f 2 ≡ mayRelease t
 unfolding mayRelease
 may-else t {f} e q = ap (λ (k : ℕ). eqb k 2) e ∙ sym (or-none-first (ne-eqb (t .phase) 1 (λ z. q (e ∙ z))))
-  where
-    or-none-first : {a b : Bool} → a ≡ false → (a || b) ≡ b
-    or-none-first z = rw z
 
 pub already-none : (t : Words) (n : ℕ) {a : Bool} → a ≡ isHolder n → a ≡ false → false ≡ (isHolder n && hasReleased t n)
 already-none t n e z = rw (← e, z)

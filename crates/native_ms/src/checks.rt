@@ -24,7 +24,7 @@ ghost use Rattle.model.specs.Params.{goodParams, fits, minusLower};
 ghost use Rattle.model.specs.Tables.{Words, view, tablesOf};
 ghost use Rattle.model.specs.SizeClasses.{binOf, raised};
 ghost use Rattle.model.specs.Global.{isHolder, hasReleased};
-ghost use Rattle.model.specs.Calls.{alloc, goodOffer, goodObject, mayRelease, phaseTest, bindTests, boundTests, requestTests, markTests, releaseTests, sharedTests, callTests};
+ghost use Rattle.model.specs.Calls.{alloc, goodOffer, goodObject, mayLeave, mayRelease, phaseTest, bindTests, leaveTests, boundTests, requestTests, markTests, releaseTests, sharedTests, callTests};
 ghost use Rattle.model.specs.Promise.{lend};
 ghost use Rattle.native_ms.specs.Space.{inBlock};
 ghost use Rattle.native_ms.specs.Checked.{lentTests, binAfter};
@@ -98,6 +98,29 @@ pub(crate) fn check_bind(w: &[usize], holder: usize) -> Tested
             Tested::Passed
         }
     }
+}
+
+// A holder may leave while Running or Marking.
+fn may_leave(w: &[usize]) -> bool
+    ensures { λ r. ⌜ r ≡ mayLeave (view (now (w .entry))) ⌝ }
+{
+    let f = tables::phase(w);
+    if f == global::RUNNING {
+        return true;
+    }
+    f == global::MARKING
+}
+
+pub(crate) fn check_leave(w: &[usize], holder: usize) -> Tested
+    ensures { λ r. ⌜ r ≡ leaveTests (view (now (w .entry))) holder ⌝ }
+{
+    if !may_leave(w) {
+        return Tested::Refused(Refusal::WrongPhase);
+    }
+    if !global::is_bound(w, holder) {
+        return Tested::Refused(Refusal::BadHolder);
+    }
+    Tested::Passed
 }
 
 pub(crate) fn check_bound(w: &[usize], holder: usize) -> Tested

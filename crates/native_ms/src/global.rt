@@ -3,7 +3,8 @@
 //
 // | call                    | phase              | after                        |
 // |-------------------------|--------------------|------------------------------|
-// | bind, destroy           | Running            | Running                      |
+// | bind                    | Running            | Running                      |
+// | destroy                 | Running, Marking   | the same                     |
 // | prepare                 | Running            | Marking                      |
 // | mark                    | Marking            | Marking                      |
 // | release, shared release | Marking, Releasing | Releasing; the last: Running |
@@ -198,12 +199,13 @@ fn abandon_blocks(p: Params, w: &mut [usize], to: usize, from: usize) -> usize
     n
 }
 
-// Hands a holder's lists to abandoned; the holder is bound no more. The answer is how many blocks it left behind.
+// Hands a holder's lists to abandoned, where the shared release treats them; the holder is bound no more. The answer is how many
+// blocks it left behind.
 pub(crate) fn do_destroy(p: Params, w: &mut [usize], holder: usize) -> DestroyAnswer
     requires { ⌜ goodParams p ≡ true ⌝ }
     ensures { λ r. ⌜ ((s m h : List ℕ) → Does p (tablesOf (view (now (w .entry))) s m) h (destroy holder) (destroyReply r) (tablesOf (view (now (w .exit))) s m) h) ⌝ }
 {
-    match checks::check_bound(w, holder) {
+    match checks::check_leave(w, holder) {
         Tested::Refused(r) => DestroyAnswer::Refused(r),
         Tested::Passed => {
             let from = address::local_sets(holder);

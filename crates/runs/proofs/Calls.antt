@@ -24,7 +24,7 @@ use Rattle.laws.proofs.Base.{and-left, and-right, if-cases}
 use Rattle.laws.proofs.Params.{Bounds, good-bounds}
 use Rattle.laws.proofs.Good.{Good, good}
 use Rattle.laws.proofs.Classes.{Chosen, chosen, cell-in-block, request, fits-raised, object-in-cell}
-use Rattle.laws.proofs.Tests.{Asked, bound-passed, alloc-passed, mark-passed, release-passed, shared-passed, plan-cases}
+use Rattle.laws.proofs.Tests.{Asked, leave-passed, alloc-passed, mark-passed, release-passed, shared-passed, plan-cases}
 use Rattle.runs.proofs.Steps.{shadowEvents, EventsOk}
 use Rattle.runs.proofs.Plans.{bookFor, Serves, Inv, Taking, EndOk, Planned, refuses-planned, bind-planned, destroy-planned, prepare-planned, mark-planned, release-planned, shared-planned}
 use Rattle.runs.proofs.AllocPlan.{alloc-planned}
@@ -64,7 +64,7 @@ module _ (p : Params) (fine : goodParams p ≡ true) where
     unfolding callTests planPassed
     planned-passed (bind d) s e = bind-planned p B t h sh bk I d
     planned-passed (destroy d) s e =
-        let r = bound-range (t .words) d (bound-passed (t .words) d e .1) in
+        let r = bound-range (t .words) d (leave-passed (t .words) d e .1) in
         destroy-planned p B t h sh bk I d (r .0) (r .1) _
     planned-passed (alloc d size align offset offer) s e =
         planned-alloc d size align offset offer s (alloc-passed p t d size align offset offer e)

@@ -1,12 +1,15 @@
 -- An example run that meets the premises of demand 3, computed on the machine turn by turn: two cells of one block are handed
 -- out, a byte is written into the first, a collection marks that one alone, and the alloc after it sweeps the block. The first
 -- cell is kept. The second is lost, and its bytes are handed out again in the same call, as another cell.
+--
+-- A second run, with the same first turns, meets those of `MarkedStays`: the holder leaves after the mark, the shared release is
+-- first and last, and another holder's alloc sweeps the block. The first cell, the departed holder's, is kept; the second is lost.
 use Prim.Native.Nat.{ℕ}
 use native.Mathlib.Omega.{arith}
 use mathlib.Core.Path.{_≡_, refl, sym, ap, _∙_, subst}
-use mathlib.Core.Logic.{inl, inr, ⊎-elim}
-use mathlib.Core.Bool.{Bool, true, false, not}
-use mathlib.Core.List.{List, [], _∷_, headD}
+use mathlib.Core.Logic.{_≢_, inl, inr, ⊎-elim}
+use mathlib.Core.Bool.{Bool, true, false, not, _&&_}
+use mathlib.Core.List.{List, [], _∷_, _++_, headD}
 use lib.Count.{leadingZeros}
 use lib.ListN.{set, replicate}
 use Rattle.model.specs.declared.Params.{Params}
@@ -23,12 +26,14 @@ use Rattle.model.specs.Events.{Event, swept, released, taken, eventHeap, events
 use Rattle.model.specs.FreeListAllocator.{findFreeBlockWith, recycleLocalBlocks, acquireAbandoned, acquireFresh, findBlock}
 use Rattle.model.specs.Global.{freshWords, freshTables, isHolder, isBound, bindHolder, abandonBin, abandonBlocks, abandonedBin, abandonedBelow, abandonedBlocks, destroyHolder, unmarkedState, prepared, markPlace, releaseFrom, releaseBlocks, appendTo, releaseBin, releaseHolder, sweepLaterBin, sweepLater, hasReleased, allReleased, partReleased, merged}
 use Rattle.model.specs.Sound.{stateOf, stateKnown, blockClear, listNamed, binNamed, setNamed, onListNamed, sizeOk, linkOk, tlsOk, blockSound, linkedFrom, linked, ownerEmpty, unboundEmpty, inGcEmpty, phaseKnown, flagsKnown, releasedFew, releasedSome, releasedEmpty, sound}
-use Rattle.model.specs.Calls.{answered, Call, bind, alloc, prepare, mark, release, sharedRelease, refusalNumber, goodRequest, tooBig, goodOffer, goodObject, mayRelease, andThen, phaseTest, bindTests, boundTests, requestTests, markTests, releaseTests, sharedTests, callTests, takePlan, releasePlan, planPassed, ifPassed, planSound, plan, takeCell, finish, step, tablesIn, lentOf, call, setUp}
+use Rattle.model.specs.Calls.{answered, Call, bind, destroy, alloc, prepare, mark, release, sharedRelease, refusalNumber, goodRequest, tooBig, goodOffer, goodObject, mayLeave, mayRelease, andThen, phaseTest, bindTests, leaveTests, boundTests, requestTests, markTests, releaseTests, sharedTests, callTests, takePlan, releasePlan, planPassed, ifPassed, planSound, plan, takeCell, finish, step, tablesIn, lentOf, call, setUp}
 use Rattle.model.specs.Census.{censusParams, letter, awaitsSweep, printedChain}
-use Rattle.model.specs.Runs.{Cell, frees, entered, bookEvent, bookEvents, bookAnswer, takerOf, bookAfter, Write, written, Turn, State, foundBy, stepOf, resultOf, bookOf, turned, begun, covers, Holds, HoldersWrite, staysHeld, byteAt, RunKeeps, Demand3}
+use Rattle.model.specs.Runs.{Cell, frees, entered, bookEvent, bookEvents, bookAnswer, takerOf, bookAfter, Write, written, Turn, State, foundBy, stepOf, resultOf, bookOf, turned, begun, covers, Holds, HoldersWrite, unmarked, staysHeld, byteAt, RunKeeps, Demand3}
+use Rattle.model.specs.Spans.{afterTurns, phaseIn, isPrepare, NoPrepare, NotLost, MarkedStays}
 use Rattle.model.specs.Port.{PortRun, turnsOf, portBegun, PortKeeps, ran, Demand3OfThePort}
 use Rattle.soundness.proofs.Printed.{printed-is-built}
 use Rattle.runs.proofs.Demand3.{demand3}
+use Rattle.runs.proofs.SpanLaws.{marked-stays}
 use Rattle.runs.proofs.Port.{ran-chain, ran-turns, demand3-of-the-port}
 
 -- ---- the run
@@ -58,6 +63,18 @@ turns =
     quiet (bind 1) ∷ quiet (ask (Fresh (record { 0 = 2 }))) ∷ quiet (ask Nothing)
     ∷ record { writes = writing ∷ []; call = prepare } ∷ quiet (mark 27648 2) ∷ quiet (release 1) ∷ quiet sharedRelease
     ∷ quiet (ask Nothing) ∷ []
+
+-- the second run, up to where releasing begins, and from there
+unfoldable pub beforeReleasing : List Turn
+beforeReleasing =
+    quiet (bind 1) ∷ quiet (ask (Fresh (record { 0 = 2 }))) ∷ quiet (ask Nothing)
+    ∷ record { writes = writing ∷ []; call = prepare } ∷ quiet (mark 27648 2) ∷ quiet (destroy 1) ∷ []
+
+abbrev otherAsk : Call
+otherAsk = alloc 2 1024 8 0 Nothing
+
+unfoldable pub afterReleasing : List Turn
+afterReleasing = quiet (bind 2) ∷ quiet otherAsk ∷ []
 
 -- ---- what stands between its turns
 
@@ -148,10 +165,28 @@ unfoldable pub after₈ : State
 unfolding standing states none oneMark noMarks heap₈ heap₄ heap₃ heap₂ heap₀
 after₈ = stands (standing 24 0 none 25600) (states 254) oneMark heap₈ (second false ∷ first true ∷ []) (27648 ∷ [])
 
+-- after the fifth turn holder 1 leaves; then the shared release, holder 2, and its alloc. List 1200 is the abandoned available
+-- list of this class, 171 holder 2's
+pub left₆ : State
+left₆ = stands (setBound 0 0 (standing 1200 1 none 25600)) (states 254) oneMark heap₄ (second true ∷ first true ∷ []) (27648 ∷ [])
+
+left₇ : State
+left₇ = stands (setBound 0 0 (standing 1249 0 none 25600)) (states 254) oneMark heap₄ (second true ∷ first true ∷ []) (27648 ∷ [])
+
+pub left₈ : State
+left₈ = stands (setBound 1 1 (setBound 0 0 (standing 1249 0 none 25600))) (states 254) oneMark heap₄ (second true ∷ first true ∷ []) (27648 ∷ [])
+
+-- the cell that holder 2 gets where the second stood
+abbrev third : Cell
+third = record { start = 26624; size = 1024; holder = 2; old = false }
+
+pub left₉ : State
+left₉ = stands (setTls 2 2 (setBound 1 1 (setBound 0 0 (standing 171 0 none 25600)))) (states 254) oneMark heap₈ (third ∷ first true ∷ []) (27648 ∷ [])
+
 -- ---- each turn, computed. Who opens `machine` opens all that its line names
 
 machine : Params
-unfolding begun turned foundBy stepOf resultOf bookOf written takerOf bookAfter bookAnswer bookEvents bookEvent entered frees leadingZeros allBelow anyBelow member filter sumBelow eachBelow flag powerOfTwo lowerOk biased plusLower minusLower heapBytes heapEnd goodParams wordCount fits start blockAt inHeap isStart listOf listWord localSets available unswept consumed loadBytes bytesOf overwrite load store zeroed bitOf setBit markIndex marked setMark cleared view flat setFirst setLast setBound setReleased setNext setPrev setFree setSize setList setTls setPhase withReleased fours classWords cellBytes wordsIn highestBit binInOctave binOf raised shift alignAllocation push pop popHead removeBetween remove relabel link append walk blocksOn cellCount isCell cellsDown headD linkAll initChain initBlock simple keeps sweepChain sweptWords clearBlock eventHeap eventsHeap isSweep isRelease sweeps releases findFreeBlockWith recycleLocalBlocks acquireAbandoned acquireFresh findBlock freshWords freshTables isHolder isBound bindHolder abandonBin abandonBlocks destroyHolder unmarkedState prepared markPlace releaseFrom releaseBlocks appendTo releaseBin releaseHolder sweepLaterBin sweepLater hasReleased allReleased partReleased stateOf stateKnown blockClear listNamed binNamed setNamed onListNamed sizeOk linkOk tlsOk blockSound linkedFrom linked ownerEmpty unboundEmpty inGcEmpty phaseKnown flagsKnown releasedFew releasedSome releasedEmpty sound refusalNumber goodRequest tooBig goodOffer goodObject mayRelease andThen phaseTest bindTests boundTests requestTests markTests releaseTests sharedTests callTests takePlan releasePlan planPassed ifPassed planSound plan takeCell finish step call setUp censusParams after₀ after₁ after₂ after₃ after₄ after₅ after₆ after₇ after₈ standing states none one noMarks oneMark heap₀ heap₂ heap₃ heap₄ heap₈ lent chainFrom freeChain letter awaitsSweep printedChain appended abandonedBin abandonedBelow abandonedBlocks merged
+unfolding begun turned foundBy stepOf resultOf bookOf written takerOf bookAfter bookAnswer bookEvents bookEvent entered frees leadingZeros allBelow anyBelow member filter sumBelow eachBelow flag powerOfTwo lowerOk biased plusLower minusLower heapBytes heapEnd goodParams wordCount fits start blockAt inHeap isStart listOf listWord localSets available unswept consumed loadBytes bytesOf overwrite load store zeroed bitOf setBit markIndex marked setMark cleared view flat setFirst setLast setBound setReleased setNext setPrev setFree setSize setList setTls setPhase withReleased fours classWords cellBytes wordsIn highestBit binInOctave binOf raised shift alignAllocation push pop popHead removeBetween remove relabel link append walk blocksOn cellCount isCell cellsDown headD linkAll initChain initBlock simple keeps sweepChain sweptWords clearBlock eventHeap eventsHeap isSweep isRelease sweeps releases findFreeBlockWith recycleLocalBlocks acquireAbandoned acquireFresh findBlock freshWords freshTables isHolder isBound bindHolder abandonBin abandonBlocks destroyHolder unmarkedState prepared markPlace releaseFrom releaseBlocks appendTo releaseBin releaseHolder sweepLaterBin sweepLater hasReleased allReleased partReleased stateOf stateKnown blockClear listNamed binNamed setNamed onListNamed sizeOk linkOk tlsOk blockSound linkedFrom linked ownerEmpty unboundEmpty inGcEmpty phaseKnown flagsKnown releasedFew releasedSome releasedEmpty sound refusalNumber goodRequest tooBig goodOffer goodObject mayRelease andThen phaseTest bindTests boundTests requestTests markTests releaseTests sharedTests callTests takePlan releasePlan planPassed ifPassed planSound plan takeCell finish step call setUp censusParams after₀ after₁ after₂ after₃ after₄ after₅ after₆ after₇ after₈ standing states none one noMarks oneMark heap₀ heap₂ heap₃ heap₄ heap₈ lent chainFrom freeChain letter awaitsSweep printedChain appended abandonedBin abandonedBelow abandonedBlocks merged mayLeave leaveTests left₆ left₇ left₈ left₉
 machine = censusParams
 
 set-up : begun p lent ≡ after₀
@@ -251,23 +286,18 @@ pub port-keeps : PortKeeps p (portBegun port) (port .made)
 unfolding Demand3OfThePort port
 port-keeps = demand3-of-the-port p port port set-up-answers set-up-answers port-writes port-writes refl .2
 
--- what stands after a row of turns
-unfoldable pub ended : Params → State → List Turn → State
-ended q s [] = s
-ended q s (u ∷ us) = ended q (turned q s u) us
+next : (q : Params) (s s′ z : State) (u : Turn) (us : List Turn) → turned q s u ≡ s′ → afterTurns q s′ us ≡ z → afterTurns q s (u ∷ us) ≡ z
+unfolding afterTurns
+next q s s′ z u us e f = ap (λ (x : State). afterTurns q x us) e ∙ f
 
-next : (q : Params) (s s′ z : State) (u : Turn) (us : List Turn) → turned q s u ≡ s′ → ended q s′ us ≡ z → ended q s (u ∷ us) ≡ z
-unfolding ended
-next q s s′ z u us e f = ap (λ (x : State). ended q x us) e ∙ f
-
-done : (q : Params) (s : State) → ended q s [] ≡ s
-unfolding ended
+done : (q : Params) (s : State) → afterTurns q s [] ≡ s
+unfolding afterTurns
 done q s = refl
 
-pub run-ends : ended p (begun p lent) turns ≡ after₈
+pub run-ends : afterTurns p (begun p lent) turns ≡ after₈
 unfolding turns
 run-ends =
-    ap (λ (x : State). ended p x turns) set-up
+    ap (λ (x : State). afterTurns p x turns) set-up
     ∙ next p _ _ _ _ _ turn₁ (next p _ _ _ _ _ turn₂ (next p _ _ _ _ _ turn₃ (next p _ _ _ _ _ turn₄ (next p _ _ _ _ _ turn₅
     (next p _ _ _ _ _ turn₆ (next p _ _ _ _ _ turn₇ (next p _ _ _ _ _ turn₈ (done p after₈))))))))
 
@@ -309,3 +339,105 @@ unfolding stepOf In
 as-printed =
     printed-is-built (tablesIn (after₇ .lent)) (foundBy p (after₇ .lent) (quiet (ask Nothing)) .heap) 1 1024 8 0 Nothing 2 _ waits
     (subst (In (swept 2 (26624 ∷ 25600 ∷ 24576 ∷ []))) (sym last-events) (inl refl))
+
+-- ---- R-10: the second run
+
+leave₆ : turned p after₅ (quiet (destroy 1)) ≡ left₆
+unfolding machine
+leave₆ = refl
+
+leave₇ : turned p left₆ (quiet sharedRelease) ≡ left₇
+unfolding machine
+leave₇ = refl
+
+leave₈ : turned p left₇ (quiet (bind 2)) ≡ left₈
+unfolding machine
+leave₈ = refl
+
+leave₉ : turned p left₈ (quiet otherAsk) ≡ left₉
+unfolding machine
+leave₉ = refl
+
+pub leaving-writes : HoldersWrite p (begun p lent) (beforeReleasing ++ (quiet sharedRelease ∷ afterReleasing))
+unfolding beforeReleasing afterReleasing
+leaving-writes =
+    subst (λ (x : State). HoldersWrite p x (beforeReleasing ++ (quiet sharedRelease ∷ afterReleasing))) (sym set-up)
+    (quiet-turn p _ _ _ _ turn₁ (quiet-turn p _ _ _ _ turn₂ (quiet-turn p _ _ _ _ turn₃
+    (writing-turn p _ _ _ _ _ held turn₄ (quiet-turn p _ _ _ _ turn₅ (quiet-turn p _ _ _ _ leave₆
+    (quiet-turn p _ _ _ _ leave₇ (quiet-turn p _ _ _ _ leave₈ (quiet-turn p _ _ _ _ leave₉ (nothing-left p left₉))))))))))
+
+-- where releasing begins
+pub stands-left : afterTurns p (begun p lent) beforeReleasing ≡ left₆
+unfolding beforeReleasing
+stands-left =
+    ap (λ (x : State). afterTurns p x beforeReleasing) set-up
+    ∙ next p _ _ _ _ _ turn₁ (next p _ _ _ _ _ turn₂ (next p _ _ _ _ _ turn₃ (next p _ _ _ _ _ turn₄ (next p _ _ _ _ _ turn₅
+    (next p _ _ _ _ _ leave₆ (done p left₆))))))
+
+not-and : (a b : Bool) → a ≡ false → (a && b) ≡ false
+not-and a b e = rw e
+
+no-prepare : (q : Params) (s s′ : State) (c : Call) (us : List Turn) → isPrepare c ≡ false → turned q s (quiet c) ≡ s′ → NoPrepare q s′ us
+    → NoPrepare q s (quiet c ∷ us)
+unfolding NoPrepare
+no-prepare q s s′ c us n e N = (not-and (isPrepare c) _ n, subst (λ (x : State). NoPrepare q x us) (sym e) N)
+
+none-prepares : (q : Params) (s : State) → NoPrepare q s []
+unfolding NoPrepare
+none-prepares q s = tt
+
+pub no-prepare-since : NoPrepare p left₆ (quiet sharedRelease ∷ afterReleasing)
+unfolding afterReleasing isPrepare
+no-prepare-since =
+    no-prepare p _ _ _ _ refl leave₇ (no-prepare p _ _ _ _ refl leave₈ (no-prepare p _ _ _ _ refl leave₉ (none-prepares p left₉)))
+
+marking-still : phaseIn left₆ ≡ 1
+unfolding machine
+marking-still = refl
+
+-- the shared release is first and last: Running follows at once
+running-again : phaseIn left₇ ≡ 0
+unfolding machine
+running-again = refl
+
+first-marked : unmarked p (left₆ .book) (first true) ≡ false
+unfolding machine unmarked
+first-marked = refl
+
+second-unmarked : unmarked p (left₆ .book) (second true) ≡ true
+unfolding machine unmarked
+second-unmarked = refl
+
+first-held : In (first true) (left₆ .book .cells)
+unfolding left₆ In
+first-held = inr (inl refl)
+
+-- so the theorem speaks of this run: the first cell, the departed holder's, isn't lost
+pub left-stays : NotLost p (afterTurns p (begun p lent) beforeReleasing) (quiet sharedRelease ∷ afterReleasing) (first true)
+unfolding MarkedStays
+left-stays =
+    marked-stays p lent beforeReleasing (quiet sharedRelease) afterReleasing (first true) set-up-answers leaving-writes
+    (subst (λ (x : State). phaseIn x ≡ 1) (sym stands-left) marking-still)
+    (subst (λ (x : State). phaseIn (turned p x (quiet sharedRelease)) ≢ 1) (sym stands-left) leaves-marking)
+    (subst (λ (x : State). In (first true) (x .book .cells)) (sym stands-left) first-held)
+    (subst (λ (x : State). unmarked p (x .book) (first true) ≡ false) (sym stands-left) first-marked)
+    (subst (λ (x : State). NoPrepare p x (quiet sharedRelease ∷ afterReleasing)) (sym stands-left) no-prepare-since)
+  where
+    leaves-marking : phaseIn (turned p left₆ (quiet sharedRelease)) ≢ 1
+    leaves-marking e = omega (arith, sym (subst (λ (x : State). phaseIn x ≡ 1) leave₇ e) ∙ running-again)
+
+-- the second is, by the sweep of holder 2's alloc
+abbrev otherEvents : List Event
+otherEvents = stepOf p left₈ (quiet otherAsk) .events
+
+pub other-events : otherEvents ≡ swept 2 (26624 ∷ 25600 ∷ 24576 ∷ []) ∷ taken 26624 1024 ∷ []
+unfolding machine
+other-events = refl
+
+pub left-lost : staysHeld p otherEvents (second true) ≡ false
+unfolding staysHeld any frees member
+left-lost = rw other-events
+
+pub left-after : left₉ .book .cells ≡ third ∷ first true ∷ []
+unfolding left₉
+left-after = refl

@@ -9,5 +9,6 @@ pub mod Calls
 pub mod Counts
 pub mod Demand3
 pub mod Port
+pub mod SpanLaws
 pub mod Example
 pub mod Listings

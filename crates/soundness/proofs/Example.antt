@@ -21,7 +21,7 @@ use Rattle.model.specs.Events.{eventHeap, eventsHeap, isSweep, isRelease, sweep
 use Rattle.model.specs.FreeListAllocator.{findFreeBlockWith, recycleLocalBlocks, acquireAbandoned, acquireFresh, findBlock}
 use Rattle.model.specs.Global.{freshWords, freshTables, isHolder, isBound, bindHolder, abandonBin, abandonBlocks, abandonedBin, abandonedBelow, abandonedBlocks, destroyHolder, unmarkedState, prepared, markPlace, releaseFrom, releaseBlocks, appendTo, releaseBin, releaseHolder, sweepLaterBin, sweepLater, hasReleased, allReleased, partReleased, merged}
 use Rattle.model.specs.Sound.{stateOf, stateKnown, blockClear, listNamed, binNamed, setNamed, onListNamed, sizeOk, linkOk, tlsOk, blockSound, linkedFrom, linked, ownerEmpty, unboundEmpty, inGcEmpty, phaseKnown, flagsKnown, releasedFew, releasedSome, releasedEmpty, sound}
-use Rattle.model.specs.Calls.{Reply, Call, alloc, mark, release, Result, refusalNumber, goodRequest, tooBig, goodOffer, goodObject, mayRelease, andThen, phaseTest, bindTests, boundTests, requestTests, markTests, releaseTests, sharedTests, callTests, takePlan, releasePlan, planPassed, ifPassed, planSound, plan, takeCell, finish, step, refused, answered, call, setUp, destroy, sharedRelease}
+use Rattle.model.specs.Calls.{Reply, Call, alloc, mark, release, Result, refusalNumber, goodRequest, tooBig, goodOffer, goodObject, mayRelease, andThen, phaseTest, bindTests, boundTests, requestTests, markTests, releaseTests, sharedTests, callTests, takePlan, releasePlan, planPassed, ifPassed, planSound, plan, takeCell, finish, step, refused, answered, call, setUp, destroy, sharedRelease, mayLeave, leaveTests}
 use Rattle.model.specs.Census.{censusParams}
 use Rattle.model.specs.Refusals.{OfAlloc, KeptExhausted, KeptBadLink, RefusalKeeps, madeUnallocated, blocksOf, wentOver, CountsReleased, ReleasedCounts, DestroyedCounts}
 use Rattle.soundness.proofs.Refused.{refusal-keeps}
@@ -69,7 +69,7 @@ ask = alloc 2 1024 8 0 Nothing
 
 -- who opens `machine` opens all that its line names
 machine : Params
-unfolding leadingZeros allBelow anyBelow member filter eachBelow flag powerOfTwo lowerOk biased plusLower minusLower heapBytes heapEnd goodParams wordCount fits start blockAt inHeap isStart listOf listWord localSets available unswept consumed loadBytes bytesOf overwrite load store zeroed bitOf setBit markIndex marked setMark cleared view flat setFirst setLast setBound setReleased setNext setPrev setFree setSize setList setTls setPhase withReleased fours classWords cellBytes wordsIn highestBit binInOctave binOf raised shift alignAllocation push pop popHead removeBetween remove relabel link append walk blocksOn cellCount isCell cellsDown headD linkAll initChain initBlock simple keeps sweepChain sweptWords clearBlock eventHeap eventsHeap isSweep isRelease sweeps releases findFreeBlockWith recycleLocalBlocks acquireAbandoned acquireFresh findBlock freshWords freshTables isHolder isBound bindHolder abandonBin abandonBlocks destroyHolder unmarkedState prepared markPlace releaseFrom releaseBlocks appendTo releaseBin releaseHolder sweepLaterBin sweepLater hasReleased allReleased partReleased stateOf stateKnown blockClear listNamed binNamed setNamed onListNamed sizeOk linkOk tlsOk blockSound linkedFrom linked ownerEmpty unboundEmpty inGcEmpty phaseKnown flagsKnown releasedFew releasedSome releasedEmpty sound refusalNumber goodRequest tooBig goodOffer goodObject mayRelease andThen phaseTest bindTests boundTests requestTests markTests releaseTests sharedTests callTests takePlan releasePlan planPassed ifPassed planSound plan takeCell finish step call setUp censusParams heap₀ noMarks allMarked standing lent sumBelow appended abandonedBin abandonedBelow abandonedBlocks merged
+unfolding leadingZeros allBelow anyBelow member filter eachBelow flag powerOfTwo lowerOk biased plusLower minusLower heapBytes heapEnd goodParams wordCount fits start blockAt inHeap isStart listOf listWord localSets available unswept consumed loadBytes bytesOf overwrite load store zeroed bitOf setBit markIndex marked setMark cleared view flat setFirst setLast setBound setReleased setNext setPrev setFree setSize setList setTls setPhase withReleased fours classWords cellBytes wordsIn highestBit binInOctave binOf raised shift alignAllocation push pop popHead removeBetween remove relabel link append walk blocksOn cellCount isCell cellsDown headD linkAll initChain initBlock simple keeps sweepChain sweptWords clearBlock eventHeap eventsHeap isSweep isRelease sweeps releases findFreeBlockWith recycleLocalBlocks acquireAbandoned acquireFresh findBlock freshWords freshTables isHolder isBound bindHolder abandonBin abandonBlocks destroyHolder unmarkedState prepared markPlace releaseFrom releaseBlocks appendTo releaseBin releaseHolder sweepLaterBin sweepLater hasReleased allReleased partReleased stateOf stateKnown blockClear listNamed binNamed setNamed onListNamed sizeOk linkOk tlsOk blockSound linkedFrom linked ownerEmpty unboundEmpty inGcEmpty phaseKnown flagsKnown releasedFew releasedSome releasedEmpty sound refusalNumber goodRequest tooBig goodOffer goodObject mayRelease andThen phaseTest bindTests boundTests requestTests markTests releaseTests sharedTests callTests takePlan releasePlan planPassed ifPassed planSound plan takeCell finish step call setUp censusParams heap₀ noMarks allMarked standing lent sumBelow appended abandonedBin abandonedBelow abandonedBlocks merged mayLeave leaveTests
 machine = censusParams
 
 -- ---- a mark in Running, of a block on the available list (24) of holder 1: nothing changes

@@ -234,11 +234,11 @@ module _ (w : Words) where
       whose zero l e = refl
       whose (suc i) l e = or-right (eqb (suc i) 0) (word-bound i (omega arith) (F .whose i (omega arith) e))
 
--- ---- calls in Running
+-- ---- calls in Running, and destroy
 
--- from Running to Running or Marking, released marks unchanged: what is left to show is of bound holders and of in-gc
+-- Running or Marking before and after, released marks unchanged: what is left to show is of bound holders and of in-gc
 quiet-flags :
-    (w w′ : Words) → FlagFacts w → w .phase ≡ 0 → w′ .released ≡ w .released → w′ .phase ≤ 1
+    (w w′ : Words) → FlagFacts w → w .phase ≤ 1 → w′ .released ≡ w .released → w′ .phase ≤ 1
     → ((i : ℕ) → i < 8 → getD (w′ .bound) i 0 ≤ 1)
     → ((i : ℕ) → i < 8 → getD (w′ .bound) i 0 ≢ 1 → Empty w′ i)
     → Empty w′ 9 → Flags w′
@@ -268,7 +268,7 @@ set-known l j v i lv li lj = set-all l j v (λ x. x ≤ 1) i lj (λ y. lv) (λ n
 pub bind-flags : {n : ℕ} (w : Words) (h : ℕ) → Sized n w → Flags w → w .phase ≡ 0 → isHolder h ≡ true → Flags (setBound (h - 1) 1 w)
 unfolding setBound Empty
 bind-flags w h z G run is =
-    quiet-flags w (setBound (h - 1) 1 w) F run refl (omega arith)
+    quiet-flags w (setBound (h - 1) 1 w) F (omega arith) refl (omega arith)
     (λ i l. set-known (w .bound) (h - 1) 1 i (omega arith) (F .bound i l) low)
     (λ i l ne. F .unbound i l (λ e. ne (set-keeps (w .bound) (h - 1) 1 i 1 refl e low)))
     (F .in-gc (omega arith))
@@ -284,13 +284,13 @@ pub prepare-flags : (w : Words) → Flags w → w .phase ≡ 0 → Flags (setPha
 unfolding setPhase Empty
 prepare-flags w G run =
     let F : FlagFacts w = flag-facts w G in
-    quiet-flags w (setPhase 1 w) F run refl (omega arith) (F .bound) (F .unbound) (F .in-gc (omega arith))
+    quiet-flags w (setPhase 1 w) F (omega arith) refl (omega arith) (F .bound) (F .unbound) (F .in-gc (omega arith))
 
 -- alloc: only lists of a bound holder and abandoned ones change
 pub same-flags : (w w′ : Words) → Flags w → w .phase ≡ 0 → (h : ℕ) → isBound w h ≡ true → Framed (h - 1) 8 w w′ → Flags w′
 unfolding Empty
 same-flags w w′ G run h is R =
-    quiet-flags w w′ F run (R .released) (omega (arith, R .phase))
+    quiet-flags w w′ F (omega arith) (R .released) (omega (arith, R .phase))
     (λ i l. rw (R .bound) (F .bound i l))
     (λ i l ne. still i l (rw (R .bound) at ne))
     (λ m e. R .first m (omega (arith, B .high, B .low)) (omega arith) ∙ F .in-gc (omega arith) m e)
@@ -307,7 +307,7 @@ same-flags w w′ G run h is R =
 
 -- destroy: the holder's lists go behind the abandoned ones
 pub destroy-flags :
-    (p : Params) (w : Words) (h : ℕ) → Sized (p .blocks) w → Flags w → w .phase ≡ 0 → isBound w h ≡ true
+    (p : Params) (w : Words) (h : ℕ) → Sized (p .blocks) w → Flags w → w .phase ≤ 1 → isBound w h ≡ true
     → Flags (setBound (h - 1) 0 (abandonBlocks p abandoned (localSets h) w))
 unfolding setBound localSets Empty
 destroy-flags p w h z G run is =

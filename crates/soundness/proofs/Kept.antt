@@ -28,7 +28,7 @@ use Rattle.laws.proofs.Base.{and-left, and-right, if-cases, if-false, or-cases}
 use Rattle.laws.proofs.Classes.{chosen, fits-raised}
 use Rattle.laws.proofs.Below.{true-not-false, and-both}
 use Rattle.laws.proofs.Params.{Bounds}
-use Rattle.laws.proofs.Tests.{phase-passed, bind-passed, bound-passed, alloc-passed, mark-passed, release-passed, plan-cases}
+use Rattle.laws.proofs.Tests.{phase-passed, bind-passed, leave-passed, alloc-passed, mark-passed, release-passed, plan-cases}
 use Rattle.laws.proofs.Tables.{Sized, sized-same, kept-lengths, sized-view, lengths-setBound, lengths-setFree, by-lt}
 use Rattle.soundness.proofs.SoundLists.{Good, sound-good, good-blocks, good-linked}
 use Rattle.soundness.proofs.Owners.{holder-framed, holder-empties, shared-framed}
@@ -129,7 +129,7 @@ module _ (p : Params) (B : Bounds p) where
         })
 
     -- destroy: the holder's lists go behind the abandoned ones
-    destroy-kept : (h : ℕ) → t .words .phase ≡ 0 → isBound (t .words) h ≡ true → Kept (destroyHolder p h t)
+    destroy-kept : (h : ℕ) → t .words .phase ≤ 1 → isBound (t .words) h ≡ true → Kept (destroyHolder p h t)
     unfolding destroyHolder localSets setBound
     destroy-kept h e o =
         let P = bound-at (t .words) h o in
@@ -232,7 +232,7 @@ module _ (p : Params) (B : Bounds p) where
     passed-kept : (c : Call) → callTests p t c ≡ Passed → Leaves (planPassed p t c)
     unfolding callTests planPassed takePlan
     passed-kept (bind h) e = let b = bind-passed (t .words) h e in bind-kept t K h (b .0) (b .1)
-    passed-kept (destroy h) e = let b = bound-passed (t .words) h e in destroy-kept t K h (b .0) (b .1)
+    passed-kept (destroy h) e = let b = leave-passed (t .words) h e in destroy-kept t K h (b .0) (b .1)
     passed-kept (alloc h size align offset offer) e =
         let a = alloc-passed p t h size align offset offer e in
         let n = chosen p (raised p size align) (omega (arith, fits-raised p size align (a .small), B .bytes-high)) in

@@ -32,7 +32,7 @@ use Rattle.laws.proofs.Lent.{fits-parts}
 use Rattle.laws.proofs.Stores.{set-at, set-off}
 use Rattle.laws.proofs.Pigeon.{sum-same, sum-zero, sum-add, sum-one}
 use Rattle.laws.proofs.Walks.{releasedOne, blocks-keep-any, bins-keep-any, later-keeps-any}
-use Rattle.laws.proofs.Tests.{bound-passed, release-passed, plan-cases}
+use Rattle.laws.proofs.Tests.{leave-passed, release-passed, plan-cases}
 use Rattle.soundness.proofs.SoundLists.{sound-good}
 use Rattle.soundness.proofs.Held.{Held}
 use Rattle.soundness.proofs.Flags.{BoundAt, bound-at}
@@ -225,7 +225,7 @@ module _ (p : Params) (l : Lent) where
 
     destroy-counts : (h : ℕ) → (fits p l ≡ true → sound p (tablesIn l) ≡ true → isBound w h ≡ true → Planned v (destroyed h)) → Counts v (call p l (destroy h))
     unfolding callTests planPassed
-    destroy-counts h k = call-counts (destroy h) (λ e s q. k e s (bound-passed w h q .1))
+    destroy-counts h k = call-counts (destroy h) (λ e s q. k e s (leave-passed w h q .1))
 
 pub destroyed-counted : DestroyedCounts
 unfolding DestroyedCounts
