@@ -17,7 +17,7 @@ use Rattle.model.specs.Global.{freshTables}
 use Rattle.model.specs.Events.{Event}
 use Rattle.model.specs.Calls.{refusalNumber, Reply, answered, Call, Result, lentOf, badSetup, call, setUp}
 use Rattle.model.specs.Answers.{saidOf}
-use Rattle.model.specs.Runs.{written, Turn, State, foundBy, stepOf, resultOf, turned, begun, Seen, seen, trace, Demand3}
+use Rattle.model.specs.Runs.{written, Turn, State, foundBy, stepOf, resultOf, turned, begun, Seen, seen, seenIn, Demand3}
 use Rattle.model.specs.Exports.{encoded, LentBytes, decodedLent, Export, answerBytes, shown, Inner, asks, lengthsOk, exported, paramsOf, flagsOk, called, HostTurn, foundBytes, hostCall, hostRun, machineRun, AnswersFit, RunThroughExports, HostSees, hostSees, Demand3ThroughExports}
 use Rattle.laws.proofs.Below.{test, and-both}
 use Rattle.laws.proofs.Params.{good-bounds}
@@ -149,8 +149,8 @@ shown-read a r es =
     twice true x y = refl
     twice false x y = refl
 
-machine-read : (p : Params) (us : List HostTurn) (s : State) → map hostSees (machineRun p s us) ≡ map readOf (trace p s (map (λ (u : HostTurn). u .turn) us))
-unfolding machineRun trace
+machine-read : (p : Params) (us : List HostTurn) (s : State) → map hostSees (machineRun p s us) ≡ map readOf (seenIn p s (map (λ (u : HostTurn). u .turn) us))
+unfolding machineRun seenIn
 machine-read p [] s = refl
 machine-read p (u ∷ us) s =
     λ i. shown-read (u .answer) (resultOf p s (u .turn)) (stepOf p s (u .turn) .events) i ∷ machine-read p us (turned p s (u .turn)) i

@@ -4,6 +4,7 @@ use crate::codec;
 use model::Ask;
 use model::Block;
 use model::Given;
+use model::HEAD_WORDS;
 use model::Offer;
 use model::Params;
 use model::Said;
@@ -30,13 +31,11 @@ const NO_OFFER: usize = 18446744073709551615;
 
 // The words of the largest tables: those of lists, phase and holders, and those of each block. A block has six; the room is for
 // seven, which request R-7 will need.
-const FIXED_WORDS: usize = 2958;
-
 const MOST_BLOCK_WORDS: usize = 7;
 
 const MOST_BLOCKS: usize = 1024;
 
-const MOST_WORDS: usize = FIXED_WORDS + MOST_BLOCK_WORDS * MOST_BLOCKS;
+const MOST_WORDS: usize = HEAD_WORDS + MOST_BLOCK_WORDS * MOST_BLOCKS;
 
 // Makes the inner call.
 fn enter(

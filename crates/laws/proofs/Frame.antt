@@ -31,71 +31,40 @@ pub record LinksOnly (t t′ : Words) : Type 0 where
 pub links-refl : (t : Words) → LinksOnly t t
 links-refl t = record { phase = refl; bound = refl; released = refl; free = refl; size = refl; tls = refl; lengths = refl }
 
+-- a store that leaves all these leaves them still
+stored : {t u : Words} (v : Words) → LinksOnly t u → v .phase ≡ u .phase → v .bound ≡ u .bound → v .released ≡ u .released
+    → v .free ≡ u .free → v .size ≡ u .size → v .tls ≡ u .tls → lengths v ≡ lengths u → LinksOnly t v
+stored v a ph bo re fr si tl le =
+    record {
+      phase = ph ∙ a .phase;
+      bound = bo ∙ a .bound;
+      released = re ∙ a .released;
+      free = fr ∙ a .free;
+      size = si ∙ a .size;
+      tls = tl ∙ a .tls;
+      lengths = le ∙ a .lengths;
+    }
+
 -- one link or list word stored
 pub first-links : {t u : Words} (i v : ℕ) → LinksOnly t u → LinksOnly t (setFirst i v u)
 unfolding setFirst
-first-links {t} {u} i v a =
-    record {
-      phase = a .phase;
-      bound = a .bound;
-      released = a .released;
-      free = a .free;
-      size = a .size;
-      tls = a .tls;
-      lengths = lengths-setFirst i v u ∙ a .lengths;
-    }
+first-links i v a = stored _ a refl refl refl refl refl refl (lengths-setFirst i v _)
 
 pub last-links : {t u : Words} (i v : ℕ) → LinksOnly t u → LinksOnly t (setLast i v u)
 unfolding setLast
-last-links {t} {u} i v a =
-    record {
-      phase = a .phase;
-      bound = a .bound;
-      released = a .released;
-      free = a .free;
-      size = a .size;
-      tls = a .tls;
-      lengths = lengths-setLast i v u ∙ a .lengths;
-    }
+last-links i v a = stored _ a refl refl refl refl refl refl (lengths-setLast i v _)
 
 pub next-links : {t u : Words} (i v : ℕ) → LinksOnly t u → LinksOnly t (setNext i v u)
 unfolding setNext
-next-links {t} {u} i v a =
-    record {
-      phase = a .phase;
-      bound = a .bound;
-      released = a .released;
-      free = a .free;
-      size = a .size;
-      tls = a .tls;
-      lengths = lengths-setNext i v u ∙ a .lengths;
-    }
+next-links i v a = stored _ a refl refl refl refl refl refl (lengths-setNext i v _)
 
 pub prev-links : {t u : Words} (i v : ℕ) → LinksOnly t u → LinksOnly t (setPrev i v u)
 unfolding setPrev
-prev-links {t} {u} i v a =
-    record {
-      phase = a .phase;
-      bound = a .bound;
-      released = a .released;
-      free = a .free;
-      size = a .size;
-      tls = a .tls;
-      lengths = lengths-setPrev i v u ∙ a .lengths;
-    }
+prev-links i v a = stored _ a refl refl refl refl refl refl (lengths-setPrev i v _)
 
 pub list-links : {t u : Words} (i v : ℕ) → LinksOnly t u → LinksOnly t (setList i v u)
 unfolding setList
-list-links {t} {u} i v a =
-    record {
-      phase = a .phase;
-      bound = a .bound;
-      released = a .released;
-      free = a .free;
-      size = a .size;
-      tls = a .tls;
-      lengths = lengths-setList i v u ∙ a .lengths;
-    }
+list-links i v a = stored _ a refl refl refl refl refl refl (lengths-setList i v _)
 
 -- either way of a test
 pub if-links : {t x y : Words} (b : Bool) → LinksOnly t x → LinksOnly t y → LinksOnly t (if b then x else y)
@@ -137,10 +106,17 @@ module _ (p : Params) where
       (if-links (eqb (getD (t .next) b 0) 0) (list-links _ _ (last-links _ _ (next-links _ _ a)))
       (prev-links _ _ (next-links _ _ a)))
 
-  relabel-links : {t₀ : Words} (k l a : ℕ) (t : Words) → LinksOnly t₀ t → LinksOnly t₀ (relabel k p l a t)
+  -- what each list word stored keeps, relabel keeps
+  pub relabel-keeps :
+      (P : Words → Type 0) (l : ℕ) → ((b : ℕ) (t : Words) → P t → P (setList b (listWord l) t))
+      → (k a : ℕ) (t : Words) → P t → P (relabel k p l a t)
   unfolding relabel
-  relabel-links zero l a t h = h
-  relabel-links (suc k) l a t h = if-links (eqb a 0) h (relabel-links k l _ _ (list-links _ _ h))
+  relabel-keeps P l step zero a t h = h
+  relabel-keeps P l step (suc k) a t h = either (eqb a 0) _ h (relabel-keeps P l step k _ _ (step _ t h))
+    where
+      either : (c : Bool) (y : Words) → P t → P y → P (if c then t else y)
+      either true y f g = f
+      either false y f g = g
 
   link-links : {t₀ : Words} (l o : ℕ) (t : Words) → LinksOnly t₀ t → LinksOnly t₀ (link p l o t)
   unfolding link
@@ -152,7 +128,7 @@ module _ (p : Params) where
   unfolding append
   append-links l o t a =
       if-links (eqb (getD (t .first) o 0) 0) a
-      (last-links _ _ (first-links _ _ (relabel-links (p .blocks) l _ _ (link-links l o t a))))
+      (last-links _ _ (first-links _ _ (relabel-keeps (LinksOnly _) l (λ b u. list-links b _) (p .blocks) _ _ (link-links l o t a))))
 
 -- what holds at the start and after each round holds at the end
 pub each-keeps :
@@ -213,13 +189,8 @@ module _ (p : Params) where
       (if-first l l t (eqb (getD (t .next) b 0) 0) _ _ (λ m f g. refl) (λ m f g. refl))
 
   relabel-first : (k l a : ℕ) (t : Words) → relabel k p l a t .first ≡ t .first
-  unfolding relabel setList
-  relabel-first zero l a t = refl
-  relabel-first (suc k) l a t = if-kept (eqb a 0) _ _ refl (relabel-first k l _ _)
-    where
-      if-kept : (c : Bool) (x y : Words) → x .first ≡ t .first → y .first ≡ t .first → (if c then x else y) .first ≡ t .first
-      if-kept true x y e f = e
-      if-kept false x y e f = f
+  unfolding setList
+  relabel-first k l a t = relabel-keeps p (λ (u : Words). u .first ≡ t .first) l (λ b u e. e) k a t refl
 
   link-first : (l o : ℕ) (t : Words) → FirstsBut l o t (link p l o t)
   unfolding FirstsBut link setFirst setLast setNext setPrev

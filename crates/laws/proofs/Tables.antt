@@ -12,6 +12,7 @@ use lib.ListN.{length, take, drop, getD, set, replicate, length-append, length-s
 use lib.Seq.{set-out, set-getD, getD-take, getD-drop, getD-set-same, take-set-le, take-set-lt, drop-set-lt, drop-set-add, drop-drop, drop-cons, take-at, drop-at, take-all}
 use borrow.Author.Tests.{lt-ltb, le-ltb, ltb-true, ltb-false}
 use Rattle.model.specs.Base.{if_then_else_}
+use Rattle.model.specs.Params.{lists, holders, parts, phaseWord, boundWords, releasedWords, headWords, blockTables}
 use Rattle.model.specs.Tables.{Words, part, blocksIn, blockTable, view, flat, putIn, putFirst, putLast, putBound, putReleased, putNext, putPrev, putFree, putSize, putList, putTls, putPhase, setFirst, setLast, setBound, setReleased, setNext, setPrev, setFree, setSize, setList, setTls, setPhase}
 use Rattle.laws.proofs.Memory.{getD-zeros}
 
@@ -116,8 +117,8 @@ assemble cs =
     }
 
 -- the parts, at their places in the words
-parts : ℕ → List ℕ → List (List ℕ)
-parts n w =
+inPlace : ℕ → List ℕ → List (List ℕ)
+inPlace n w =
     part 0 1470 w ∷ part 1470 1470 w ∷ part 2940 1 w ∷ part 2941 8 w ∷ part 2949 9 w ∷ blockTable n 0 w ∷ blockTable n 1 w
     ∷ blockTable n 2 w ∷ blockTable n 3 w ∷ blockTable n 4 w ∷ blockTable n 5 w ∷ []
 
@@ -127,15 +128,15 @@ next-table n j w =
     let e : 2958 + j * n + n ≡ 2958 + suc j * n = omega (arith, suc-mul j n) in
     drop-drop n (2958 + j * n) w ∙ ap (λ (o : ℕ). drop o w) e
 
-cuts-parts : (n : ℕ) (w : List ℕ) → cuts (spans n) w ≡ parts n w
-unfolding cuts spans parts
+cuts-parts : (n : ℕ) (w : List ℕ) → cuts (spans n) w ≡ inPlace n w
+unfolding cuts spans inPlace
 cuts-parts n w =
     let zeroth : drop 2958 w ≡ drop (2958 + 0 * n) w = rw (zero-mul n) in
     rw (drop-drop 1470 1470 w, drop-drop 1 2940 w, drop-drop 8 2941 w, drop-drop 9 2949 w, zeroth)
     (rw (next-table n 0 w, next-table n 1 w, next-table n 2 w, next-table n 3 w, next-table n 4 w))
 
-view-parts : (w : List ℕ) → view w ≡ assemble (parts (blocksIn w) w)
-unfolding view assemble parts
+view-parts : (w : List ℕ) → view w ≡ assemble (inPlace (blocksIn w) w)
+unfolding view assemble inPlace
 view-parts w =
     let phase : getD w 2940 0 ≡ getD (part 2940 1 w) 0 0 = sym (getD-part 2940 1 0 w (omega arith)) in
     rw phase
@@ -326,12 +327,19 @@ join-next o k q w e =
 join-last : (o k : ℕ) (w : List ℕ) → length w ≤ o + k → part o k w ≡ drop o w
 join-last o k w h = take-all k (drop o w) (simp length-drop (omega arith))
 
-flat-at : (n : ℕ) (w : List ℕ) → length w ≡ 2958 + 6 * n → blocksIn w ≡ n → flat (view w) ≡ w
+-- the six block tables, one behind the other from o on
+join-tables : (n o : ℕ) (w : List ℕ) → length w ≡ o + blockTables * n
+    → part (o + 0 * n) n w ++ (part (o + 1 * n) n w ++ (part (o + 2 * n) n w ++ (part (o + 3 * n) n w ++ (part (o + 4 * n) n w ++ part (o + 5 * n) n w))))
+    ≡ drop (o + 0 * n) w
+join-tables n o w e =
+    rw (join-last (o + 5 * n) n w (omega arith), join-next (o + 4 * n) n (o + 5 * n) w (omega arith), join-next (o + 3 * n) n (o + 4 * n) w (omega arith), join-next (o + 2 * n) n (o + 3 * n) w (omega arith), join-next (o + 1 * n) n (o + 2 * n) w (omega arith), join-next (o + 0 * n) n (o + 1 * n) w (omega arith))
+
+flat-at : (n : ℕ) (w : List ℕ) → length w ≡ headWords + blockTables * n → blocksIn w ≡ n → flat (view w) ≡ w
 unfolding flat view
 flat-at n w e m =
-    let zeroth : 2949 + 9 ≡ 2958 + 0 * n = omega arith in
-    let phase : drop 2940 w ≡ getD w 2940 0 ∷ drop 2941 w = drop-cons w 2940 0 (omega arith) in
-    rw (m, join-last (2958 + 5 * n) n w (omega arith), join-next (2958 + 4 * n) n (2958 + 5 * n) w (omega arith), join-next (2958 + 3 * n) n (2958 + 4 * n) w (omega arith), join-next (2958 + 2 * n) n (2958 + 3 * n) w (omega arith), join-next (2958 + 1 * n) n (2958 + 2 * n) w (omega arith), join-next (2958 + 0 * n) n (2958 + 1 * n) w (omega arith), join-next 2949 9 (2958 + 0 * n) w zeroth, join-next 2941 8 2949 w refl, ← phase, join-next 1470 1470 2940 w refl, join-next 0 1470 1470 w refl)
+    let zeroth : releasedWords + parts ≡ headWords + 0 * n = omega arith in
+    let phase : drop phaseWord w ≡ getD w phaseWord 0 ∷ drop boundWords w = drop-cons w phaseWord 0 (omega arith) in
+    rw (m, join-tables n headWords w e, join-next releasedWords parts (headWords + 0 * n) w zeroth, join-next boundWords holders releasedWords w refl, ← phase, join-next lists lists phaseWord w refl, join-next 0 lists lists w refl)
 
 pub flat-view : (n : ℕ) (w : List ℕ) → length w ≡ 2958 + 6 * n → flat (view w) ≡ w
 flat-view n w e = flat-at n w e (omega arith)

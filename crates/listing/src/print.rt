@@ -1,5 +1,7 @@
 // The bytes of a listing, put into a lent buffer from a place on. Each answers the place behind what it put; what does not
 // fit is not written, and the place then stops at the end.
+use model::ABANDONED;
+use model::IN_GC;
 ghost use mathlib.Core.List.{[], _∷_, _++_, flatten};
 ghost use mathlib.Core.Path.{_≡_};
 ghost use Prim.Native.Nat.{_+_, _<_, min};
@@ -160,11 +162,11 @@ pub fn free_head(out: &mut [u8], at: usize, n: usize) -> usize
 pub fn list_letter(set: usize) -> u8
     ensures { λ r. ⌜ r ≡ letter set ⌝ }
 {
-    if 27 <= set {
+    if IN_GC <= set {
         return 103;
     }
-    if 24 <= set {
-        return abandoned_letter(set - 24);
+    if ABANDONED <= set {
+        return abandoned_letter(set - ABANDONED);
     }
     local_letter(set % 3)
 }

@@ -1,7 +1,9 @@
 // The sections on blocks and free cells.
 use crate::chain;
 use crate::print;
+use model::BINS;
 use model::Block;
+use words::bytes;
 use words::states;
 use words::tables;
 ghost use mathlib.Core.Path.{_≡_};
@@ -36,12 +38,6 @@ fn count_blocks(states: &[u8]) -> usize
     n
 }
 
-fn wide(x: u8) -> usize
-    ensures { λ r. ⌜ r ≡ x ⌝ }
-{
-    x as usize
-}
-
 // The set of the list that the block names; 0 if it names none.
 fn set_named(words: &[usize], b: Block) -> usize
     ensures { λ r. ⌜ r ≡ setNamed (view (now (words .entry))) (b .0) ⌝ }
@@ -50,13 +46,13 @@ fn set_named(words: &[usize], b: Block) -> usize
     if list == 0 {
         return 0;
     }
-    (list - 1) / 49
+    (list - 1) / BINS
 }
 
 fn block_row(out: &mut [u8], at: usize, words: &[usize], states: &[u8], b: Block) -> usize
     ensures { λ r. ⌜ Printed (now (out .entry)) (now (out .exit)) at r (blockRow (tablesRead (now (words .entry)) (now (states .entry)) []) (b .0)) ⌝ }
 {
-    let state = wide(states::state(states, b.0));
+    let state = bytes::wide(states::state(states, b.0));
     let size = tables::size(words, b.0);
     let list = print::list_letter(set_named(words, b));
     let holder = tables::tls(words, b.0);

@@ -24,44 +24,44 @@ use Rattle.model.specs.Calls.{Reply, answered, refused, Call, bind, dest
 
 -- set-up, bind, prepare
 unfoldable pub replyOf : Answer → Reply
-replyOf = elim [ Simple.Done ↦ answered [] | Simple.Refused r ↦ refused r ]
+replyOf = elim [ Simple.Done ↦ answered [] | Simple.Refused refusal ↦ refused refusal ]
 
 -- alloc: address, cell size, whether the offer was used, blocks swept
 unfoldable pub allocReply : AllocAnswer → Reply
-allocReply = elim [ Alloc.Served a size fresh swept ↦ answered (a .0 ∷ size ∷ flag fresh ∷ swept ∷ []) | Alloc.Refused r ↦ refused r ]
+allocReply = elim [ Alloc.Served a size fresh swept ↦ answered (a .0 ∷ size ∷ flag fresh ∷ swept ∷ []) | Alloc.Refused refusal ↦ refused refusal ]
 
 -- mark: whether it was new
 unfoldable pub markReply : MarkAnswer → Reply
-markReply = elim [ Mark.Marked new ↦ answered (flag new ∷ []) | Mark.Refused r ↦ refused r ]
+markReply = elim [ Mark.Marked new ↦ answered (flag new ∷ []) | Mark.Refused refusal ↦ refused refusal ]
 
 -- destroy: the blocks that went over to abandoned (02, R-6)
 unfoldable pub destroyReply : DestroyAnswer → Reply
-destroyReply = elim [ Destroy.Destroyed n ↦ answered (n ∷ []) | Destroy.Refused r ↦ refused r ]
+destroyReply = elim [ Destroy.Destroyed blocks ↦ answered (blocks ∷ []) | Destroy.Refused refusal ↦ refused refusal ]
 
 -- release and shared release: the blocks released, and those merged from in-gc (02, R-6)
 unfoldable pub releaseReply : ReleaseAnswer → Reply
-releaseReply = elim [ Release.Released n m ↦ answered (n ∷ m ∷ []) | Release.Refused r ↦ refused r ]
+releaseReply = elim [ Release.Released blocks merged ↦ answered (blocks ∷ merged ∷ []) | Release.Refused refusal ↦ refused refusal ]
 
 -- pages used
 unfoldable pub pagesReply : PagesAnswer → Reply
-pagesReply = elim [ Pages.Pages n ↦ answered (n ∷ []) | Pages.Refused r ↦ refused r ]
+pagesReply = elim [ Pages.Pages n ↦ answered (n ∷ []) | Pages.Refused refusal ↦ refused refusal ]
 
 -- ---- any of the calls, by value
 
 unfoldable pub callOf : Ask → Call
-callOf (Asks.Bind h) = bind h
-callOf (Asks.Destroy h) = destroy h
-callOf (Asks.Alloc h size align offset offer) = alloc h size align offset offer
+callOf (Asks.Bind holder) = bind holder
+callOf (Asks.Destroy holder) = destroy holder
+callOf (Asks.Alloc holder size align offset offer) = alloc holder size align offset offer
 callOf Asks.Prepare = prepare
 callOf (Asks.Mark place block) = mark place block
-callOf (Asks.Release h) = release h
+callOf (Asks.Release holder) = release holder
 callOf Asks.SharedRelease = sharedRelease
 
 -- a reply as five numbers: its own, and "the answer's numbers in order, [..] zeros after" (02, R-2)
 abbrev pub saidOf : Reply → Said
-saidOf r =
-    let at : ℕ → ℕ = λ i. getD (r .values) i 0 in
-    record { number = r .number; first = at 0; second = at 1; third = at 2; fourth = at 3 }
+saidOf reply =
+    let at : ℕ → ℕ = λ i. getD (reply .values) i 0 in
+    record { number = reply .number; first = at 0; second = at 1; third = at 2; fourth = at 3 }
 
 -- what is said, and everything lent after it
 pub record Outcome : Type 0 where
@@ -69,7 +69,7 @@ pub record Outcome : Type 0 where
   pub lent : Lent
 
 abbrev pub outcome : Said → Lent → Outcome
-outcome s l = record { said = s; lent = l }
+outcome said l = record { said = said; lent = l }
 
 unfoldable pub outcomeOf : Result → Outcome
 outcomeOf r = outcome (saidOf (r .reply)) (r .lent)

@@ -13,30 +13,30 @@ if false then a else b = b
 
 -- every i below n passes; some i below n passes
 unfoldable pub allBelow : ℕ → (ℕ → Bool) → Bool
-allBelow zero f = true
-allBelow (suc n) f = f n && allBelow n f
+allBelow zero test = true
+allBelow (suc n) test = test n && allBelow n test
 
 unfoldable pub anyBelow : ℕ → (ℕ → Bool) → Bool
-anyBelow zero f = false
-anyBelow (suc n) f = f n || anyBelow n f
+anyBelow zero test = false
+anyBelow (suc n) test = test n || anyBelow n test
 
 -- x is an element of the list
 unfoldable pub member : ℕ → List ℕ → Bool
 member x [] = false
-member x (y ∷ l) = eqb x y || member x l
+member x (y ∷ xs) = eqb x y || member x xs
 
 unfoldable pub filter : {A : Type 0} → (A → Bool) → List A → List A
-filter f [] = []
-filter f (x ∷ l) = if f x then (x ∷ filter f l) else filter f l
+filter test [] = []
+filter test (x ∷ xs) = if test x then (x ∷ filter test xs) else filter test xs
 
 unfoldable pub sumBelow : ℕ → (ℕ → ℕ) → ℕ
-sumBelow zero f = 0
-sumBelow (suc n) f = f n + sumBelow n f
+sumBelow zero number = 0
+sumBelow (suc n) number = number n + sumBelow n number
 
--- f 0, then f 1, and so on up to f (n − 1), each on what the one before left
+-- the step for 0, then for 1, and so on up to n − 1, each on what the one before left
 unfoldable pub eachBelow : {A : Type 0} → ℕ → (ℕ → A → A) → A → A
-eachBelow zero f x = x
-eachBelow (suc n) f x = f n (eachBelow n f x)
+eachBelow zero step x = x
+eachBelow (suc n) step x = step n (eachBelow n step x)
 
 -- a yes as 1
 unfoldable pub flag : Bool → ℕ
@@ -45,14 +45,14 @@ flag = elim [ true ↦ 1 | false ↦ 0 ]
 -- x is an element of the list, as a type
 unfoldable pub In : {A : Type 0} → A → List A → Type 0
 In x [] = ⊥
-In x (y ∷ l) = (x ≡ y) ⊎ In x l
+In x (y ∷ xs) = (x ≡ y) ⊎ In x xs
 
 -- the relation holds of each element and each later one
 unfoldable pub Pairwise : {A : Type 0} → (A → A → Type 0) → List A → Type 0
 Pairwise R [] = Unit {0}
-Pairwise R (x ∷ l) = (((y : _) → In y l → R x y) × Pairwise R l)
+Pairwise R (x ∷ xs) = (((y : _) → In y xs → R x y) × Pairwise R xs)
 
 -- some element passes
 unfoldable pub any : {A : Type 0} → (A → Bool) → List A → Bool
-any f [] = false
-any f (x ∷ l) = f x || any f l
+any test [] = false
+any test (x ∷ xs) = test x || any test xs

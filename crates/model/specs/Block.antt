@@ -26,35 +26,35 @@ Marked = 254
 
 -- ---- whole cells
 
--- how many whole cells of s bytes a block has; the short tail is none
+-- how many whole cells of this size a block has; the short tail is none
 unfoldable pub cellCount : Params → ℕ → ℕ
-cellCount p s = p .bytes / s
+cellCount p size = p .bytes / size
 
--- a is a whole cell of the block b with cells of s bytes
+-- a is a whole cell of the block b with cells of this size
 unfoldable pub isCell : Params → ℕ → ℕ → ℕ → Bool
-isCell p b s a =
-    ltb 0 s && leb (start p b) a && eqb ((a - start p b) % s) 0 && leb ((a - start p b) + s) (p .bytes)
+isCell p b size a =
+    ltb 0 size && leb (start p b) a && eqb ((a - start p b) % size) 0 && leb ((a - start p b) + size) (p .bytes)
 
--- of the k cells of s bytes from `from` on, those that are not kept, the highest first
+-- of the k cells of this size from `from` on, those that are not kept, the highest first
 unfoldable pub cellsDown : (ℕ → Bool) → ℕ → ℕ → ℕ → List ℕ
-cellsDown kept from s zero = []
-cellsDown kept from s (suc k) =
-    if kept (from + k * s) then cellsDown kept from s k else ((from + k * s) ∷ cellsDown kept from s k)
+cellsDown kept from size zero = []
+cellsDown kept from size (suc k) =
+    if kept (from + k * size) then cellsDown kept from size k else ((from + k * size) ∷ cellsDown kept from size k)
 
 -- each cell of the chain holds the address of the next, 0 at its end: all that init or a sweep writes into the heap
 unfoldable pub linkAll : Params → List ℕ → List ℕ → List ℕ
 linkAll p [] h = h
-linkAll p (a ∷ l) h = store p (linkAll p l h) a (headD l 0)
+linkAll p (a ∷ chain) h = store p (linkAll p chain h) a (headD chain 0)
 
 -- ---- init
 
 -- "`init_block` links whole cells, the highest first."
 unfoldable pub initChain : Params → ℕ → ℕ → List ℕ
-initChain p b s = cellsDown (λ a. false) (start p b) s (cellCount p s)
+initChain p b size = cellsDown (λ a. false) (start p b) size (cellCount p size)
 
--- the words of a block after init, by the holder h; its state is set where the offer is taken (`acquireFresh`)
+-- the words of a block after init, by this holder; its state is set where the offer is taken (`acquireFresh`)
 unfoldable pub initBlock : Params → ℕ → ℕ → ℕ → Words → Words
-initBlock p b s h t = setTls b h (setSize b s (setFree b (headD (initChain p b s) 0) t))
+initBlock p b size holder w = setTls b holder (setSize b size (setFree b (headD (initChain p b size) 0) w))
 
 -- ---- sweeps
 
@@ -62,64 +62,64 @@ initBlock p b s h t = setTls b h (setSize b s (setFree b (headD (initChain p b s
 unfoldable pub simple : Params → Bool
 simple p = not (p .offsets) && eqb (p .min) (p .max) && p .unified
 
--- Whether the sweep chosen finds a mark for the cell of s bytes at a, and so keeps it; `mark` says which places are marked.
+-- Whether the sweep chosen finds a mark for the cell of this size at a, and so keeps it; `mark` says which places are marked.
 -- "`simple_sweep` frees each whole cell with no mark at its start. `naive_brute_force_sweep` frees a cell with no mark at
 -- cell + 8k + L for 8k below the cell size". 01's "a cell is called marked" is this at the mark bits; the book asks it at
 -- its places
 unfoldable pub keeps : Params → (ℕ → Bool) → ℕ → ℕ → Bool
-keeps p mark s a = if simple p then mark a else anyBelow (wordsIn s) (λ k. mark (plusLower p (a + 8 * k)))
+keeps p mark size a = if simple p then mark a else anyBelow (wordsIn size) (λ i. mark (plusLower p (a + 8 * i)))
 
--- the chain that a sweep of the block b with cells of s bytes builds from these marks
+-- the chain that a sweep of the block b with cells of this size builds from these marks
 unfoldable pub sweepChain : Params → List ℕ → ℕ → ℕ → List ℕ
-sweepChain p ms b s = cellsDown (keeps p (marked p ms) s) (start p b) s (cellCount p s)
+sweepChain p ms b size = cellsDown (keeps p (marked p ms) size) (start p b) size (cellCount p size)
 
 -- "A sweep writes only the first word of freed cells and the free head": the words after a sweep of b
 unfoldable pub sweptWords : Params → List ℕ → ℕ → Words → Words
-sweptWords p ms b t = setFree b (headD (sweepChain p ms b (getD (t .size) b 0)) 0) t
+sweptWords p ms b w = setFree b (headD (sweepChain p ms b (getD (w .size) b 0)) 0) w
 
 -- ---- release: all words of the block are 0 again; its state is set where a block is released (Global `releaseFrom`)
 
 unfoldable pub clearBlock : ℕ → Words → Words
-clearBlock b t = setTls b 0 (setList b 0 (setSize b 0 (setFree b 0 (setPrev b 0 (setNext b 0 t)))))
+clearBlock b w = setTls b 0 (setList b 0 (setSize b 0 (setFree b 0 (setPrev b 0 (setNext b 0 w)))))
 
 -- ---- the free chain that stands in the heap
 
 -- from the address a on, the whole cells of b that are linked one after the other: up to a link that is none, at most k
 unfoldable pub chainFrom : ℕ → Params → List ℕ → ℕ → ℕ → ℕ → List ℕ
-chainFrom zero p h b s a = []
-chainFrom (suc k) p h b s a = if isCell p b s a then (a ∷ chainFrom k p h b s (load p h a)) else []
+chainFrom zero p h b size a = []
+chainFrom (suc k) p h b size a = if isCell p b size a then (a ∷ chainFrom k p h b size (load p h a)) else []
 
 -- the free chain of the block b: "stops at a bad link or after a block's cell count"
 unfoldable pub freeChain : Params → List ℕ → ℕ → Words → List ℕ
-freeChain p h b t = chainFrom (cellCount p (getD (t .size) b 0)) p h b (getD (t .size) b 0) (getD (t .free) b 0)
+freeChain p h b w = chainFrom (cellCount p (getD (w .size) b 0)) p h b (getD (w .size) b 0) (getD (w .free) b 0)
 
 -- The same, a cell at a time, as a listing prints it. Each is of all inputs: on parameters that are off a walk stands at no cell
 
 -- the walk at the free head of the block b, which may meet as many cells as the block has
 unfoldable pub firstCell : Params → Words → Block → ChainWalk
-firstCell p t b =
+firstCell p w b =
     record {
       block = b;
-      at = record { 0 = getD (t .free) (b .0) 0 };
-      size = getD (t .size) (b .0) 0;
-      left = cellCount p (getD (t .size) (b .0) 0);
+      at = record { 0 = getD (w .free) (b .0) 0 };
+      size = getD (w .size) (b .0) 0;
+      left = cellCount p (getD (w .size) (b .0) 0);
     }
 
 -- whether it stands at a cell
 unfoldable pub moreCells : Params → ChainWalk → Bool
-moreCells p w = goodParams p && ltb 0 (w .left) && isCell p (w .block .0) (w .size) (w .at .0)
+moreCells p walk = goodParams p && ltb 0 (walk .left) && isCell p (walk .block .0) (walk .size) (walk .at .0)
 
 -- the walk from that cell's link on
 unfoldable pub nextCell : Params → List ℕ → ChainWalk → ChainWalk
-nextCell p h w = record { block = w .block; at = record { 0 = load p h (w .at .0) }; size = w .size; left = w .left - 1 }
+nextCell p h walk = record { block = walk .block; at = record { 0 = load p h (walk .at .0) }; size = walk .size; left = walk .left - 1 }
 
 -- ---- the chain that a sweep would build, a cell at a time, as a listing prints it; each is of all inputs
 
--- where the k-th whole cell of the block b with cells of s bytes stands, from 0; 0 if there is none
+-- where the i-th whole cell of the block b with cells of this size stands, from 0; 0 if there is none
 unfoldable pub cellAt : Params → ℕ → ℕ → ℕ → ℕ
-cellAt p b s k = if goodParams p && ltb k (cellCount p s) then start p b + k * s else 0
+cellAt p b size i = if goodParams p && ltb i (cellCount p size) then start p b + i * size else 0
 
 -- whether a sweep by these marks frees it
 unfoldable pub freesCell : Params → List ℕ → ℕ → ℕ → ℕ → Bool
-freesCell p ms b s k =
-    goodParams p && ltb k (cellCount p s) && not (keeps p (marked p ms) s (start p b + k * s))
+freesCell p ms b size i =
+    goodParams p && ltb i (cellCount p size) && not (keeps p (marked p ms) size (start p b + i * size))

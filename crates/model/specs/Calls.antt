@@ -15,7 +15,7 @@ use Rattle.model.specs.declared.Refusal.the-variants.{BadSetup, BadTable
 use Rattle.model.specs.declared.Tested.{Tested}
 use Rattle.model.specs.declared.Tested.the-variants.{Passed, Refused}
 use Rattle.model.specs.Base.{if_then_else_, flag}
-use Rattle.model.specs.Params.{goodParams, powerOfTwo, Lent, fits, wordCount, inHeap, start, blockAt, minusLower, localSets, abandoned}
+use Rattle.model.specs.Params.{goodParams, powerOfTwo, Lent, fits, wordCount, inHeap, start, blockAt, minusLower, bins, localSets, abandoned}
 use Rattle.model.specs.Memory.{load, marked}
 use Rattle.model.specs.Tables.{Words, Tables, tablesOf, withWords, view, flat, setFree}
 use Rattle.model.specs.SizeClasses.{binOf, raised, alignAllocation}
@@ -50,7 +50,7 @@ abbrev pub answered : List ℕ → Reply
 answered vs = record { number = 0; values = vs }
 
 abbrev pub refused : Refusal → Reply
-refused r = record { number = refusalNumber r; values = [] }
+refused refusal = record { number = refusalNumber refusal; values = [] }
 
 -- ---- calls
 
@@ -76,7 +76,7 @@ pub record Plan : Type 0 where
 
 -- the plan that changes nothing
 abbrev pub refuses : Tables → Refusal → Plan
-refuses t r = record { tables = t; events = []; end = says (refused r) }
+refuses t refusal = record { tables = t; events = []; end = says (refused refusal) }
 
 -- the plan that only changes tables
 abbrev pub changes : Tables → List ℕ → Plan
@@ -117,12 +117,12 @@ mayRelease w = eqb (w .phase) Marking || eqb (w .phase) Releasing
 -- ---- the tests of each call on sound tables, in the order of the refusals' numbers: passed, or the first refusal
 
 abbrev pub refusedIf : Bool → Refusal → Tested
-refusedIf bad r = if bad then Refused r else Passed
+refusedIf bad refusal = if bad then Refused refusal else Passed
 
 -- tests that follow others
 unfoldable pub andThen : Tested → Tested → Tested
 andThen Passed later = later
-andThen (Refused r) later = Refused r
+andThen (Refused refusal) later = Refused refusal
 
 -- "WrongPhase: call not of this phase"
 unfoldable pub phaseTest : Words → ℕ → Tested
@@ -173,9 +173,9 @@ callTests p t sharedRelease = sharedTests (t .words)
 
 -- a search's plan: "Exhausted: no cell found and no offer"
 unfoldable pub takePlan : Params → ℕ → ℕ → Search → Plan
-takePlan p align offset s =
-    let end : End = if eqb (s .at) 0 then says (refused Exhausted) else takes (blockAt p (s .at)) align offset (s .fresh) in
-    record { tables = s .tables; events = s .events; end = end }
+takePlan p align offset ended =
+    let end : End = if eqb (ended .at) 0 then says (refused Exhausted) else takes (blockAt p (ended .at)) align offset (ended .fresh) in
+    record { tables = ended .tables; events = ended .events; end = end }
 
 -- blocks were released, and so a part is done. The answer: blocks released, blocks merged
 unfoldable pub releasePlan : Params → ℕ → Tables → Freed → Plan
@@ -198,7 +198,7 @@ planPassed p t sharedRelease = releasePlan p 0 t (sweepLater p (t .words) (t .st
 -- a call that a test refuses changes nothing
 unfoldable pub ifPassed : Tested → Tables → Plan → Plan
 ifPassed Passed t q = q
-ifPassed (Refused r) t q = refuses t r
+ifPassed (Refused refusal) t q = refuses t refusal
 
 -- on tables that are sound
 unfoldable pub planSound : Params → Tables → Call → Plan
@@ -231,7 +231,7 @@ takeCell p t es h b align offset fresh =
     else record { reply = refused BadLink; tables = t; heap = h; events = es }
 
 unfoldable pub finish : Params → Tables → List Event → List ℕ → End → Step
-finish p t es h (says r) = record { reply = r; tables = t; heap = h; events = es }
+finish p t es h (says reply) = record { reply = reply; tables = t; heap = h; events = es }
 finish p t es h (takes b align offset fresh) = takeCell p t es h b align offset fresh
 
 -- a plan is carried out on a heap
@@ -259,7 +259,7 @@ abbrev pub lentOf : Tables → List ℕ → Lent
 lentOf t h = record { words = flat (t .words); states = t .states; marks = t .marks; heap = h }
 
 abbrev pub resultFrom : Step → Result
-resultFrom s = record { reply = s .reply; lent = lentOf (s .tables) (s .heap) }
+resultFrom done = record { reply = done .reply; lent = lentOf (done .tables) (done .heap) }
 
 abbrev pub badSetup : Lent → Result
 badSetup l = record { reply = refused BadSetup; lent = l }
@@ -273,7 +273,7 @@ setUp p l = if fits p l then record { reply = answered []; lent = lentOf (freshT
 
 -- pages used of 49 records, by their firsts: BadSetup or BadTables are its only refusals, and nothing is written
 unfoldable pub pages : Params → List ℕ → List ℕ → Reply
-pages p words firsts =
-    if not (goodParams p && eqb (length words) (wordCount p) && eqb (length firsts) 49) then refused BadSetup
-    else if not (pagesEnd p (view words .next) firsts) then refused BadTables
-    else answered (pagesUsed p (view words .next) firsts ∷ [])
+pages p ws firsts =
+    if not (goodParams p && eqb (length ws) (wordCount p) && eqb (length firsts) bins) then refused BadSetup
+    else if not (pagesEnd p (view ws .next) firsts) then refused BadTables
+    else answered (pagesUsed p (view ws .next) firsts ∷ [])

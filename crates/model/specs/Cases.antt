@@ -1,5 +1,5 @@
 -- "Marked for proof" and "Limits": one computed table and one theorem. And 01's example trace, computed on the machine.
-use Prim.Native.Nat.{ℕ, suc, _-_, _*_}
+use Prim.Native.Nat.{ℕ, suc, _+_, _-_, _*_}
 use mathlib.Core.Bool.{Bool, true, false, _&&_, _||_}
 use mathlib.Core.List.{List, [], _∷_}
 use lib.Dec.{eqb, ltb, leb}
@@ -8,12 +8,12 @@ use lib.ListN.{replicate}
 use Rattle.model.specs.declared.Params.{Params}
 use Rattle.model.specs.declared.Offer.the-variants.{Fresh}
 use Rattle.model.specs.Base.{allBelow}
-use Rattle.model.specs.Params.{Lent, start}
+use Rattle.model.specs.Params.{bins, lastBin, sets, lists, holders, parts, phaseWord, boundWords, releasedWords, headWords, Lent, start}
 use Rattle.model.specs.Memory.{setMark}
 use Rattle.model.specs.Tables.{Words}
 use Rattle.model.specs.SizeClasses.{cellBytes, binOf, raised, shift}
 use Rattle.model.specs.BlockList.{push, appended}
-use Rattle.model.specs.Block.{initChain, sweepChain}
+use Rattle.model.specs.Block.{Unallocated, Unmarked, initChain, sweepChain}
 use Rattle.model.specs.Events.{releases}
 use Rattle.model.specs.Global.{freshWords, releaseFrom}
 use Rattle.model.specs.Calls.{bind, alloc, call, setUp}
@@ -32,9 +32,9 @@ bin size want = gives (binOf censusParams size ∷ []) (want ∷ [])
 
 -- each count of words up to 8,192 has the least class that holds it
 unfoldable pub leastClass : ℕ → Bool
-leastClass w =
-    let n : ℕ = binOf censusParams (8 * w) in
-    leb (8 * w) (cellBytes censusParams n) && (eqb n 1 || ltb (cellBytes censusParams (n - 1)) (8 * w))
+leastClass words =
+    let n : ℕ = binOf censusParams (8 * words) in
+    leb (8 * words) (cellBytes censusParams n) && (eqb n 1 || ltb (cellBytes censusParams (n - 1)) (8 * words))
 
 unfoldable pub classesRight : Bool
 classesRight = allBelow 8192 (λ i. leastClass (suc i))
@@ -66,9 +66,12 @@ cases =
     ∷ gives (sweepChain censusParams (replicate 256 0) 2 1280) (27136 ∷ 25856 ∷ 24576 ∷ [])
     ∷ gives (initChain censusParams 2 1280) (27136 ∷ 25856 ∷ 24576 ∷ [])
     -- two Unmarked blocks of one list are both released: next is read before a block is removed
-    ∷ gives (releases (releaseFrom 4 censusParams 1 (start censusParams 1) twoBlocks (255 ∷ 255 ∷ 0 ∷ 0 ∷ []) .events) ∷ []) (2 ∷ [])
+    ∷ gives (releases (releaseFrom 4 censusParams 1 (start censusParams 1) twoBlocks (Unmarked ∷ Unmarked ∷ Unallocated ∷ Unallocated ∷ []) .events) ∷ []) (2 ∷ [])
     -- an append of these two blocks gives 2, one of an empty list 0 (02, R-6)
     ∷ gives (appended censusParams 1 twoBlocks ∷ appended censusParams 2 twoBlocks ∷ []) (2 ∷ 0 ∷ [])
+    -- the numbers of lists and words are the sums that they stand for
+    ∷ gives (lists ∷ phaseWord ∷ boundWords ∷ releasedWords ∷ headWords ∷ lastBin ∷ parts ∷ [])
+    ((sets * bins) ∷ (lists + lists) ∷ suc phaseWord ∷ (boundWords + holders) ∷ (releasedWords + parts) ∷ (bins - 1) ∷ suc holders ∷ [])
     ∷ gives (firstAlloc 4096 8 ∷ firstAlloc 4096 16 ∷ firstAlloc 4088 16 ∷ []) (0 ∷ 6 ∷ 0 ∷ [])
     ∷ []
 

@@ -28,20 +28,20 @@ newline = 10
 abbrev pub space : ℕ
 space = 32
 
--- c before the first of the pieces
+-- a byte before the first of the pieces
 unfoldable pub before : ℕ → List (List ℕ) → List (List ℕ)
-before c = elim [ [] ↦ (c ∷ []) ∷ [] | x ∷ xs ↦ (c ∷ x) ∷ xs ]
+before byte = elim [ [] ↦ (byte ∷ []) ∷ [] | x ∷ xs ↦ (byte ∷ x) ∷ xs ]
 
 -- what stands before, between and behind the separators
 unfoldable pub pieces : ℕ → List ℕ → List (List ℕ)
 pieces sep [] = [] ∷ []
-pieces sep (c ∷ cs) = if eqb c sep then ([] ∷ pieces sep cs) else before c (pieces sep cs)
+pieces sep (byte ∷ bytes) = if eqb byte sep then ([] ∷ pieces sep bytes) else before byte (pieces sep bytes)
 
 -- "no line begins after the last newline if nothing follows it"
 unfoldable pub dropBlankEnd : List (List ℕ) → List (List ℕ)
 dropBlankEnd [] = []
 dropBlankEnd ([] ∷ []) = []
-dropBlankEnd ((c ∷ cs) ∷ []) = (c ∷ cs) ∷ []
+dropBlankEnd ((byte ∷ bytes) ∷ []) = (byte ∷ bytes) ∷ []
 dropBlankEnd (x ∷ (y ∷ ys)) = x ∷ dropBlankEnd (y ∷ ys)
 
 -- "at most 16,384 bytes and 256 lines; the rest is unread. A line, numbered from 1, ends at a newline or where reading
@@ -56,54 +56,54 @@ unread bytes = ltb 16384 (length bytes) || ltb 256 (length (dropBlankEnd (pieces
 -- ---- numbers: "below 2^64 with no needless zero", decimal
 
 unfoldable pub isDigit : ℕ → Bool
-isDigit c = leb 48 c && leb c 57
+isDigit byte = leb 48 byte && leb byte 57
 
 unfoldable pub valueOf : List ℕ → ℕ
-valueOf cs = foldl (λ n c. 10 * n + (c - 48)) 0 cs
+valueOf bytes = foldl (λ n byte. 10 * n + (byte - 48)) 0 bytes
 
 unfoldable pub isNumber : List ℕ → Bool
-isNumber cs =
-    leb 1 (length cs) && allBelow (length cs) (λ i. isDigit (getD cs i 0))
-    && (eqb (length cs) 1 || not (eqb (getD cs 0 0) 48)) && ltb (valueOf cs) (2 ^ 64)
+isNumber bytes =
+    leb 1 (length bytes) && allBelow (length bytes) (λ i. isDigit (getD bytes i 0))
+    && (eqb (length bytes) 1 || not (eqb (getD bytes 0 0) 48)) && ltb (valueOf bytes) (2 ^ 64)
 
 -- ---- what a line asks
 
 -- a word of one letter
 unfoldable pub isWord : ℕ → List ℕ → Bool
-isWord c w = eqb (length w) 1 && eqb (getD w 0 0) c
+isWord byte word = eqb (length word) 1 && eqb (getD word 0 0) byte
 
 -- the words from the second to the n-th are numbers
 unfoldable pub numbersTo : ℕ → List (List ℕ) → Bool
-numbersTo n ws = allBelow (n - 1) (λ i. isNumber (getD ws (i + 1) []))
+numbersTo n words = allBelow (n - 1) (λ i. isNumber (getD words (i + 1) []))
 
--- a line of n words that begins with the letter c, and goes on in numbers
+-- a line of n words that begins with this letter, and goes on in numbers
 unfoldable pub isLine : ℕ → ℕ → List (List ℕ) → Bool
-isLine c n ws = isWord c (getD ws 0 []) && eqb (length ws) n && numbersTo n ws
+isLine byte n words = isWord byte (getD words 0 []) && eqb (length words) n && numbersTo n words
 
 -- its i-th number
 unfoldable pub arg : List (List ℕ) → ℕ → ℕ
-arg ws i = valueOf (getD ws i [])
+arg words i = valueOf (getD words i [])
 
 -- "(`-` for none)"
 unfoldable pub isAlloc : List (List ℕ) → Bool
-isAlloc ws =
-    isWord 97 (getD ws 0 []) && eqb (length ws) 6 && numbersTo 5 ws
-    && (isWord 45 (getD ws 5 []) || isNumber (getD ws 5 []))
+isAlloc words =
+    isWord 97 (getD words 0 []) && eqb (length words) 6 && numbersTo 5 words
+    && (isWord 45 (getD words 5 []) || isNumber (getD words 5 []))
 
 unfoldable pub offerOf : List ℕ → Offer
-offerOf w = if isWord 45 w then Nothing else Fresh (record { 0 = valueOf w })
+offerOf word = if isWord 45 word then Nothing else Fresh (record { 0 = valueOf word })
 
 -- "Lines, decimal, one space: `b h`, `d h`, `a h size align offset block` (`-` for none), `p`, `m place block`, `r h`, `s`
 -- (shared)." None of them: none
 unfoldable pub lineOf : List (List ℕ) → Option Call
-lineOf ws =
-    if isLine 98 2 ws then some (bind (arg ws 1))
-    else if isLine 100 2 ws then some (destroy (arg ws 1))
-    else if isAlloc ws then some (alloc (arg ws 1) (arg ws 2) (arg ws 3) (arg ws 4) (offerOf (getD ws 5 [])))
-    else if isLine 112 1 ws then some prepare
-    else if isLine 109 3 ws then some (mark (arg ws 1) (arg ws 2))
-    else if isLine 114 2 ws then some (release (arg ws 1))
-    else if isLine 115 1 ws then some sharedRelease
+lineOf words =
+    if isLine 98 2 words then some (bind (arg words 1))
+    else if isLine 100 2 words then some (destroy (arg words 1))
+    else if isAlloc words then some (alloc (arg words 1) (arg words 2) (arg words 3) (arg words 4) (offerOf (getD words 5 [])))
+    else if isLine 112 1 words then some prepare
+    else if isLine 109 3 words then some (mark (arg words 1) (arg words 2))
+    else if isLine 114 2 words then some (release (arg words 1))
+    else if isLine 115 1 words then some sharedRelease
     else none
 
 -- ---- running it: "Set-up: 4 blocks of 4,096, base 16384, MIN = MAX = 8, unified, no offsets, L 0."
@@ -153,8 +153,8 @@ decimal n = digits 20 n
 -- "one space"
 unfoldable pub spaced : List (List ℕ) → List ℕ
 spaced [] = newline ∷ []
-spaced (w ∷ []) = w ++ (newline ∷ [])
-spaced (w ∷ (v ∷ ws)) = w ++ (space ∷ spaced (v ∷ ws))
+spaced (word ∷ []) = word ++ (newline ∷ [])
+spaced (word ∷ (second ∷ words)) = word ++ (space ∷ spaced (second ∷ words))
 
 -- "Sections in fixed order, each after its count"
 unfoldable pub section : List ℕ → List (List ℕ) → List ℕ
@@ -162,7 +162,7 @@ section name rows = spaced (name ∷ decimal (length rows) ∷ []) ++ flatten ro
 
 -- "refused (line, number)"
 unfoldable pub refusedRow : RefusedLine → List ℕ
-refusedRow r = spaced (decimal (r .line) ∷ decimal (r .number) ∷ [])
+refusedRow line = spaced (decimal (line .line) ∷ decimal (line .number) ∷ [])
 
 -- "blocks not Unallocated, ascending"
 unfoldable pub upTo : ℕ → List ℕ
@@ -205,11 +205,11 @@ unfoldable pub freeSection : Tables → List ℕ → List (List ℕ)
 freeSection t h = if eqb (t .words .phase) Marking then [] else flatMap (freeRows t h) (occupied t)
 
 unfoldable pub listing : Ran → List ℕ
-listing r =
-    let t : Tables = tablesIn (r .lent) in
-    section (114 ∷ 101 ∷ 102 ∷ 117 ∷ 115 ∷ 101 ∷ 100 ∷ []) (map refusedRow (r .refusals))
+listing ran =
+    let t : Tables = tablesIn (ran .lent) in
+    section (114 ∷ 101 ∷ 102 ∷ 117 ∷ 115 ∷ 101 ∷ 100 ∷ []) (map refusedRow (ran .refusals))
     ++ (section (98 ∷ 108 ∷ 111 ∷ 99 ∷ 107 ∷ 115 ∷ []) (map (blockRow t) (occupied t))
-    ++ section (102 ∷ 114 ∷ 101 ∷ 101 ∷ []) (freeSection t (r .lent .heap)))
+    ++ section (102 ∷ 114 ∷ 101 ∷ 101 ∷ []) (freeSection t (ran .lent .heap)))
 
 -- the whole program
 unfoldable pub census : List ℕ → List ℕ

@@ -18,17 +18,17 @@ pub data Event : Type 0 where
 
 -- what an event does to the heap
 unfoldable pub eventHeap : Params → Event → List ℕ → List ℕ
-eventHeap p e h = elim e [ initialised b l ↦ linkAll p l h | swept b l ↦ linkAll p l h | released b ↦ h | taken a s ↦ zeroed p h a s ]
+eventHeap p e h = elim e [ initialised b chain ↦ linkAll p chain h | swept b chain ↦ linkAll p chain h | released b ↦ h | taken a size ↦ zeroed p h a size ]
 
 unfoldable pub eventsHeap : Params → List Event → List ℕ → List ℕ
 eventsHeap p es h = foldl (λ h′ e. eventHeap p e h′) h es
 
 -- "swept is the number of block sweeps in the call, released the number of blocks it made Unallocated"
 unfoldable pub isSweep : Event → Bool
-isSweep = elim [ initialised b chain ↦ false | swept b chain ↦ true | released b ↦ false | taken a s ↦ false ]
+isSweep = elim [ initialised b chain ↦ false | swept b chain ↦ true | released b ↦ false | taken a size ↦ false ]
 
 unfoldable pub isRelease : Event → Bool
-isRelease = elim [ initialised b chain ↦ false | swept b chain ↦ false | released b ↦ true | taken a s ↦ false ]
+isRelease = elim [ initialised b chain ↦ false | swept b chain ↦ false | released b ↦ true | taken a size ↦ false ]
 
 unfoldable pub sweeps : List Event → ℕ
 sweeps es = length (filter isSweep es)

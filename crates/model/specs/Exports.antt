@@ -27,11 +27,11 @@ use Rattle.model.specs.Runs.{written, Turn, State, resultOf, turned, beg
 
 -- n words, from the byte i on
 unfoldable pub wordsFrom : ℕ → List ℕ → ℕ → List ℕ
-wordsFrom zero b i = []
-wordsFrom (suc n) b i = loadBytes 8 b i ∷ wordsFrom n b (i + 8)
+wordsFrom zero bytes i = []
+wordsFrom (suc n) bytes i = loadBytes 8 bytes i ∷ wordsFrom n bytes (i + 8)
 
 unfoldable pub decoded : List ℕ → List ℕ
-decoded b = wordsFrom (length b / 8) b 0
+decoded bytes = wordsFrom (length bytes / 8) bytes 0
 
 unfoldable pub encoded : List ℕ → List ℕ
 encoded [] = []
@@ -40,7 +40,7 @@ encoded (v ∷ ws) = bytesOf 8 v ++ encoded ws
 -- bytes of whole words, and words below 2^64: nothing else travels
 unfoldable pub Inverse : Type 0
 Inverse =
-    ((b : List ℕ) → ((i : ℕ) → getD b i 0 < 256) → length b % 8 ≡ 0 → encoded (decoded b) ≡ b)
+    ((bytes : List ℕ) → ((i : ℕ) → getD bytes i 0 < 256) → length bytes % 8 ≡ 0 → encoded (decoded bytes) ≡ bytes)
     × ((ws : List ℕ) → ((i : ℕ) → getD ws i 0 < 2 ^ 64) → decoded (encoded ws) ≡ ws)
 
 -- ---- what is lent to an export, and what it gives
@@ -53,10 +53,10 @@ pub record LentBytes : Type 0 where
   pub answer : List ℕ
 
 abbrev pub lendBytes : List ℕ → List ℕ → List ℕ → List ℕ → List ℕ → LentBytes
-lendBytes w s m h a = record { words = w; states = s; marks = m; heap = h; answer = a }
+lendBytes ws st ms h answer = record { words = ws; states = st; marks = ms; heap = h; answer = answer }
 
 abbrev pub decodedLent : LentBytes → Lent
-decodedLent b = record { words = decoded (b .words); states = b .states; marks = b .marks; heap = b .heap }
+decodedLent l = record { words = decoded (l .words); states = l .states; marks = l .marks; heap = l .heap }
 
 -- the number returned, and everything lent after it
 pub record Export : Type 0 where
@@ -64,22 +64,22 @@ pub record Export : Type 0 where
   pub bytes : LentBytes
 
 abbrev pub gives : ℕ → LentBytes → Export
-gives n b = record { number = n; bytes = b }
+gives n l = record { number = n; bytes = l }
 
 -- "writes the answer's numbers in order, later requests' last, yes as 1, as such words into a lent slice of 32 bytes, zeros
 -- after"
 abbrev pub answerBytes : Said → List ℕ
-answerBytes s = encoded (s .first ∷ s .second ∷ s .third ∷ s .fourth ∷ [])
+answerBytes said = encoded (said .first ∷ said .second ∷ said .third ∷ said .fourth ∷ [])
 
 -- the slice for the answer after the call; "a refusal leaves that slice alone"
 abbrev pub answerAfter : Reply → List ℕ → List ℕ
-answerAfter r a = if eqb (r .number) 0 then answerBytes (saidOf r) else a
+answerAfter reply answer = if eqb (reply .number) 0 then answerBytes (saidOf reply) else answer
 
 -- a result of the machine, as bytes: "It returns 0 or the refusal's number"
 unfoldable pub shown : List ℕ → Result → Export
-shown a r =
+shown answer r =
     gives (r .reply .number)
-    (lendBytes (encoded (r .lent .words)) (r .lent .states) (r .lent .marks) (r .lent .heap) (answerAfter (r .reply) a))
+    (lendBytes (encoded (r .lent .words)) (r .lent .states) (r .lent .marks) (r .lent .heap) (answerAfter (r .reply) answer))
 
 -- ---- an export
 
@@ -93,11 +93,11 @@ asks c p l = call p l c
 -- "a slice length that is off is BadSetup as before": words that are no whole words, and an answer slice of another length,
 -- beside the lengths that the inner call tests
 abbrev pub lengthsOk : LentBytes → Bool
-lengthsOk b = eqb (length (b .words) % 8) 0 && eqb (length (b .answer)) 32
+lengthsOk l = eqb (length (l .words) % 8) 0 && eqb (length (l .answer)) 32
 
 -- "Each export gives what the inner call gives on the decoded tables"
 unfoldable pub exported : Params → LentBytes → Inner → Export
-exported p b f = if lengthsOk b then shown (b .answer) (f p (decodedLent b)) else gives (refusalNumber BadSetup) b
+exported p l inner = if lengthsOk l then shown (l .answer) (inner p (decodedLent l)) else gives (refusalNumber BadSetup) l
 
 -- the parameters, from numbers; a flag that is neither 0 nor 1 is "a parameter [..] off" (01)
 abbrev pub given : ℕ → ℕ → ℕ → ℕ → ℕ → ℕ → ℕ → ℤ → Given
@@ -112,7 +112,7 @@ abbrev pub flagsOk : Given → Bool
 flagsOk g = leb (g .offsets) 1 && leb (g .unified) 1
 
 unfoldable pub called : Given → LentBytes → Inner → Export
-called g b f = if flagsOk g then exported (paramsOf g) b f else gives (refusalNumber BadSetup) b
+called g l inner = if flagsOk g then exported (paramsOf g) l inner else gives (refusalNumber BadSetup) l
 
 -- "2^64 − 1 offers none."
 unfoldable pub offeredBy : ℕ → Offer
@@ -127,16 +127,16 @@ pub record HostTurn : Type 0 where
 
 -- what the call is lent: the bytes that the one before left, with what holders wrote
 unfoldable pub foundBytes : Params → LentBytes → HostTurn → LentBytes
-foundBytes p b u =
-    lendBytes (b .words) (b .states) (b .marks) (written p (u .turn .writes) (b .heap)) (u .answer)
+foundBytes p l u =
+    lendBytes (l .words) (l .states) (l .marks) (written p (u .turn .writes) (l .heap)) (u .answer)
 
 unfoldable pub hostCall : Given → LentBytes → HostTurn → Export
-hostCall g b u = called g (foundBytes (paramsOf g) b u) (asks (u .turn .call))
+hostCall g l u = called g (foundBytes (paramsOf g) l u) (asks (u .turn .call))
 
 -- what the exports give, call after call
 unfoldable pub hostRun : Given → LentBytes → List HostTurn → List Export
-hostRun g b [] = []
-hostRun g b (u ∷ us) = hostCall g b u ∷ hostRun g (hostCall g b u .bytes) us
+hostRun g l [] = []
+hostRun g l (u ∷ us) = hostCall g l u ∷ hostRun g (hostCall g l u .bytes) us
 
 -- what the machine gives, as bytes
 unfoldable pub machineRun : Params → State → List HostTurn → List Export
@@ -149,11 +149,11 @@ AnswersFit us = (u : HostTurn) → In u us → length (u .answer) ≡ 32
 -- After a set-up that returned 0, whatever was lent to it: it was the machine's, and so is every call, with every byte
 unfoldable pub RunThroughExports : Type 0
 RunThroughExports =
-    (g : Given) (b : LentBytes) (us : List HostTurn)
-    → called g b setUp .number ≡ 0 → AnswersFit us
-    → (setUp (paramsOf g) (decodedLent b) .reply ≡ answered [])
-    × (called g b setUp ≡ shown (b .answer) (setUp (paramsOf g) (decodedLent b)))
-    × (hostRun g (called g b setUp .bytes) us ≡ machineRun (paramsOf g) (begun (paramsOf g) (decodedLent b)) us)
+    (g : Given) (l : LentBytes) (us : List HostTurn)
+    → called g l setUp .number ≡ 0 → AnswersFit us
+    → (setUp (paramsOf g) (decodedLent l) .reply ≡ answered [])
+    × (called g l setUp ≡ shown (l .answer) (setUp (paramsOf g) (decodedLent l)))
+    × (hostRun g (called g l setUp .bytes) us ≡ machineRun (paramsOf g) (begun (paramsOf g) (decodedLent l)) us)
 
 -- what a host reads of a call: its number, its answer if it has one, and the tables
 pub record HostSees : Type 0 where
@@ -165,18 +165,18 @@ pub record HostSees : Type 0 where
 
 unfoldable pub hostSees : Export → HostSees
 hostSees x =
-    let b : LentBytes = x .bytes in
-    record { number = x .number; answer = if eqb (x .number) 0 then b .answer else []; words = b .words; states = b .states; marks = b .marks }
+    let l : LentBytes = x .bytes in
+    record { number = x .number; answer = if eqb (x .number) 0 then l .answer else []; words = l .words; states = l .states; marks = l .marks }
 
 -- Demand 3 of runs through the exports: two hosts that make the same calls read the same, and what is claimed of held cells
 -- (Runs `RunKeeps`) holds of the machine's run, which each is. Premises as in Runs `Demand3`
 unfoldable pub Demand3ThroughExports : Type 0
 Demand3ThroughExports =
-    (g : Given) (b b′ : LentBytes) (us us′ : List HostTurn)
-    → called g b setUp .number ≡ 0 → called g b′ setUp .number ≡ 0 → AnswersFit us → AnswersFit us′
-    → HoldersWrite (paramsOf g) (begun (paramsOf g) (decodedLent b)) (map (λ u. u .turn) us)
-    → HoldersWrite (paramsOf g) (begun (paramsOf g) (decodedLent b′)) (map (λ u. u .turn) us′)
+    (g : Given) (l l′ : LentBytes) (us us′ : List HostTurn)
+    → called g l setUp .number ≡ 0 → called g l′ setUp .number ≡ 0 → AnswersFit us → AnswersFit us′
+    → HoldersWrite (paramsOf g) (begun (paramsOf g) (decodedLent l)) (map (λ u. u .turn) us)
+    → HoldersWrite (paramsOf g) (begun (paramsOf g) (decodedLent l′)) (map (λ u. u .turn) us′)
     → map (λ u. u .turn .call) us ≡ map (λ u. u .turn .call) us′
-    → (hostSees (called g b setUp) ≡ hostSees (called g b′ setUp))
-    × (map hostSees (hostRun g (called g b setUp .bytes) us) ≡ map hostSees (hostRun g (called g b′ setUp .bytes) us′))
-    × RunKeeps (paramsOf g) (begun (paramsOf g) (decodedLent b)) (map (λ u. u .turn) us)
+    → (hostSees (called g l setUp) ≡ hostSees (called g l′ setUp))
+    × (map hostSees (hostRun g (called g l setUp .bytes) us) ≡ map hostSees (hostRun g (called g l′ setUp .bytes) us′))
+    × RunKeeps (paramsOf g) (begun (paramsOf g) (decodedLent l)) (map (λ u. u .turn) us)

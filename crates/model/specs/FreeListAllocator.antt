@@ -19,13 +19,13 @@ use Rattle.model.specs.Events.{Event, initialised, swept}
 -- "skim the local available list, moving full blocks to consumed": up to a block with a free cell, which stays at the head.
 -- At most k blocks
 unfoldable pub findFreeBlockWith : ℕ → Params → ℕ → ℕ → Words → Popped
-findFreeBlockWith zero p avail full t = popped 0 t
-findFreeBlockWith (suc k) p avail full t =
-    let first : ℕ = getD (t .first) avail 0 in
+findFreeBlockWith zero p avail full w = popped 0 w
+findFreeBlockWith (suc k) p avail full w =
+    let first : ℕ = getD (w .first) avail 0 in
     let b : ℕ = blockAt p first in
-    if eqb first 0 then popped 0 t
-    else if eqb (getD (t .free) b 0) 0 then findFreeBlockWith k p avail full (push p full b (pop p avail t .words))
-    else popped first t
+    if eqb first 0 then popped 0 w
+    else if eqb (getD (w .free) b 0) 0 then findFreeBlockWith k p avail full (push p full b (pop p avail w .words))
+    else popped first w
 
 -- what a search gives: the start of a block with a free cell, 0 for none; the words after; what happened, in order
 pub record Found : Type 0 where
@@ -34,18 +34,18 @@ pub record Found : Type 0 where
   pub events : List Event
 
 abbrev pub found : ℕ → Words → Found
-found a t = record { at = a; words = t; events = [] }
+found a w = record { at = a; words = w; events = [] }
 
 abbrev pub after : Event → Found → Found
 after e f = record { at = f .at; words = f .words; events = e ∷ f .events }
 
 -- the second search went on where the first had found none
 abbrev pub andThen : Found → Found → Found
-andThen f g = record { at = g .at; words = g .words; events = f .events ++ g .events }
+andThen f f′ = record { at = f′ .at; words = f′ .words; events = f .events ++ f′ .events }
 
 -- the event of a sweep of b by these words
 abbrev pub sweepOf : Params → List ℕ → ℕ → Words → Event
-sweepOf p ms b t = swept b (sweepChain p ms b (getD (t .size) b 0))
+sweepOf p ms b w = swept b (sweepChain p ms b (getD (w .size) b 0))
 
 -- the block at a, with these words, is filed: under available if it has a free cell, which ends the search, else under
 -- consumed, and the search goes on
@@ -56,29 +56,29 @@ filed p owner bin a w more =
 
 -- "then local unswept": blocks are popped, swept and filed. At most k blocks
 unfoldable pub recycleLocalBlocks : ℕ → Params → List ℕ → ℕ → ℕ → Words → Found
-recycleLocalBlocks zero p ms owner bin t = found 0 t
-recycleLocalBlocks (suc k) p ms owner bin t =
-    let g : Popped = pop p (unswept owner bin) t in
-    let b : ℕ = blockAt p (g .at) in
-    if eqb (g .at) 0 then found 0 (g .words)
-    else after (sweepOf p ms b (g .words))
-    (filed p owner bin (g .at) (sweptWords p ms b (g .words)) (λ w. recycleLocalBlocks k p ms owner bin w))
+recycleLocalBlocks zero p ms owner bin w = found 0 w
+recycleLocalBlocks (suc k) p ms owner bin w =
+    let top : Popped = pop p (unswept owner bin) w in
+    let b : ℕ = blockAt p (top .at) in
+    if eqb (top .at) 0 then found 0 (top .words)
+    else after (sweepOf p ms b (top .words))
+    (filed p owner bin (top .at) (sweptWords p ms b (top .words)) (λ w′. recycleLocalBlocks k p ms owner bin w′))
 
 -- "then `acquire_global_block`: abandoned available, abandoned unswept (swept)": each block becomes the holder's and is filed
 -- under its lists. Abandoned consumed blocks are not tried. At most k blocks
 unfoldable pub acquireAbandoned : ℕ → Params → List ℕ → ℕ → ℕ → Words → Found
-acquireAbandoned zero p ms h bin t = found 0 t
-acquireAbandoned (suc k) p ms h bin t =
-    let g : Popped = pop p (available abandoned bin) t in
-    let g′ : Popped = pop p (unswept abandoned bin) (g .words) in
-    let b′ : ℕ = blockAt p (g′ .at) in
-    let w : Words = setTls (blockAt p (g .at)) h (g .words) in
-    let w′ : Words = setTls b′ h (g′ .words) in
-    let more : Words → Found = λ u. acquireAbandoned k p ms h bin u in
-    if eqb (g .at) 0
-    then (if eqb (g′ .at) 0 then found 0 (g′ .words)
-    else after (sweepOf p ms b′ w′) (filed p (localSets h) bin (g′ .at) (sweptWords p ms b′ w′) more))
-    else filed p (localSets h) bin (g .at) w more
+acquireAbandoned zero p ms holder bin w = found 0 w
+acquireAbandoned (suc k) p ms holder bin w =
+    let top : Popped = pop p (available abandoned bin) w in
+    let top′ : Popped = pop p (unswept abandoned bin) (top .words) in
+    let b′ : ℕ = blockAt p (top′ .at) in
+    let w₁ : Words = setTls (blockAt p (top .at)) holder (top .words) in
+    let w₂ : Words = setTls b′ holder (top′ .words) in
+    let more : Words → Found = λ w′. acquireAbandoned k p ms holder bin w′ in
+    if eqb (top .at) 0
+    then (if eqb (top′ .at) 0 then found 0 (top′ .words)
+    else after (sweepOf p ms b′ w₂) (filed p (localSets holder) bin (top′ .at) (sweptWords p ms b′ w₂) more))
+    else filed p (localSets holder) bin (top .at) w₁ more
 
 -- a search's end: also whether the offer was used, and all tables
 pub record Search : Type 0 where
@@ -92,22 +92,22 @@ inFound f t = record { at = f .at; fresh = false; tables = withWords (f .words) 
 
 -- "the offer": pushed on the available list, then initialised
 unfoldable pub acquireFresh : Params → ℕ → ℕ → Offer → Found → Tables → Search
-acquireFresh p h bin Nothing f t = inFound f t
-acquireFresh p h bin (Fresh b) f t =
-    let s : ℕ = cellBytes p bin in
-    let w : Words = initBlock p (b .0) s h (push p (available (localSets h) bin) (b .0) (f .words)) in
+acquireFresh p holder bin Nothing f t = inFound f t
+acquireFresh p holder bin (Fresh b) f t =
+    let size : ℕ = cellBytes p bin in
+    let w : Words = initBlock p (b .0) size holder (push p (available (localSets holder) bin) (b .0) (f .words)) in
     let t′ : Tables = tablesOf w (set (t .states) (b .0) Unmarked) (t .marks) in
-    let events : List Event = f .events ++ (initialised (b .0) (initChain p (b .0) s) ∷ []) in
+    let events : List Event = f .events ++ (initialised (b .0) (initChain p (b .0) size) ∷ []) in
     record { at = start p (b .0); fresh = true; tables = t′; events = events }
 
--- the whole search of the holder h for a block of this bin
+-- the whole search of a holder for a block of this bin
 unfoldable pub findBlock : Params → ℕ → ℕ → Offer → Tables → Search
-findBlock p h bin offer t =
-    let owner : ℕ = localSets h in
-    let g : Popped = findFreeBlockWith (p .blocks) p (available owner bin) (consumed owner bin) (t .words) in
-    let f : Found = recycleLocalBlocks (p .blocks) p (t .marks) owner bin (g .words) in
-    let a : Found = andThen f (acquireAbandoned (p .blocks) p (t .marks) h bin (f .words)) in
-    if eqb (g .at) 0
-    then (if eqb (f .at) 0 then (if eqb (a .at) 0 then acquireFresh p h bin offer a t else inFound a t)
-    else inFound f t)
-    else inFound (found (g .at) (g .words)) t
+findBlock p holder bin offer t =
+    let owner : ℕ = localSets holder in
+    let skimmed : Popped = findFreeBlockWith (p .blocks) p (available owner bin) (consumed owner bin) (t .words) in
+    let recycled : Found = recycleLocalBlocks (p .blocks) p (t .marks) owner bin (skimmed .words) in
+    let acquired : Found = andThen recycled (acquireAbandoned (p .blocks) p (t .marks) holder bin (recycled .words)) in
+    if eqb (skimmed .at) 0
+    then (if eqb (recycled .at) 0 then (if eqb (acquired .at) 0 then acquireFresh p holder bin offer acquired t else inFound acquired t)
+    else inFound recycled t)
+    else inFound (found (skimmed .at) (skimmed .words)) t

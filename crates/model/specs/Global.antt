@@ -18,7 +18,7 @@ use lib.Dec.{eqb, leb}
 use lib.ListN.{getD, set, replicate}
 use Rattle.model.specs.declared.Params.{Params}
 use Rattle.model.specs.Base.{if_then_else_, allBelow, sumBelow, eachBelow}
-use Rattle.model.specs.Params.{wordCount, blockAt, heapBytes, localSets, abandoned, inGc, available, unswept, consumed, bins}
+use Rattle.model.specs.Params.{wordCount, blockAt, heapBytes, bins, holders, parts, localSets, abandoned, inGc, available, unswept, consumed}
 use Rattle.model.specs.Memory.{marked, setMark, cleared}
 use Rattle.model.specs.Tables.{Words, view, Tables, tablesOf, withWords, setPhase, setBound, setReleased, withReleased}
 use Rattle.model.specs.BlockList.{remove, append, appended}
@@ -46,47 +46,47 @@ freshTables p = tablesOf (freshWords p) (replicate (p .blocks) Unallocated) (rep
 -- ---- holders
 
 unfoldable pub isHolder : ℕ → Bool
-isHolder h = leb 1 h && leb h 8
+isHolder holder = leb 1 holder && leb holder holders
 
 unfoldable pub isBound : Words → ℕ → Bool
-isBound t h = isHolder h && eqb (getD (t .bound) (h - 1) 0) 1
+isBound w holder = isHolder holder && eqb (getD (w .bound) (holder - 1) 0) 1
 
 -- "Bind gives a holder empty lists": those of a holder that is not bound are empty in sound tables
 unfoldable pub bindHolder : ℕ → Tables → Tables
-bindHolder h t = withWords (setBound (h - 1) 1 (t .words)) t
+bindHolder holder t = withWords (setBound (holder - 1) 1 (t .words)) t
 
 -- the lists of one owner go behind those of another, bin by bin (docs/DECISIONS.md on the order of the three)
 unfoldable pub abandonBin : Params → ℕ → ℕ → ℕ → Words → Words
-abandonBin p to from bin t =
+abandonBin p to from bin w =
     append p (unswept to bin) (unswept from bin)
-    (append p (consumed to bin) (consumed from bin) (append p (available to bin) (available from bin) t))
+    (append p (consumed to bin) (consumed from bin) (append p (available to bin) (available from bin) w))
 
 unfoldable pub abandonBlocks : Params → ℕ → ℕ → Words → Words
-abandonBlocks p to from t = eachBelow bins (abandonBin p to from) t
+abandonBlocks p to from w = eachBelow bins (abandonBin p to from) w
 
 -- 02, R-6: "Destroy answers the sum over its lists". The blocks of one bin, each list counted where it is appended
 unfoldable pub abandonedBin : Params → ℕ → ℕ → ℕ → Words → ℕ
-abandonedBin p to from bin t =
-    let t₁ : Words = append p (available to bin) (available from bin) t in
-    let t₂ : Words = append p (consumed to bin) (consumed from bin) t₁ in
-    appended p (available from bin) t + appended p (consumed from bin) t₁ + appended p (unswept from bin) t₂
+abandonedBin p to from bin w =
+    let w₁ : Words = append p (available to bin) (available from bin) w in
+    let w₂ : Words = append p (consumed to bin) (consumed from bin) w₁ in
+    appended p (available from bin) w + appended p (consumed from bin) w₁ + appended p (unswept from bin) w₂
 
 -- and of the bins below n, each on the words that the bins before it left
 unfoldable pub abandonedBelow : ℕ → Params → ℕ → ℕ → Words → ℕ
-abandonedBelow n p to from t = sumBelow n (λ bin. abandonedBin p to from bin (eachBelow bin (abandonBin p to from) t))
+abandonedBelow n p to from w = sumBelow n (λ bin. abandonedBin p to from bin (eachBelow bin (abandonBin p to from) w))
 
 unfoldable pub abandonedBlocks : Params → ℕ → ℕ → Words → ℕ
-abandonedBlocks p to from t = abandonedBelow bins p to from t
+abandonedBlocks p to from w = abandonedBelow bins p to from w
 
 -- "Destroy (Running) hands lists to abandoned."; since R-10 in Marking too, in the same way (Calls `mayLeave`)
 unfoldable pub destroyHolder : Params → ℕ → Tables → Tables
-destroyHolder p h t = withWords (setBound (h - 1) 0 (abandonBlocks p abandoned (localSets h) (t .words))) t
+destroyHolder p holder t = withWords (setBound (holder - 1) 0 (abandonBlocks p abandoned (localSets holder) (t .words))) t
 
 -- ---- marking
 
 -- "Prepare (Running) makes occupied blocks Unmarked, clears all marks and enters Marking."
 unfoldable pub unmarkedState : ℕ → ℕ
-unmarkedState s = if eqb s Unallocated then Unallocated else Unmarked
+unmarkedState state = if eqb state Unallocated then Unallocated else Unmarked
 
 unfoldable pub prepared : Tables → Tables
 prepared t = tablesOf (setPhase Marking (t .words)) (map unmarkedState (t .states)) (cleared (t .marks))
@@ -106,31 +106,31 @@ pub record Freed : Type 0 where
   pub events : List Event
 
 abbrev pub freed : Words → List ℕ → Freed
-freed t s = record { words = t; states = s; events = [] }
+freed w st = record { words = w; states = st; events = [] }
 
 abbrev pub afterRelease : ℕ → Freed → Freed
 afterRelease b f = record { words = f .words; states = f .states; events = released b ∷ f .events }
 
--- The Unmarked blocks of the list l, from the address a on, are taken out and released; the others stay.
+-- The Unmarked blocks of the list, from the address a on, are taken out and released; the others stay.
 -- "A walk reads next before the block is removed." At most k blocks
 unfoldable pub releaseFrom : ℕ → Params → ℕ → ℕ → Words → List ℕ → Freed
-releaseFrom zero p l a t s = freed t s
-releaseFrom (suc k) p l a t s =
+releaseFrom zero p list a w st = freed w st
+releaseFrom (suc k) p list a w st =
     let b : ℕ = blockAt p a in
-    let next : ℕ = getD (t .next) b 0 in
-    if eqb a 0 then freed t s
-    else if eqb (getD s b 0) Unmarked
-    then afterRelease b (releaseFrom k p l next (clearBlock b (remove p l b t)) (set s b Unallocated))
-    else releaseFrom k p l next t s
+    let next : ℕ = getD (w .next) b 0 in
+    if eqb a 0 then freed w st
+    else if eqb (getD st b 0) Unmarked
+    then afterRelease b (releaseFrom k p list next (clearBlock b (remove p list b w)) (set st b Unallocated))
+    else releaseFrom k p list next w st
 
 -- and after what was done before
 unfoldable pub releaseBlocks : Params → ℕ → Freed → Freed
-releaseBlocks p l f =
-    let g : Freed = releaseFrom (p .blocks) p l (getD (f .words .first) l 0) (f .words) (f .states) in
-    record { words = g .words; states = g .states; events = f .events ++ g .events }
+releaseBlocks p list f =
+    let more : Freed = releaseFrom (p .blocks) p list (getD (f .words .first) list 0) (f .words) (f .states) in
+    record { words = more .words; states = more .states; events = f .events ++ more .events }
 
 unfoldable pub appendTo : Params → ℕ → ℕ → Freed → Freed
-appendTo p l other f = record { words = append p l other (f .words); states = f .states; events = f .events }
+appendTo p list other f = record { words = append p list other (f .words); states = f .states; events = f .events }
 
 -- "A holder's release is `FreeListAllocator::release`": available and consumed blocks are released or become unswept;
 -- blocks that are unswept already stay, Unmarked or not, as in the Rust
@@ -142,9 +142,9 @@ releaseBin p owner bin f =
 
 -- ", into in-gc"
 unfoldable pub releaseHolder : Params → ℕ → Words → List ℕ → Freed
-releaseHolder p h t s =
-    let f : Freed = eachBelow bins (releaseBin p (localSets h)) (freed t s) in
-    record { words = abandonBlocks p inGc (localSets h) (f .words); states = f .states; events = f .events }
+releaseHolder p holder w st =
+    let f : Freed = eachBelow bins (releaseBin p (localSets holder)) (freed w st) in
+    record { words = abandonBlocks p inGc (localSets holder) (f .words); states = f .states; events = f .events }
 
 -- "the shared one is `sweep_later` on abandoned"
 unfoldable pub sweepLaterBin : Params → ℕ → Freed → Freed
@@ -155,24 +155,24 @@ sweepLaterBin p bin f =
     (releaseBlocks p (consumed abandoned bin) (releaseBlocks p (available abandoned bin) f))))
 
 unfoldable pub sweepLater : Params → Words → List ℕ → Freed
-sweepLater p t s = eachBelow bins (sweepLaterBin p) (freed t s)
+sweepLater p w st = eachBelow bins (sweepLaterBin p) (freed w st)
 
 -- the holder's part at its number, the shared part at 0
 unfoldable pub hasReleased : Words → ℕ → Bool
-hasReleased t part = eqb (getD (t .released) part 0) 1
+hasReleased w part = eqb (getD (w .released) part 0) 1
 
 -- "Each bound holder releases once, the shared part once": nothing is due any more
 unfoldable pub allReleased : Words → Bool
-allReleased t = hasReleased t 0 && allBelow 8 (λ i. not (isBound t (suc i)) || hasReleased t (suc i))
+allReleased w = hasReleased w 0 && allBelow holders (λ i. not (isBound w (suc i)) || hasReleased w (suc i))
 
 -- a part has released: "the first entering Releasing". "The last merges in-gc into abandoned and returns to Running."
 unfoldable pub partReleased : Params → ℕ → Words → Words
-partReleased p part t =
-    let t₁ : Words = setReleased part 1 (setPhase Releasing t) in
-    if allReleased t₁ then setPhase Running (withReleased (replicate 9 0) (abandonBlocks p abandoned inGc t₁)) else t₁
+partReleased p part w =
+    let w₁ : Words = setReleased part 1 (setPhase Releasing w) in
+    if allReleased w₁ then setPhase Running (withReleased (replicate parts 0) (abandonBlocks p abandoned inGc w₁)) else w₁
 
 -- 02, R-6: "the last release answers the number merged from in-gc"; one that is not the last merges none
 unfoldable pub merged : Params → ℕ → Words → ℕ
-merged p part t =
-    let t₁ : Words = setReleased part 1 (setPhase Releasing t) in
-    if allReleased t₁ then abandonedBlocks p abandoned inGc t₁ else 0
+merged p part w =
+    let w₁ : Words = setReleased part 1 (setPhase Releasing w) in
+    if allReleased w₁ then abandonedBlocks p abandoned inGc w₁ else 0

@@ -16,6 +16,15 @@
 -- blocks still Unmarked become Unallocated, the others wait for their sweep. After the last of them the phase is Running again. A block
 -- that waits is swept when an alloc comes upon it: each cell that no mark keeps is put on its chain.
 --
+-- Letters, in all files of specs/; what has none is spelled out (holder, owner, set, bin, list, size, chain, cell, reply, refusal):
+--   p  the parameters                          a  an address; 0 is none           c  a call
+--   w  the table words, as a record            b  a block, by its number          e, es  events
+--   ws the same, as they are lent              i  a place in a list               q  a plan
+--   st state bytes, ms mark bytes, h heap      k  how many a walk may still meet  r  a result
+--   t  the tables: words, states, marks        n  a count, a number               f  what a search found or a release freed so far
+--   l  all that is lent                        v, vs  values; x, xs of any kind   s, bk  a run's state and book; u, us turns
+-- A stroke, as in w′, is for the same later, or of another run; g is what a C host gives.
+--
 -- A call is planned by tables and marks alone (Calls `plan`), which gives the tables after, the events (block initialised, swept,
 -- released; cell taken) and how it ends. Only the link of the one cell taken is read from the heap. Everything is a function on lists
 -- of numbers, so that examples compute.

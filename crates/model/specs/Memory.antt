@@ -13,19 +13,19 @@ use Rattle.model.specs.Params.{inHeap}
 
 -- the number that the n bytes from i on make, low byte first; and the n bytes that hold v
 unfoldable pub loadBytes : ℕ → List ℕ → ℕ → ℕ
-loadBytes zero h i = 0
-loadBytes (suc n) h i = getD h i 0 + 256 * loadBytes n h (i + 1)
+loadBytes zero bytes i = 0
+loadBytes (suc n) bytes i = getD bytes i 0 + 256 * loadBytes n bytes (i + 1)
 
 unfoldable pub bytesOf : ℕ → ℕ → List ℕ
 bytesOf zero v = []
 bytesOf (suc n) v = v % 256 ∷ bytesOf n (v / 256)
 
--- the list h with vs written over it from i on
+-- the list with vs written over it from i on
 unfoldable pub overwrite : ℕ → List ℕ → List ℕ → List ℕ
 overwrite i vs [] = []
-overwrite zero [] (x ∷ h) = x ∷ h
-overwrite zero (v ∷ vs) (x ∷ h) = v ∷ overwrite zero vs h
-overwrite (suc i) vs (x ∷ h) = x ∷ overwrite i vs h
+overwrite zero [] (x ∷ xs) = x ∷ xs
+overwrite zero (v ∷ vs) (x ∷ xs) = v ∷ overwrite zero vs xs
+overwrite (suc i) vs (x ∷ xs) = x ∷ overwrite i vs xs
 
 -- ---- the heap: "Its first byte has address `base`. A word is 8 bytes, low byte first."
 

@@ -10,11 +10,11 @@ use Rattle.model.specs.Base.{if_then_else_, anyBelow}
 
 -- a power of two up to 65,536, the largest that 01 asks for
 unfoldable pub powerOfTwo : ℕ → Bool
-powerOfTwo x = anyBelow 17 (λ k. eqb x (2 ^ k))
+powerOfTwo n = anyBelow 17 (λ i. eqb n (2 ^ i))
 
 -- "L = OBJECT_REF_OFFSET_LOWER_BOUND, a multiple of 8, −64 to 64"
 unfoldable pub lowerOk : ℤ → Bool
-lowerOk l = eqb (natAbs l % 8) 0 && leb (natAbs l) 64
+lowerOk lower = eqb (natAbs lower % 8) 0 && leb (natAbs lower) 64
 
 -- L + 64, which is not negative where L is at least −64, so that everything below speaks of natural numbers. `negsuc n` is
 -- −(n + 1)
@@ -54,12 +54,48 @@ pub record Lent : Type 0 where
   pub marks : List ℕ
   pub heap : List ℕ
 
--- "First and last of all 1,470 lists are lent words", then phase, 8 bound holders and 9 released marks; then six words a block
+-- ---- how lists and words are numbered; the code has the same names in capitals (crates/model/src/lib.rt), and Cases.antt computes
+-- that the sums are right
+
+-- 30 sets, three of each holder, three abandoned, three in-gc; each of 49 bins, of which the last is 48
+abbrev pub bins : ℕ
+bins = 49
+
+abbrev pub lastBin : ℕ
+lastBin = 48
+
+abbrev pub sets : ℕ
+sets = 30
+
+abbrev pub lists : ℕ
+lists = 1470
+
+abbrev pub holders : ℕ
+holders = 8
+
+-- those that release: the holders, and the shared part at 0
+abbrev pub parts : ℕ
+parts = 9
+
+-- "First and last of all 1,470 lists are lent words", then phase, 8 bound holders and 9 released marks: where each begins; then six
+-- words a block, in as many tables
+abbrev pub phaseWord : ℕ
+phaseWord = 2940
+
+abbrev pub boundWords : ℕ
+boundWords = 2941
+
+abbrev pub releasedWords : ℕ
+releasedWords = 2949
+
 abbrev pub headWords : ℕ
 headWords = 2958
 
+abbrev pub blockTables : ℕ
+blockTables = 6
+
 unfoldable pub wordCount : Params → ℕ
-wordCount p = headWords + 6 * p .blocks
+wordCount p = headWords + blockTables * p .blocks
 
 -- "Buffers have the exact lengths these give": BadSetup is the opposite of this in every call; pages used has its own test
 unfoldable pub fits : Params → Lent → Bool
@@ -87,22 +123,15 @@ isStart p a = inHeap p a && eqb ((a - p .base) % p .bytes) 0
 -- ---- lists: "BLOCK_LIST_TABLE [..] now holds 1 + 49 × set + bin, or 0." Lists are counted from 0 here, and `listWord` is that word
 
 unfoldable pub listOf : ℕ → ℕ → ℕ
-listOf set bin = 49 * set + bin
+listOf set bin = bins * set + bin
 
 unfoldable pub listWord : ℕ → ℕ
-listWord l = 1 + l
-
-abbrev pub holders : ℕ
-holders = 8
-
--- those that release: the holders, and the shared part at 0
-abbrev pub parts : ℕ
-parts = 9
+listWord list = 1 + list
 
 -- "Holder h (1 to 8) has sets 3(h−1) available, then unswept, then consumed. Abandoned has sets 24 to 26 and
 -- abandoned-in-gc 27 to 29, same order." Each owner by its first set
 unfoldable pub localSets : ℕ → ℕ
-localSets h = 3 * (h - 1)
+localSets holder = 3 * (holder - 1)
 
 abbrev pub abandoned : ℕ
 abandoned = 24
@@ -118,12 +147,3 @@ unswept owner bin = listOf (owner + 1) bin
 
 unfoldable pub consumed : ℕ → ℕ → ℕ
 consumed owner bin = listOf (owner + 2) bin
-
-abbrev pub sets : ℕ
-sets = 30
-
-abbrev pub lists : ℕ
-lists = 1470
-
-abbrev pub bins : ℕ
-bins = 49

@@ -18,10 +18,10 @@ pub record Made : Type 0 where
 
 -- "every call gets the tables that the one before left and the parameters, buffers and choices that set-up was given": each call
 -- kept its promise on the buffers that the one before left, with the bytes that holders wrote
-unfoldable pub Chain : Params → Lent → List Made → Type 0
-Chain p l [] = Unit {0}
-Chain p l (m ∷ ms) =
-    (Promised p (foundBy p l (m .turn)) (m .turn .call) (m .gave .reply) (m .gave .lent) × Chain p (m .gave .lent) ms)
+unfoldable pub EachPromised : Params → Lent → List Made → Type 0
+EachPromised p l [] = Unit {0}
+EachPromised p l (made ∷ rest) =
+    (Promised p (foundBy p l (made .turn)) (made .turn .call) (made .gave .reply) (made .gave .lent) × EachPromised p (made .gave .lent) rest)
 
 pub record PortRun (p : Params) : Type 0 where
   -- what was lent to set-up, and what it gave
@@ -29,32 +29,32 @@ pub record PortRun (p : Params) : Type 0 where
   pub first : Result
   pub made : List Made
   pub setUpKept : SetUpPromised p given (first .reply) (first .lent)
-  pub callsKept : Chain p (first .lent) made
+  pub callsKept : EachPromised p (first .lent) made
 
 abbrev pub turnsOf : List Made → List Turn
-turnsOf ms = map (λ m. m .turn) ms
+turnsOf mades = map (λ made. made .turn) mades
 
 -- ---- what stands between its calls: its own buffers, and the book. 01: the book is fed by "demand 2's machine in that call;
 -- nothing from the port", so by the machine's step on the buffers that the port's call found
 
 unfoldable pub portBegun : {p : Params} → PortRun p → State
-portBegun a = record { lent = a .first .lent; book = emptyBook }
+portBegun run = record { lent = run .first .lent; book = emptyBook }
 
 unfoldable pub portTurned : Params → State → Made → State
-portTurned p s m = record { lent = m .gave .lent; book = bookOf p s (m .turn) }
+portTurned p s made = record { lent = made .gave .lent; book = bookOf p s (made .turn) }
 
 -- what a reader of it sees: its replies, words, state bytes and mark bytes, and the counts of its calls
-unfoldable pub portTrace : Params → State → List Made → List Seen
-portTrace p s [] = []
-portTrace p s (m ∷ ms) = seen (m .gave) (stepOf p s (m .turn) .events) ∷ portTrace p (portTurned p s m) ms
+unfoldable pub portSeen : Params → State → List Made → List Seen
+portSeen p s [] = []
+portSeen p s (made ∷ rest) = seen (made .gave) (stepOf p s (made .turn) .events) ∷ portSeen p (portTurned p s made) rest
 
 -- what holds in it, call by call: of the replies that it gave, and of the heap that each call found and left
 unfoldable pub PortKeeps : Params → State → List Made → Type 0
 PortKeeps p s [] = Unit {0}
-PortKeeps p s (m ∷ ms) =
-    (CallKeeps p (m .turn .call) (stepOf p s (m .turn) .events) (m .gave) (foundBy p (s .lent) (m .turn) .heap) (s .book)
-    (bookOf p s (m .turn))
-    × PortKeeps p (portTurned p s m) ms)
+PortKeeps p s (made ∷ rest) =
+    (CallKeeps p (made .turn .call) (stepOf p s (made .turn) .events) (made .gave) (foundBy p (s .lent) (made .turn) .heap) (s .book)
+    (bookOf p s (made .turn))
+    × PortKeeps p (portTurned p s made) rest)
 
 -- ---- demand 3 of the port
 
@@ -65,25 +65,25 @@ ran p s (u ∷ us) = record { turn = u; gave = resultOf p s u } ∷ ran p (turne
 
 -- Every reply and every buffer is that of the machine's run. So the premise on holders, which speaks of the machine's run, is
 -- about this run
-pub record IsRun (p : Params) (a : PortRun p) : Type 0 where
-  pub setUps : a .first ≡ setUp p (a .given)
-  pub calls : a .made ≡ ran p (begun p (a .given)) (turnsOf (a .made))
+pub record IsRun (p : Params) (run : PortRun p) : Type 0 where
+  pub setUps : run .first ≡ setUp p (run .given)
+  pub calls : run .made ≡ ran p (begun p (run .given)) (turnsOf (run .made))
 
 -- "give equal answers, counts and tables at set-up and after each call"
-pub record PortAlike (p : Params) (a b : PortRun p) : Type 0 where
-  pub setUps : seen (a .first) [] ≡ seen (b .first) []
-  pub calls : portTrace p (portBegun a) (a .made) ≡ portTrace p (portBegun b) (b .made)
-  pub pagesAtSetUp : (firsts : List ℕ) → pages p (a .first .lent .words) firsts ≡ pages p (b .first .lent .words) firsts
+pub record PortAlike (p : Params) (run run′ : PortRun p) : Type 0 where
+  pub setUps : seen (run .first) [] ≡ seen (run′ .first) []
+  pub calls : portSeen p (portBegun run) (run .made) ≡ portSeen p (portBegun run′) (run′ .made)
+  pub pagesAtSetUp : (firsts : List ℕ) → pages p (run .first .lent .words) firsts ≡ pages p (run′ .first .lent .words) firsts
   pub pagesAfter : (firsts : List ℕ)
-      → map (λ m. pages p (m .gave .lent .words) firsts) (a .made) ≡ map (λ m. pages p (m .gave .lent .words) firsts) (b .made)
+      → map (λ made. pages p (made .gave .lent .words) firsts) (run .made) ≡ map (λ made. pages p (made .gave .lent .words) firsts) (run′ .made)
 
 -- The premises are those of `Demand3`. No property of the port but its promises is used
 unfoldable pub Demand3OfThePort : Type 0
 Demand3OfThePort =
-    (p : Params) (a b : PortRun p)
-    → a .first .reply ≡ answered []
-    → b .first .reply ≡ answered []
-    → HoldersWrite p (begun p (a .given)) (turnsOf (a .made))
-    → HoldersWrite p (begun p (b .given)) (turnsOf (b .made))
-    → map (λ u. u .call) (turnsOf (a .made)) ≡ map (λ u. u .call) (turnsOf (b .made))
-    → (IsRun p a × IsRun p b) × PortAlike p a b × PortKeeps p (portBegun a) (a .made) × PortKeeps p (portBegun b) (b .made)
+    (p : Params) (run run′ : PortRun p)
+    → run .first .reply ≡ answered []
+    → run′ .first .reply ≡ answered []
+    → HoldersWrite p (begun p (run .given)) (turnsOf (run .made))
+    → HoldersWrite p (begun p (run′ .given)) (turnsOf (run′ .made))
+    → map (λ u. u .call) (turnsOf (run .made)) ≡ map (λ u. u .call) (turnsOf (run′ .made))
+    → (IsRun p run × IsRun p run′) × PortAlike p run run′ × PortKeeps p (portBegun run) (run .made) × PortKeeps p (portBegun run′) (run′ .made)

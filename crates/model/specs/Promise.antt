@@ -8,13 +8,13 @@ use Rattle.model.specs.Calls.{Reply, Call, call, setUp}
 
 -- the four lists that are lent
 abbrev pub lend : List ℕ → List ℕ → List ℕ → List ℕ → Lent
-lend w s m h = record { words = w; states = s; marks = m; heap = h }
+lend ws st ms h = record { words = ws; states = st; marks = ms; heap = h }
 
 -- every call but set-up: l is lent before, l′ after
-pub record Promised (p : Params) (l : Lent) (c : Call) (r : Reply) (l′ : Lent) : Type 0 where
-  pub reply : r ≡ call p l c .reply
+pub record Promised (p : Params) (l : Lent) (c : Call) (gave : Reply) (l′ : Lent) : Type 0 where
+  pub reply : gave ≡ call p l c .reply
   pub lent : l′ ≡ call p l c .lent
 
-pub record SetUpPromised (p : Params) (l : Lent) (r : Reply) (l′ : Lent) : Type 0 where
-  pub reply : r ≡ setUp p l .reply
+pub record SetUpPromised (p : Params) (l : Lent) (gave : Reply) (l′ : Lent) : Type 0 where
+  pub reply : gave ≡ setUp p l .reply
   pub lent : l′ ≡ setUp p l .lent

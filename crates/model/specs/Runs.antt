@@ -34,55 +34,55 @@ pub record Book : Type 0 where
 
 -- 01: "A sweep strikes out the cells it frees, in a refused alloc too; a block release strikes out every cell of that block."
 unfoldable pub frees : Params → Event → Cell → Bool
-frees p (initialised b chain) c = false
-frees p (swept b chain) c = member (c .start) chain
-frees p (released b) c = eqb (blockAt p (c .start)) b
-frees p (taken a s) c = false
+frees p (initialised b chain) cell = false
+frees p (swept b chain) cell = member (cell .start) chain
+frees p (released b) cell = eqb (blockAt p (cell .start)) b
+frees p (taken a size) cell = false
 
 -- 01: "A served alloc enters the cell it took, as new; its start is the address before `align_allocation` shifts it." Only a
 -- served alloc has the event `taken` (Calls `takeCell`)
 unfoldable pub entered : ℕ → Event → List Cell → List Cell
-entered h (initialised b chain) cs = cs
-entered h (swept b chain) cs = cs
-entered h (released b) cs = cs
-entered h (taken a s) cs = record { start = a; size = s; holder = h; old = false } ∷ cs
+entered holder (initialised b chain) cells = cells
+entered holder (swept b chain) cells = cells
+entered holder (released b) cells = cells
+entered holder (taken a size) cells = record { start = a; size = size; holder = holder; old = false } ∷ cells
 
--- one event of a call by the holder h
+-- one event of a call by this holder
 unfoldable pub bookEvent : Params → ℕ → Event → Book → Book
-bookEvent p h e bk =
-    record { cells = entered h e (filter (λ c. not (frees p e c)) (bk .cells)); places = bk .places }
+bookEvent p holder e bk =
+    record { cells = entered holder e (filter (λ cell. not (frees p e cell)) (bk .cells)); places = bk .places }
 
 unfoldable pub bookEvents : Params → ℕ → List Event → Book → Book
-bookEvents p h es bk = foldl (λ book e. bookEvent p h e book) bk es
+bookEvents p holder es bk = foldl (λ book e. bookEvent p holder e book) bk es
 
 abbrev pub aged : Cell → Cell
-aged c = record { start = c .start; size = c .size; holder = c .holder; old = true }
+aged cell = record { start = cell .start; size = cell .size; holder = cell .holder; old = true }
 
 -- 01: "An answered prepare makes all cells old and drops all places. An answered mark adds its place. [..] Nothing else changes
 -- the book."
 unfoldable pub bookAnswer : Call → Book → Book
-bookAnswer (bind h) bk = bk
-bookAnswer (destroy h) bk = bk
-bookAnswer (alloc h size align offset offer) bk = bk
+bookAnswer (bind holder) bk = bk
+bookAnswer (destroy holder) bk = bk
+bookAnswer (alloc holder size align offset offer) bk = bk
 bookAnswer prepare bk = record { cells = map aged (bk .cells); places = [] }
 bookAnswer (mark place b) bk = record { cells = bk .cells; places = place ∷ bk .places }
-bookAnswer (release h) bk = bk
+bookAnswer (release holder) bk = bk
 bookAnswer sharedRelease bk = bk
 
 -- the holder that a cell taken in this call goes to
 unfoldable pub takerOf : Call → ℕ
-takerOf = elim [ alloc h size align offset offer ↦ h | bind h ↦ 0 | destroy h ↦ 0 | prepare ↦ 0 | mark a b ↦ 0 | release h ↦ 0 | sharedRelease ↦ 0 ]
+takerOf = elim [ alloc holder size align offset offer ↦ holder | bind holder ↦ 0 | destroy holder ↦ 0 | prepare ↦ 0 | mark a b ↦ 0 | release holder ↦ 0 | sharedRelease ↦ 0 ]
 
 -- 01: "It is fed each call and, in order, the sweeps, block releases, cell taken and answer of demand 2's machine in that call;
 -- nothing from the port."
 unfoldable pub bookAfter : Params → Call → Step → Book → Book
-bookAfter p c s bk =
-    let book : Book = bookEvents p (takerOf c) (s .events) bk in
-    if eqb (s .reply .number) 0 then bookAnswer c book else book
+bookAfter p c done bk =
+    let book : Book = bookEvents p (takerOf c) (done .events) bk in
+    if eqb (done .reply .number) 0 then bookAnswer c book else book
 
 -- 01: "unmarked if the sweep chosen would find none of the book's places for it"
 unfoldable pub unmarked : Params → Book → Cell → Bool
-unmarked p bk c = not (keeps p (λ a. member a (bk .places)) (c .size) (c .start))
+unmarked p bk cell = not (keeps p (λ a. member a (bk .places)) (cell .size) (cell .start))
 
 -- ---- runs: "every call gets the tables that the one before left and the parameters, buffers and choices that set-up was given"
 
@@ -93,7 +93,7 @@ pub record Write : Type 0 where
   pub byte : ℕ
 
 unfoldable pub written : Params → List Write → List ℕ → List ℕ
-written p ws h = foldl (λ h′ w. set h′ (w .address - p .base) (w .byte)) h ws
+written p writes h = foldl (λ h′ write. set h′ (write .address - p .base) (write .byte)) h writes
 
 -- holders write, and then a call is made. "never repeat it": a `Call` is never a set-up. Marks carry place and block, allocs
 -- their offer
@@ -134,15 +134,15 @@ begun p l = record { lent = setUp p l .lent; book = emptyBook }
 -- ---- the premise "between calls only holders write, and only in cells they hold then"
 
 unfoldable pub covers : Cell → ℕ → Type 0
-covers c a = ((c .start ≤ a) × (a < c .start + c .size))
+covers cell a = ((cell .start ≤ a) × (a < cell .start + cell .size))
 
 unfoldable pub Holds : Book → Write → Type 0
-Holds bk w = (c : Cell) × In c (bk .cells) × (c .holder ≡ w .holder) × covers c (w .address)
+Holds bk write = (cell : Cell) × In cell (bk .cells) × (cell .holder ≡ write .holder) × covers cell (write .address)
 
 unfoldable pub HoldersWrite : Params → State → List Turn → Type 0
 HoldersWrite p s [] = Unit {0}
 HoldersWrite p s (u ∷ us) =
-    (((w : Write) → In w (u .writes) → Holds (s .book) w) × HoldersWrite p (turned p s u) us)
+    (((write : Write) → In write (u .writes) → Holds (s .book) write) × HoldersWrite p (turned p s u) us)
 
 -- ---- what a reader of two runs sees: "answers, counts and tables at set-up and after each call". 01: "Answers are compared with
 -- their counts: swept is the number of block sweeps in the call, released the number of blocks it made Unallocated. Tables are all
@@ -162,9 +162,9 @@ seen r es =
     let l : Lent = r .lent in
     record { reply = r .reply; swept = sweeps es; released = releases es; words = l .words; states = l .states; marks = l .marks }
 
-unfoldable pub trace : Params → State → List Turn → List Seen
-trace p s [] = []
-trace p s (u ∷ us) = seen (resultOf p s u) (stepOf p s u .events) ∷ trace p (turned p s u) us
+unfoldable pub seenIn : Params → State → List Turn → List Seen
+seenIn p s [] = []
+seenIn p s (u ∷ us) = seen (resultOf p s u) (stepOf p s u .events) ∷ seenIn p (turned p s u) us
 
 -- ---- what holds in each run, call by call. A call of a run is given by its events, its reply, and the heap and the book before
 -- and after it
@@ -175,57 +175,57 @@ byteAt p h a = getD h (a - p .base) 0
 -- "every cell arrives all zero": it lies in the heap, and each of its bytes is 0 when the call returns
 unfoldable pub Zeroed : Params → List Event → List ℕ → Type 0
 Zeroed p es h =
-    (a s : ℕ) → In (taken a s) es
-    → (p .base ≤ a) × (a + s ≤ heapEnd p) × ((k : ℕ) → a ≤ k → k < a + s → byteAt p h k ≡ 0)
+    (a size : ℕ) → In (taken a size) es
+    → (p .base ≤ a) × (a + size ≤ heapEnd p) × ((a′ : ℕ) → a ≤ a′ → a′ < a + size → byteAt p h a′ ≡ 0)
 
 -- A served alloc takes a cell: the size answered is the cell's, and the address answered is its start, shifted, from which
 -- the size asked for lies within the cell. This ties what the book enters to what the caller is told
 unfoldable pub Served : Call → Reply → List Event → Type 0
-Served c r es =
-    (h size align offset : ℕ) (offer : Offer) → c ≡ alloc h size align offset offer → r .number ≡ 0
-    → (a : ℕ) × (n : ℕ) × In (taken a n) es × (getD (r .values) 0 0 ≡ alignAllocation a align offset)
-    × (getD (r .values) 1 0 ≡ n) × (alignAllocation a align offset + size ≤ a + n)
+Served c reply es =
+    (holder size align offset : ℕ) (offer : Offer) → c ≡ alloc holder size align offset offer → reply .number ≡ 0
+    → (a : ℕ) × (cellSize : ℕ) × In (taken a cellSize) es × (getD (reply .values) 0 0 ≡ alignAllocation a align offset)
+    × (getD (reply .values) 1 0 ≡ cellSize) × (alignAllocation a align offset + size ≤ a + cellSize)
 
 -- The counts answered are those of the call's events, which `Seen` has. 01: "The answer: address, cell size, whether the offer was
 -- used, blocks swept (added)." "Each answers how many blocks it released (added)."
 unfoldable pub Counted : Call → Reply → List Event → Type 0
-Counted (bind h) r es = Unit {0}
-Counted (destroy h) r es = Unit {0}
-Counted (alloc h size align offset offer) r es = (r .number ≡ 0 → getD (r .values) 3 0 ≡ sweeps es)
-Counted prepare r es = Unit {0}
-Counted (mark place b) r es = Unit {0}
-Counted (release h) r es = (r .number ≡ 0 → getD (r .values) 0 0 ≡ releases es)
-Counted sharedRelease r es = (r .number ≡ 0 → getD (r .values) 0 0 ≡ releases es)
+Counted (bind holder) reply es = Unit {0}
+Counted (destroy holder) reply es = Unit {0}
+Counted (alloc holder size align offset offer) reply es = (reply .number ≡ 0 → getD (reply .values) 3 0 ≡ sweeps es)
+Counted prepare reply es = Unit {0}
+Counted (mark place b) reply es = Unit {0}
+Counted (release holder) reply es = (reply .number ≡ 0 → getD (reply .values) 0 0 ≡ releases es)
+Counted sharedRelease reply es = (reply .number ≡ 0 → getD (reply .values) 0 0 ≡ releases es)
 
 -- "no byte lies in two held cells"
 unfoldable pub Apart : Cell → Cell → Type 0
-Apart c d = (a : ℕ) → covers c a → covers d a → ⊥
+Apart cell other = (a : ℕ) → covers cell a → covers other a → ⊥
 
 -- 01: "One held before a call stays held in it unless struck out"
 unfoldable pub staysHeld : Params → List Event → Cell → Bool
-staysHeld p es c = not (any (λ e. frees p e c) es)
+staysHeld p es cell = not (any (λ e. frees p e cell) es)
 
 -- "no call changes a byte of a cell that stays held"
 unfoldable pub Unchanged : Params → Book → List Event → List ℕ → List ℕ → Type 0
 Unchanged p bk es h h′ =
-    (c : Cell) → In c (bk .cells) → staysHeld p es c ≡ true
-    → (k : ℕ) → covers c k → byteAt p h′ k ≡ byteAt p h k
+    (cell : Cell) → In cell (bk .cells) → staysHeld p es cell ≡ true
+    → (a : ℕ) → covers cell a → byteAt p h′ a ≡ byteAt p h a
 
 -- the event sweeps the cell's block or makes it Unallocated
 unfoldable pub hits : Params → Event → Cell → Bool
-hits p (initialised b chain) c = false
-hits p (swept b chain) c = eqb (blockAt p (c .start)) b
-hits p (released b) c = eqb (blockAt p (c .start)) b
-hits p (taken a s) c = false
+hits p (initialised b chain) cell = false
+hits p (swept b chain) cell = eqb (blockAt p (cell .start)) b
+hits p (released b) cell = eqb (blockAt p (cell .start)) b
+hits p (taken a size) cell = false
 
 -- "a cell is lost exactly when its block is swept or made Unallocated while it is unmarked, and only after a prepare since
 -- it was handed out": at each event in order, of each cell held just before it
 unfoldable pub LostExactly : Params → ℕ → List Event → Book → Type 0
-LostExactly p h [] bk = Unit {0}
-LostExactly p h (e ∷ es) bk =
-    (((c : Cell) → In c (bk .cells)
-    → (frees p e c ≡ (hits p e c && unmarked p bk c)) × (frees p e c ≡ true → c .old ≡ true))
-    × LostExactly p h es (bookEvent p h e bk))
+LostExactly p holder [] bk = Unit {0}
+LostExactly p holder (e ∷ es) bk =
+    (((cell : Cell) → In cell (bk .cells)
+    → (frees p e cell ≡ (hits p e cell && unmarked p bk cell)) × (frees p e cell ≡ true → cell .old ≡ true))
+    × LostExactly p holder es (bookEvent p holder e bk))
 
 -- all of it, of the call c on the heap h and the book bk, with its events es, that gave r and left the book bk′
 pub record CallKeeps (p : Params) (c : Call) (es : List Event) (r : Result) (h : List ℕ) (bk bk′ : Book) : Type 0 where
@@ -250,11 +250,11 @@ RunKeeps p s (u ∷ us) = (TurnKeeps p s u × RunKeeps p (turned p s u) us)
 -- "give equal answers, counts and tables at set-up and after each call"
 pub record Alike (p : Params) (l l′ : Lent) (us us′ : List Turn) : Type 0 where
   pub setUps : seen (setUp p l) [] ≡ seen (setUp p l′) []
-  pub calls : trace p (begun p l) us ≡ trace p (begun p l′) us′
+  pub calls : seenIn p (begun p l) us ≡ seenIn p (begun p l′) us′
   -- 01: "Pages used [..] asked at one point of both runs on the same records, it answers alike."
   pub pagesAtSetUp : (firsts : List ℕ) → pages p (setUp p l .lent .words) firsts ≡ pages p (setUp p l′ .lent .words) firsts
   pub pagesAfter : (firsts : List ℕ)
-      → map (λ s. pages p (s .words) firsts) (trace p (begun p l) us) ≡ map (λ s. pages p (s .words) firsts) (trace p (begun p l′) us′)
+      → map (λ x. pages p (x .words) firsts) (seenIn p (begun p l) us) ≡ map (λ x. pages p (x .words) firsts) (seenIn p (begun p l′) us′)
 
 -- "What a holder writes shows in no answer and reaches no other holder. For every list of bind, destroy, alloc, prepare, mark,
 -- release and shared release calls, refused ones included, after a set-up that isn't refused: whatever bytes the heap starts with

@@ -9,8 +9,8 @@ use Rattle.model.specs.Base.{if_then_else_}
 
 -- n times four sizes, "each next four twice the four before"
 unfoldable pub fours : ℕ → ℕ → ℕ → ℕ → ℕ → List ℕ
-fours zero a b c d = []
-fours (suc n) a b c d = a ∷ b ∷ c ∷ d ∷ fours n (2 * a) (2 * b) (2 * c) (2 * d)
+fours zero first second third fourth = []
+fours (suc n) first second third fourth = first ∷ second ∷ third ∷ fourth ∷ fours n (2 * first) (2 * second) (2 * third) (2 * fourth)
 
 -- "Cell sizes in words of bins 0 to 48: 1, then 1 to 8, then 10, 12, 14, 16, and so on, [..] to 8,192."
 unfoldable pub classWords : List ℕ
@@ -55,10 +55,10 @@ alignAllocation region align offset = region + shift region align offset
 unfoldable pub binOfWords : Params → ℕ → ℕ
 binOfWords p words = binOf p (8 * words)
 
--- f i, f (i + 1), and so on: n of them
+-- the entries i, i + 1, and so on: n of them
 unfoldable pub tabulated : (ℕ → ℕ) → ℕ → ℕ → List ℕ
-tabulated f zero i = []
-tabulated f (suc n) i = f i ∷ tabulated f n (suc i)
+tabulated entry zero i = []
+tabulated entry (suc n) i = entry i ∷ tabulated entry n (suc i)
 
 -- 02, R-1: "a table of 8,193 entries that gives the bin of every word count from 0 to 8,192"
 unfoldable pub binTable : Params → List ℕ

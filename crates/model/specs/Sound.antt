@@ -8,7 +8,7 @@ use lib.Dec.{eqb, ltb, leb}
 use lib.ListN.{getD}
 use Rattle.model.specs.declared.Params.{Params}
 use Rattle.model.specs.Base.{if_then_else_, allBelow, anyBelow, member}
-use Rattle.model.specs.Params.{start, blockAt, isStart, listOf, listWord, localSets, abandoned, inGc, lists, bins}
+use Rattle.model.specs.Params.{start, blockAt, isStart, bins, lists, holders, parts, listOf, listWord, localSets, abandoned, inGc}
 use Rattle.model.specs.Tables.{Words, Tables}
 use Rattle.model.specs.SizeClasses.{cellBytes}
 use Rattle.model.specs.BlockList.{blocksOn}
@@ -35,10 +35,10 @@ unfoldable pub listNamed : Words → ℕ → ℕ
 listNamed w b = getD (w .list) b 0 - 1
 
 unfoldable pub binNamed : Words → ℕ → ℕ
-binNamed w b = listNamed w b % 49
+binNamed w b = listNamed w b % bins
 
 unfoldable pub setNamed : Words → ℕ → ℕ
-setNamed w b = listNamed w b / 49
+setNamed w b = listNamed w b / bins
 
 -- "any other block is on [..] the list it names": there is such a list, and its walk meets the block. That no other list's
 -- walk meets it is `linked`, below: a walk meets only blocks that name its own list
@@ -71,15 +71,15 @@ blockSound p t b =
 -- "links agree both ways": from the address a on, behind the block at `before`, at most k blocks: each link is the start of
 -- an occupied block that names this list and whose prev is the block before; the list's last is the last block met
 unfoldable pub linkedFrom : ℕ → Params → Tables → ℕ → ℕ → ℕ → Bool
-linkedFrom zero p t l before a = eqb a 0 && eqb (getD (t .words .last) l 0) before
-linkedFrom (suc k) p t l before a =
+linkedFrom zero p t list before a = eqb a 0 && eqb (getD (t .words .last) list 0) before
+linkedFrom (suc k) p t list before a =
     let b : ℕ = blockAt p a in
-    if eqb a 0 then eqb (getD (t .words .last) l 0) before
-    else (isStart p a && not (eqb (stateOf t b) Unallocated) && eqb (getD (t .words .list) b 0) (listWord l)
-    && eqb (getD (t .words .prev) b 0) before && linkedFrom k p t l a (getD (t .words .next) b 0))
+    if eqb a 0 then eqb (getD (t .words .last) list 0) before
+    else (isStart p a && not (eqb (stateOf t b) Unallocated) && eqb (getD (t .words .list) b 0) (listWord list)
+    && eqb (getD (t .words .prev) b 0) before && linkedFrom k p t list a (getD (t .words .next) b 0))
 
 unfoldable pub linked : Params → Tables → ℕ → Bool
-linked p t l = linkedFrom (p .blocks) p t l 0 (getD (t .words .first) l 0)
+linked p t list = linkedFrom (p .blocks) p t list 0 (getD (t .words .first) list 0)
 
 -- the three sets of an owner are empty
 unfoldable pub ownerEmpty : Words → ℕ → Bool
@@ -87,7 +87,7 @@ ownerEmpty w owner = allBelow (3 * bins) (λ i. eqb (getD (w .first) (listOf own
 
 -- "unbound holders' lists are empty"
 unfoldable pub unboundEmpty : Words → Bool
-unboundEmpty w = allBelow 8 (λ i. isBound w (suc i) || ownerEmpty w (localSets (suc i)))
+unboundEmpty w = allBelow holders (λ i. isBound w (suc i) || ownerEmpty w (localSets (suc i)))
 
 -- "in-gc lists are empty unless Releasing"
 unfoldable pub inGcEmpty : Words → Bool
@@ -101,20 +101,20 @@ phaseKnown w = eqb (w .phase) Running || eqb (w .phase) Marking || eqb (w .phase
 
 -- each bound word and each released word is 0 or 1 (how 01's marks are kept here)
 unfoldable pub flagsKnown : Words → Bool
-flagsKnown w = allBelow 8 (λ i. leb (getD (w .bound) i 0) 1) && allBelow 9 (λ i. leb (getD (w .released) i 0) 1)
+flagsKnown w = allBelow holders (λ i. leb (getD (w .bound) i 0) 1) && allBelow parts (λ i. leb (getD (w .released) i 0) 1)
 
 -- "released marks are set only in Releasing, only for bound holders and the shared part;"
 unfoldable pub releasedFew : Words → Bool
 releasedFew w =
-    allBelow 9 (λ part. not (hasReleased w part) || (eqb (w .phase) Releasing && (eqb part 0 || isBound w part)))
+    allBelow parts (λ part. not (hasReleased w part) || (eqb (w .phase) Releasing && (eqb part 0 || isBound w part)))
 
 -- "there at least one is set and at least one is still due;"
 unfoldable pub releasedSome : Words → Bool
-releasedSome w = not (eqb (w .phase) Releasing) || (anyBelow 9 (λ part. hasReleased w part) && not (allReleased w))
+releasedSome w = not (eqb (w .phase) Releasing) || (anyBelow parts (λ part. hasReleased w part) && not (allReleased w))
 
 -- "a released holder's lists are empty."
 unfoldable pub releasedEmpty : Words → Bool
-releasedEmpty w = allBelow 8 (λ i. not (hasReleased w (suc i)) || ownerEmpty w (localSets (suc i)))
+releasedEmpty w = allBelow holders (λ i. not (hasReleased w (suc i)) || ownerEmpty w (localSets (suc i)))
 
 -- "Tables are sound if"
 unfoldable pub sound : Params → Tables → Bool

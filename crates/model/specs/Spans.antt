@@ -22,7 +22,7 @@ phaseIn s = tablesIn (s .lent) .words .phase
 
 -- no turn is an answered prepare: "before the next prepare"
 unfoldable pub isPrepare : Call → Bool
-isPrepare = elim [ prepare ↦ true | bind h ↦ false | destroy h ↦ false | alloc h size align offset offer ↦ false | mark a b ↦ false | release h ↦ false | sharedRelease ↦ false ]
+isPrepare = elim [ prepare ↦ true | bind holder ↦ false | destroy holder ↦ false | alloc holder size align offset offer ↦ false | mark a b ↦ false | release holder ↦ false | sharedRelease ↦ false ]
 
 unfoldable pub NoPrepare : Params → State → List Turn → Type 0
 NoPrepare p s [] = Unit {0}
@@ -31,19 +31,19 @@ NoPrepare p s (u ∷ us) =
 
 -- "isn't lost": no turn strikes the cell out, and it stands in the book after the last
 unfoldable pub NotLost : Params → State → List Turn → Cell → Type 0
-NotLost p s [] c = In c (s .book .cells)
-NotLost p s (u ∷ us) c = ((staysHeld p (stepOf p s u .events) c ≡ true) × NotLost p (turned p s u) us c)
+NotLost p s [] cell = In cell (s .book .cells)
+NotLost p s (u ∷ us) cell = ((staysHeld p (stepOf p s u .events) cell ≡ true) × NotLost p (turned p s u) us cell)
 
 -- 02, R-10: "in a run under demand 3's premises a cell of the departed holder that is marked when releasing begins isn't lost before
 -- the next prepare." Of every held cell, whether its holder is bound or gone. Releasing begins with the turn u, which leaves Marking
 unfoldable pub MarkedStays : Type 0
 MarkedStays =
-    (p : Params) (l : Lent) (us : List Turn) (u : Turn) (vs : List Turn) (c : Cell)
+    (p : Params) (l : Lent) (us : List Turn) (u : Turn) (us′ : List Turn) (cell : Cell)
     → setUp p l .reply ≡ answered []
-    → HoldersWrite p (begun p l) (us ++ (u ∷ vs))
+    → HoldersWrite p (begun p l) (us ++ (u ∷ us′))
     → phaseIn (afterTurns p (begun p l) us) ≡ Marking
     → phaseIn (turned p (afterTurns p (begun p l) us) u) ≢ Marking
-    → In c (afterTurns p (begun p l) us .book .cells)
-    → unmarked p (afterTurns p (begun p l) us .book) c ≡ false
-    → NoPrepare p (afterTurns p (begun p l) us) (u ∷ vs)
-    → NotLost p (afterTurns p (begun p l) us) (u ∷ vs) c
+    → In cell (afterTurns p (begun p l) us .book .cells)
+    → unmarked p (afterTurns p (begun p l) us .book) cell ≡ false
+    → NoPrepare p (afterTurns p (begun p l) us) (u ∷ us′)
+    → NotLost p (afterTurns p (begun p l) us) (u ∷ us′) cell

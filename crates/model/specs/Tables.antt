@@ -5,7 +5,7 @@ use mathlib.Core.List.{List, _∷_, _++_}
 use lib.Dec.{ltb}
 use lib.ListN.{length, take, drop, getD, set}
 use Rattle.model.specs.Base.{if_then_else_}
-use Rattle.model.specs.Params.{headWords, lists}
+use Rattle.model.specs.Params.{lists, holders, parts, phaseWord, boundWords, releasedWords, headWords, blockTables}
 
 pub record Words : Type 0 where
   -- of each list: its first and its last block, by start address
@@ -25,82 +25,82 @@ pub record Words : Type 0 where
   pub list : List ℕ
   pub tls : List ℕ
 
--- the k words from o on
+-- the k words from this one on
 abbrev pub part : ℕ → ℕ → List ℕ → List ℕ
-part o k w = take k (drop o w)
+part from k ws = take k (drop from ws)
 
 -- the number of blocks, from the count of words
 abbrev pub blocksIn : List ℕ → ℕ
-blocksIn w = (length w - headWords) / 6
+blocksIn ws = (length ws - headWords) / blockTables
 
 -- the j-th block table, of n blocks
 abbrev pub blockTable : ℕ → ℕ → List ℕ → List ℕ
-blockTable n j w = part (headWords + j * n) n w
+blockTable n j ws = part (headWords + j * n) n ws
 
 unfoldable pub view : List ℕ → Words
-view w =
+view ws =
     record {
-      first = part 0 lists w;
-      last = part lists lists w;
-      phase = getD w 2940 0;
-      bound = part 2941 8 w;
-      released = part 2949 9 w;
-      next = blockTable (blocksIn w) 0 w;
-      prev = blockTable (blocksIn w) 1 w;
-      free = blockTable (blocksIn w) 2 w;
-      size = blockTable (blocksIn w) 3 w;
-      list = blockTable (blocksIn w) 4 w;
-      tls = blockTable (blocksIn w) 5 w;
+      first = part 0 lists ws;
+      last = part lists lists ws;
+      phase = getD ws phaseWord 0;
+      bound = part boundWords holders ws;
+      released = part releasedWords parts ws;
+      next = blockTable (blocksIn ws) 0 ws;
+      prev = blockTable (blocksIn ws) 1 ws;
+      free = blockTable (blocksIn ws) 2 ws;
+      size = blockTable (blocksIn ws) 3 ws;
+      list = blockTable (blocksIn ws) 4 ws;
+      tls = blockTable (blocksIn ws) 5 ws;
     }
 
 unfoldable pub flat : Words → List ℕ
-flat t =
-    t .first ++ (t .last ++ (t .phase ∷ (t .bound ++ (t .released
-    ++ (t .next ++ (t .prev ++ (t .free ++ (t .size ++ (t .list ++ t .tls)))))))))
+flat w =
+    w .first ++ (w .last ++ (w .phase ∷ (w .bound ++ (w .released
+    ++ (w .next ++ (w .prev ++ (w .free ++ (w .size ++ (w .list ++ w .tls)))))))))
 
 -- ---- one word put in place of the old in the lent words themselves: a store past the end of its table writes nothing, and one
 -- in it changes no other word, whatever the length of the words
 
--- the words with v at i of the k words from o on, and as they are if there is no such i
+-- the words with v at i of the k words from this one on, and as they are if there is no such i
 abbrev pub putIn : ℕ → ℕ → ℕ → ℕ → List ℕ → List ℕ
-putIn o k i v w = if ltb i k then set w (o + i) v else w
+putIn from k i v ws = if ltb i k then set ws (from + i) v else ws
 
 -- for the block i, in the j-th block table
 abbrev pub putBlockWord : ℕ → ℕ → ℕ → List ℕ → List ℕ
-putBlockWord j i v w = putIn (2958 + j * blocksIn w) (blocksIn w) i v w
+putBlockWord j i v ws = putIn (headWords + j * blocksIn ws) (blocksIn ws) i v ws
 
 unfoldable pub putFirst : ℕ → ℕ → List ℕ → List ℕ
-putFirst i v w = putIn 0 1470 i v w
+putFirst i v ws = putIn 0 lists i v ws
 
 unfoldable pub putLast : ℕ → ℕ → List ℕ → List ℕ
-putLast i v w = putIn 1470 1470 i v w
+putLast i v ws = putIn lists lists i v ws
 
 unfoldable pub putPhase : ℕ → List ℕ → List ℕ
-putPhase v w = set w 2940 v
+putPhase v ws = set ws phaseWord v
 
 unfoldable pub putBound : ℕ → ℕ → List ℕ → List ℕ
-putBound i v w = putIn 2941 8 i v w
+putBound i v ws = putIn boundWords holders i v ws
 
 unfoldable pub putReleased : ℕ → ℕ → List ℕ → List ℕ
-putReleased i v w = putIn 2949 9 i v w
+putReleased i v ws = putIn releasedWords parts i v ws
 
 unfoldable pub putNext : ℕ → ℕ → List ℕ → List ℕ
-putNext i v w = putBlockWord 0 i v w
+putNext i v ws = putBlockWord 0 i v ws
 
 unfoldable pub putPrev : ℕ → ℕ → List ℕ → List ℕ
-putPrev i v w = putBlockWord 1 i v w
+putPrev i v ws = putBlockWord 1 i v ws
 
 unfoldable pub putFree : ℕ → ℕ → List ℕ → List ℕ
-putFree i v w = putBlockWord 2 i v w
+putFree i v ws = putBlockWord 2 i v ws
 
 unfoldable pub putSize : ℕ → ℕ → List ℕ → List ℕ
-putSize i v w = putBlockWord 3 i v w
+putSize i v ws = putBlockWord 3 i v ws
 
 unfoldable pub putList : ℕ → ℕ → List ℕ → List ℕ
-putList i v w = putBlockWord 4 i v w
+putList i v ws = putBlockWord 4 i v ws
 
 unfoldable pub putTls : ℕ → ℕ → List ℕ → List ℕ
-putTls i v w = putBlockWord 5 i v w
+putTls i v ws = putBlockWord 5 i v ws
 
 -- "Tables are all that calls keep outside the heap: state bytes, block and list words, mark bits, phase, bound holders,
 -- released marks."
@@ -109,46 +109,47 @@ pub record Tables : Type 0 where
   pub states : List ℕ
   pub marks : List ℕ
 
--- ---- one entry, or one field, put in place of the old: records have no update
-
-unfoldable pub setFirst : ℕ → ℕ → Words → Words
-setFirst i v t = record { first = set (t .first) i v; last = t .last; phase = t .phase; bound = t .bound; released = t .released; next = t .next; prev = t .prev; free = t .free; size = t .size; list = t .list; tls = t .tls }
-
-unfoldable pub setLast : ℕ → ℕ → Words → Words
-setLast i v t = record { first = t .first; last = set (t .last) i v; phase = t .phase; bound = t .bound; released = t .released; next = t .next; prev = t .prev; free = t .free; size = t .size; list = t .list; tls = t .tls }
-
-unfoldable pub setBound : ℕ → ℕ → Words → Words
-setBound i v t = record { first = t .first; last = t .last; phase = t .phase; bound = set (t .bound) i v; released = t .released; next = t .next; prev = t .prev; free = t .free; size = t .size; list = t .list; tls = t .tls }
-
-unfoldable pub setReleased : ℕ → ℕ → Words → Words
-setReleased i v t = record { first = t .first; last = t .last; phase = t .phase; bound = t .bound; released = set (t .released) i v; next = t .next; prev = t .prev; free = t .free; size = t .size; list = t .list; tls = t .tls }
-
-unfoldable pub setNext : ℕ → ℕ → Words → Words
-setNext i v t = record { first = t .first; last = t .last; phase = t .phase; bound = t .bound; released = t .released; next = set (t .next) i v; prev = t .prev; free = t .free; size = t .size; list = t .list; tls = t .tls }
-
-unfoldable pub setPrev : ℕ → ℕ → Words → Words
-setPrev i v t = record { first = t .first; last = t .last; phase = t .phase; bound = t .bound; released = t .released; next = t .next; prev = set (t .prev) i v; free = t .free; size = t .size; list = t .list; tls = t .tls }
-
-unfoldable pub setFree : ℕ → ℕ → Words → Words
-setFree i v t = record { first = t .first; last = t .last; phase = t .phase; bound = t .bound; released = t .released; next = t .next; prev = t .prev; free = set (t .free) i v; size = t .size; list = t .list; tls = t .tls }
-
-unfoldable pub setSize : ℕ → ℕ → Words → Words
-setSize i v t = record { first = t .first; last = t .last; phase = t .phase; bound = t .bound; released = t .released; next = t .next; prev = t .prev; free = t .free; size = set (t .size) i v; list = t .list; tls = t .tls }
-
-unfoldable pub setList : ℕ → ℕ → Words → Words
-setList i v t = record { first = t .first; last = t .last; phase = t .phase; bound = t .bound; released = t .released; next = t .next; prev = t .prev; free = t .free; size = t .size; list = set (t .list) i v; tls = t .tls }
-
-unfoldable pub setTls : ℕ → ℕ → Words → Words
-setTls i v t = record { first = t .first; last = t .last; phase = t .phase; bound = t .bound; released = t .released; next = t .next; prev = t .prev; free = t .free; size = t .size; list = t .list; tls = set (t .tls) i v }
-
-unfoldable pub setPhase : ℕ → Words → Words
-setPhase v t = record { first = t .first; last = t .last; phase = v; bound = t .bound; released = t .released; next = t .next; prev = t .prev; free = t .free; size = t .size; list = t .list; tls = t .tls }
-
-unfoldable pub withReleased : List ℕ → Words → Words
-withReleased l t = record { first = t .first; last = t .last; phase = t .phase; bound = t .bound; released = l; next = t .next; prev = t .prev; free = t .free; size = t .size; list = t .list; tls = t .tls }
-
 abbrev pub tablesOf : Words → List ℕ → List ℕ → Tables
-tablesOf w s m = record { words = w; states = s; marks = m }
+tablesOf w st ms = record { words = w; states = st; marks = ms }
 
 abbrev pub withWords : Words → Tables → Tables
 withWords w t = tablesOf w (t .states) (t .marks)
+
+-- ---- For the prover, and not to be read line by line: one entry, or one field, put in place of the old, with all others written out, since
+-- records have no update. `setFirst i v w` is w with v at i of its `first`, and so on
+
+unfoldable pub setFirst : ℕ → ℕ → Words → Words
+setFirst i v w = record { first = set (w .first) i v; last = w .last; phase = w .phase; bound = w .bound; released = w .released; next = w .next; prev = w .prev; free = w .free; size = w .size; list = w .list; tls = w .tls }
+
+unfoldable pub setLast : ℕ → ℕ → Words → Words
+setLast i v w = record { first = w .first; last = set (w .last) i v; phase = w .phase; bound = w .bound; released = w .released; next = w .next; prev = w .prev; free = w .free; size = w .size; list = w .list; tls = w .tls }
+
+unfoldable pub setBound : ℕ → ℕ → Words → Words
+setBound i v w = record { first = w .first; last = w .last; phase = w .phase; bound = set (w .bound) i v; released = w .released; next = w .next; prev = w .prev; free = w .free; size = w .size; list = w .list; tls = w .tls }
+
+unfoldable pub setReleased : ℕ → ℕ → Words → Words
+setReleased i v w = record { first = w .first; last = w .last; phase = w .phase; bound = w .bound; released = set (w .released) i v; next = w .next; prev = w .prev; free = w .free; size = w .size; list = w .list; tls = w .tls }
+
+unfoldable pub setNext : ℕ → ℕ → Words → Words
+setNext i v w = record { first = w .first; last = w .last; phase = w .phase; bound = w .bound; released = w .released; next = set (w .next) i v; prev = w .prev; free = w .free; size = w .size; list = w .list; tls = w .tls }
+
+unfoldable pub setPrev : ℕ → ℕ → Words → Words
+setPrev i v w = record { first = w .first; last = w .last; phase = w .phase; bound = w .bound; released = w .released; next = w .next; prev = set (w .prev) i v; free = w .free; size = w .size; list = w .list; tls = w .tls }
+
+unfoldable pub setFree : ℕ → ℕ → Words → Words
+setFree i v w = record { first = w .first; last = w .last; phase = w .phase; bound = w .bound; released = w .released; next = w .next; prev = w .prev; free = set (w .free) i v; size = w .size; list = w .list; tls = w .tls }
+
+unfoldable pub setSize : ℕ → ℕ → Words → Words
+setSize i v w = record { first = w .first; last = w .last; phase = w .phase; bound = w .bound; released = w .released; next = w .next; prev = w .prev; free = w .free; size = set (w .size) i v; list = w .list; tls = w .tls }
+
+unfoldable pub setList : ℕ → ℕ → Words → Words
+setList i v w = record { first = w .first; last = w .last; phase = w .phase; bound = w .bound; released = w .released; next = w .next; prev = w .prev; free = w .free; size = w .size; list = set (w .list) i v; tls = w .tls }
+
+unfoldable pub setTls : ℕ → ℕ → Words → Words
+setTls i v w = record { first = w .first; last = w .last; phase = w .phase; bound = w .bound; released = w .released; next = w .next; prev = w .prev; free = w .free; size = w .size; list = w .list; tls = set (w .tls) i v }
+
+unfoldable pub setPhase : ℕ → Words → Words
+setPhase v w = record { first = w .first; last = w .last; phase = v; bound = w .bound; released = w .released; next = w .next; prev = w .prev; free = w .free; size = w .size; list = w .list; tls = w .tls }
+
+unfoldable pub withReleased : List ℕ → Words → Words
+withReleased vs w = record { first = w .first; last = w .last; phase = w .phase; bound = w .bound; released = vs; next = w .next; prev = w .prev; free = w .free; size = w .size; list = w .list; tls = w .tls }

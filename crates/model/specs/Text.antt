@@ -12,22 +12,22 @@ use Rattle.model.specs.Census.{newline, before, pieces, dropBlankEnd}
 -- how many bytes stand before the first separator, or before the end
 unfoldable pub until : ℕ → List ℕ → ℕ
 until sep [] = 0
-until sep (c ∷ cs) = if eqb c sep then 0 else suc (until sep cs)
+until sep (byte ∷ bytes) = if eqb byte sep then 0 else suc (until sep bytes)
 
 unfoldable pub pieceEnd : ℕ → List ℕ → ℕ → ℕ
-pieceEnd sep s at = at + until sep (drop at s)
+pieceEnd sep bytes at = at + until sep (drop at bytes)
 
 unfoldable pub linesFrom : List ℕ → ℕ → List (List ℕ)
-linesFrom s at = dropBlankEnd (pieces newline (drop at s))
+linesFrom bytes at = dropBlankEnd (pieces newline (drop at bytes))
 
 -- the place behind n bytes written at a place: it stops at the end
 unfoldable pub placeAfter : ℕ → ℕ → ℕ → ℕ
 placeAfter len at n = max at (min (at + n) len)
 
 -- what it means that a text was printed: the buffer before and after, the place before and after
-pub record Printed (h h′ : List ℕ) (at at′ : ℕ) (text : List ℕ) : Type 0 where
-  pub bytes : h′ ≡ overwrite at text h
-  pub place : at′ ≡ placeAfter (length h) at (length text)
+pub record Printed (out out′ : List ℕ) (at at′ : ℕ) (text : List ℕ) : Type 0 where
+  pub bytes : out′ ≡ overwrite at text out
+  pub place : at′ ≡ placeAfter (length out) at (length text)
 
 -- ---- what the census promises of the buffer lent for a listing
 
@@ -35,14 +35,14 @@ pub record Printed (h h′ : List ℕ) (at at′ : ℕ) (text : List ℕ) : Type
 abbrev pub listingBytes : ℕ
 listingBytes = 20000
 
--- As many bytes of the listing as the buffer holds stand at its front, the others are as before, and r says how many: all of
+-- As many bytes of the listing as the buffer holds stand at its front, the others are as before, and n says how many: all of
 -- them if it holds 20,000.
-pub record Listed (h h′ : List ℕ) (r : ℕ) (text : List ℕ) : Type 0 where
-  pub printed : Printed h h′ 0 r text
-  pub inside : r ≤ length h′
-  pub whole : listingBytes ≤ length h → take r h′ ≡ text
+pub record Listed (out out′ : List ℕ) (n : ℕ) (text : List ℕ) : Type 0 where
+  pub printed : Printed out out′ 0 n text
+  pub inside : n ≤ length out′
+  pub whole : listingBytes ≤ length out → take n out′ ≡ text
 
--- The whole text stands at the front, every other byte is as before, and r says how many it has.
-pub record Whole (h h′ : List ℕ) (r : ℕ) (text : List ℕ) : Type 0 where
-  pub bytes : h′ ≡ text ++ drop (length text) h
-  pub count : r ≡ length text
+-- The whole text stands at the front, every other byte is as before, and n says how many it has.
+pub record Whole (out out′ : List ℕ) (n : ℕ) (text : List ℕ) : Type 0 where
+  pub bytes : out′ ≡ text ++ drop (length text) out
+  pub count : n ≡ length text

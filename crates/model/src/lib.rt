@@ -25,8 +25,12 @@ pub struct Params {
     pub lower: i64,
 }
 
+// Numbers of the layout: specs/Params.antt has the same names, in small letters.
+//
 // How lists are numbered: 30 sets of 49 bins. An owner has three sets, and is named by its first.
 pub const BINS: usize = 49;
+
+pub const LAST_BIN: usize = 48;
 
 pub const SETS: usize = 30;
 
@@ -41,8 +45,17 @@ pub const HOLDERS: usize = 8;
 
 pub const PARTS: usize = 9;
 
-// How many of the lent words stand before those of the blocks.
+// Where the lent words have what: firsts, lasts, the phase, the bound holders, the released marks, and behind these, the head words,
+// the tables of the blocks, a word for each block in each.
+pub const PHASE_WORD: usize = 2940;
+
+pub const BOUND_WORDS: usize = 2941;
+
+pub const RELEASED_WORDS: usize = 2949;
+
 pub const HEAD_WORDS: usize = 2958;
+
+pub const BLOCK_TABLES: usize = 6;
 
 // The cell sizes of bins 0 to 48, in words: each next four twice the four before.
 pub const CLASS_WORDS: [usize; BINS] = [

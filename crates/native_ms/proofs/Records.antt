@@ -48,7 +48,7 @@ use Rattle.model.proofs.Params.Laws as P′
 use Rattle.model.proofs.Block as B
 use Rattle.model.proofs.Block.Laws as B′
 use Rattle.native_ms.specs.declared.block_list.BlockList.{BlockList}
-use Rattle.native_ms.specs.Records.{held, onRecord}
+use Rattle.native_ms.specs.Records.{beside, onRecord}
 use Rattle.native_ms.proofs.block_list.BlockList as T
 use Rattle.native_ms.proofs.block_list.BlockList.Laws as T′
 use Rattle.native_ms.proofs.block_list.pushed as pushed
@@ -107,7 +107,7 @@ method f =
 
 -- what an operation on the words makes of a record and the words
 abbrev Says : (Params → ℕ → ℕ → Words → Words) → Params → ℕ → Block → BlockList → List ℕ → BlockList → List ℕ → Type 0
-Says op p l b h ys r zs = held r (view zs) ≡ onRecord l (op p l (b .0)) h (view ys)
+Says op p l b h ys r zs = beside r (view zs) ≡ onRecord l (op p l (b .0)) h (view ys)
 
 abbrev stayed : Stays (push.ended .signature .params) (push.ended .kept)
 stayed = (

@@ -14,7 +14,7 @@ use Rattle.native_ms.specs.declared.block_list.Counted.{Counted}
 use Rattle.native_ms.specs.Counted.{countedBins, setFits, binsIn, pagesSaid}
 use Rattle.native_ms.proofs.CountedLaws.{pages-said}
 use Rattle.native_ms.specs.Moved.{Moved, moved, appendMoves}
-use Rattle.native_ms.specs.Records.{appendOn, appendBoth, firsts, held, heldBoth, heldPopped, onRecord, popOn, recordAt, withRecord}
+use Rattle.native_ms.specs.Records.{appendOn, appendBoth, firsts, beside, besideBoth, besidePopped, onRecord, popOn, recordAt, withRecord}
 
 -- ---- the two, store by store and read by read
 
@@ -32,26 +32,26 @@ module _ (l : ℕ) where
 -- ---- the operations, by the words before, those with the record put there, and those after
 
 module _ (l : ℕ) (r : BlockList) (t : Words) {t₁ t₂ : Words} (e₁ : t₁ ≡ withRecord l r t) where
-  pub on-record : (f : Words → Words) {s : BlockList} → t₂ ≡ f t₁ → s ≡ recordAt l (r .size) t₂ → held s t₂ ≡ onRecord l f r t
+  pub on-record : (f : Words → Words) {s : BlockList} → t₂ ≡ f t₁ → s ≡ recordAt l (r .size) t₂ → beside s t₂ ≡ onRecord l f r t
   unfolding onRecord
   on-record f e₂ e =
       let v : t₂ ≡ f (withRecord l r t) = e₂ ∙ ap f e₁ in
-      λ i. held ((e ∙ ap (recordAt l (r .size)) v) i) (v i)
+      λ i. beside ((e ∙ ap (recordAt l (r .size)) v) i) (v i)
 
   pub pop-on : (p : Params) {s : BlockList} {a : ℕ} → popped a t₂ ≡ pop p l t₁ → s ≡ recordAt l (r .size) t₂
-      → heldPopped s (popped a t₂) ≡ popOn p l r t
+      → besidePopped s (popped a t₂) ≡ popOn p l r t
   unfolding popOn
   pop-on p {a} e₂ e =
       let v : popped a t₂ ≡ pop p l (withRecord l r t) = e₂ ∙ ap (pop p l) e₁ in
-      λ i. heldPopped ((e ∙ ap (λ (q : Popped). recordAt l (r .size) (q .words)) v) i) (v i)
+      λ i. besidePopped ((e ∙ ap (λ (q : Popped). recordAt l (r .size) (q .words)) v) i) (v i)
 
   pub append-on : (p : Params) (o : ℕ) (k : BlockList) {n : ℕ} {t₃ : Words} {s u : BlockList} → t₂ ≡ withRecord o k t₁
       → moved n t₃ ≡ appendMoves p l o t₂
-      → s ≡ recordAt l (r .size) t₃ → u ≡ recordAt o (k .size) t₃ → heldBoth s u (moved n t₃) ≡ appendOn p l o r k t
+      → s ≡ recordAt l (r .size) t₃ → u ≡ recordAt o (k .size) t₃ → besideBoth s u (moved n t₃) ≡ appendOn p l o r k t
   unfolding appendOn
   append-on p o k {n} {t₃} e₂ e₃ e e′ =
       let v : moved n t₃ ≡ appendBoth p l o r k t = e₃ ∙ ap (appendMoves p l o) (e₂ ∙ ap (withRecord o k) e₁) in
-      λ i. heldBoth ((e ∙ ap (λ (q : Moved). recordAt l (r .size) (q .words)) v) i)
+      λ i. besideBoth ((e ∙ ap (λ (q : Moved). recordAt l (r .size) (q .words)) v) i)
       ((e′ ∙ ap (λ (q : Moved). recordAt o (k .size) (q .words)) v) i) (v i)
 
 -- ---- firsts, by number

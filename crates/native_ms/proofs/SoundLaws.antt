@@ -23,7 +23,7 @@ use Rattle.laws.proofs.Linked.{linked-end, linked-long, linked-on, walk-end, wa
 use Rattle.laws.proofs.Pigeon.{sum-same, sum-squeeze, sum-not, flag-one, flag-yes, flag-le}
 use Rattle.native_ms.specs.declared.sound.Walked.{Walked}
 use Rattle.native_ms.specs.declared.sound.Walked.the-variants.{Bad, Left}
-use Rattle.native_ms.specs.SoundWalk.{namesList, blockFits, unused, standsOn, closed, passFrom, passes, holderFits, partFits}
+use Rattle.native_ms.specs.SoundWalk.{namesList, blockFits, unused, standsOn, lastIs, passFrom, passes, holderFits, partFits}
 use Rattle.native_ms.proofs.SoundWalkLaws.{leaves, listsFull, soundWalk}
 
 -- ---- one walk
@@ -38,9 +38,9 @@ module _ (p : Params) (w : Words) (s m : List ℕ) (l : ℕ) where
   left-same : {x y : ℕ} → Left x ≡ Left y → x ≡ y
   left-same e = cc
 
-  closed-left : (before k x : ℕ) → closed w l before k ≡ Left x → (eqb (getD (w .last) l 0) before ≡ true) × (k ≡ x)
-  unfolding closed
-  closed-left before k x e = go (eqb (getD (w .last) l 0) before) refl e
+  last-left : (before k x : ℕ) → lastIs w l before k ≡ Left x → (eqb (getD (w .last) l 0) before ≡ true) × (k ≡ x)
+  unfolding lastIs
+  last-left before k x e = go (eqb (getD (w .last) l 0) before) refl e
     where
       go : (b : Bool) → eqb (getD (w .last) l 0) before ≡ b → (if b then Left k else Bad) ≡ Left x → (eqb (getD (w .last) l 0) before ≡ true) × (k ≡ x)
       go true f g = (f, left-same g)
@@ -49,7 +49,7 @@ module _ (p : Params) (w : Words) (s m : List ℕ) (l : ℕ) where
   zero-or : (a : ℕ) → (a ≡ 0) ⊎ (a ≡ 0 → ⊥)
   zero-or a = ⊎-elim (λ y. inl (eqb-true a 0 y)) (λ z. inr (eqb-false a 0 z)) (test (eqb a 0))
 
-  pass-end : (k before a : ℕ) → a ≡ 0 → passFrom k p w s l before a ≡ closed w l before k
+  pass-end : (k before a : ℕ) → a ≡ 0 → passFrom k p w s l before a ≡ lastIs w l before k
   unfolding passFrom
   pass-end zero before a e = rw (eq-eqb a 0 e)
   pass-end (suc k) before a e = rw (eq-eqb a 0 e)
@@ -74,7 +74,7 @@ module _ (p : Params) (w : Words) (s m : List ℕ) (l : ℕ) where
   pass-linked zero n x before a h e =
       ⊎-elim
       (λ z.
-      let c = closed-left before zero x (sym (pass-end zero before a z) ∙ e) in
+      let c = last-left before zero x (sym (pass-end zero before a z) ∙ e) in
       let i : length (walk n p (w .next) a) ≡ 0 = ap length (walk-end p tables l n a z) in
       (linked-end p tables l n before a z ∙ c .0, omega (arith, c .1)))
       (λ q. absurd (bad-not-left (sym (pass-long before a q) ∙ e))) (zero-or a)
@@ -82,7 +82,7 @@ module _ (p : Params) (w : Words) (s m : List ℕ) (l : ℕ) where
   pass-linked (suc k) (suc n) x before a h e =
       ⊎-elim
       (λ z.
-      let c = closed-left before (suc k) x (sym (pass-end (suc k) before a z) ∙ e) in
+      let c = last-left before (suc k) x (sym (pass-end (suc k) before a z) ∙ e) in
       let i : length (walk (suc n) p (w .next) a) ≡ 0 = ap length (walk-end p tables l (suc n) a z) in
       (linked-end p tables l (suc n) before a z ∙ c .0, omega (arith, c .1)))
       (λ q.
@@ -99,7 +99,7 @@ module _ (p : Params) (w : Words) (s m : List ℕ) (l : ℕ) where
   -- a linked walk leaves what it does not meet
   linked-pass : (n k x before a : ℕ) → linkedFrom n p tables l before a ≡ true → length (walk n p (w .next) a) + x ≡ k
       → passFrom k p w s l before a ≡ Left x
-  unfolding standsOn stateOf closed
+  unfolding standsOn stateOf lastIs
   linked-pass zero k x before a e h =
       ⊎-elim
       (λ z.

@@ -27,7 +27,7 @@ use Rattle.laws.proofs.Tables.{getD-part, by-lt}
 use Rattle.native_ms.specs.declared.sound.Walked.{Walked}
 use Rattle.native_ms.specs.declared.sound.Walked.the-variants.{Bad, Left}
 use Rattle.native_ms.specs.SoundWalk.{passFrom, passes, onLeft}
-use Rattle.native_ms.proofs.SoundTests.{closed-here, pass-closed, passes-step, passes-end, emptyAt, owner-lists}
+use Rattle.native_ms.proofs.SoundTests.{last-here, pass-last, passes-step, passes-end, emptyAt, owner-lists}
 use Rattle.native_ms.specs.SoundLent.{Starts, Firsts, zeroAt}
 
 -- ---- a union of words is 0 if each is
@@ -224,7 +224,7 @@ module _ (p : Params) (good : goodParams p ≡ true) (log : ℕ) (power : p .byt
 module _ (p : Params) (t : Words) (s : List ℕ) where
   -- a list with no first and no last passes
   empty-pass : (l left : ℕ) → getD (t .first) l 0 ≡ 0 → getD (t .last) l 0 ≡ 0 → passFrom left p t s l 0 (getD (t .first) l 0) ≡ Left left
-  empty-pass l left f e = sym (pass-closed p t s l 0 (getD (t .first) l 0) left f (closed-here t l 0 left refl e))
+  empty-pass l left f e = sym (pass-last p t s l 0 (getD (t .first) l 0) left f (last-here t l 0 left refl e))
 
   module _ (l left : ℕ) (h : 0 < l) where
     step : {x : ℕ} → passFrom left p t s (l - 1) 0 (getD (t .first) (l - 1) 0) ≡ Left x → passes (l - 1) p t s x ≡ passes l p t s left

@@ -21,7 +21,7 @@ use Rattle.laws.proofs.Below.{and-second, same-test}
 use Rattle.laws.proofs.Pigeon.{sum-end, sum-step, flag-one, flag-none}
 use Rattle.native_ms.specs.declared.sound.Walked.{Walked}
 use Rattle.native_ms.specs.declared.sound.Walked.the-variants.{Bad, Left}
-use Rattle.native_ms.specs.SoundWalk.{inUse, namesList, blockFits, unused, unusedIfFit, standsOn, closed, passFrom, passes, holderFits, partFits}
+use Rattle.native_ms.specs.SoundWalk.{inUse, namesList, blockFits, unused, unusedIfFit, standsOn, lastIs, passFrom, passes, holderFits, partFits}
 use Rattle.native_ms.proofs.SoundWalkLaws.{listsFull, soundWalk}
 
 -- ---- small ones
@@ -181,19 +181,19 @@ module _ (p : Params) (w : Words) (s : List ℕ) (l before a : ℕ) {i : Bool} (
       stands-here q ev = rw (sym ei ∙ yi, ← eb, ← ex, ne-eqb x 0 nx, ← en, ← em, eq-eqb n m q, ev)
 
 module _ (w : Words) (l before k : ℕ) {e : ℕ} (ee : e ≡ getD (w .last) l 0) where
-  pub closed-here : e ≡ before → Left k ≡ closed w l before k
-  unfolding closed
-  closed-here h = rw (← ee, eq-eqb e before h)
+  pub last-here : e ≡ before → Left k ≡ lastIs w l before k
+  unfolding lastIs
+  last-here h = rw (← ee, eq-eqb e before h)
 
-  pub closed-off : (e ≡ before → ⊥) → Bad ≡ closed w l before k
-  unfolding closed
-  closed-off h = rw (← ee, ne-eqb e before h)
+  pub last-off : (e ≡ before → ⊥) → Bad ≡ lastIs w l before k
+  unfolding lastIs
+  last-off h = rw (← ee, ne-eqb e before h)
 
 module _ (p : Params) (w : Words) (s : List ℕ) (l before a : ℕ) where
-  pub pass-closed : (k : ℕ) {r : Walked} → a ≡ 0 → r ≡ closed w l before k → r ≡ passFrom k p w s l before a
+  pub pass-last : (k : ℕ) {r : Walked} → a ≡ 0 → r ≡ lastIs w l before k → r ≡ passFrom k p w s l before a
   unfolding passFrom
-  pass-closed zero z e = rw (eq-eqb a 0 z, e)
-  pass-closed (suc k) z e = rw (eq-eqb a 0 z, e)
+  pass-last zero z e = rw (eq-eqb a 0 z, e)
+  pass-last (suc k) z e = rw (eq-eqb a 0 z, e)
 
   pub pass-long : (k : ℕ) → (a ≡ 0 → ⊥) → k ≤ 0 → Bad ≡ passFrom k p w s l before a
   unfolding passFrom

@@ -114,16 +114,9 @@ module _ (p : Params) (t : Words) (n : ℕ) {r : Tested} (e : r ≡ leaveTests t
 
 -- ---- bin by bin
 
-pub each-none : {A : Type 0} (f : ℕ → A → A) (x : A) → x ≡ eachBelow 0 f x
-unfolding eachBelow
-each-none f x = refl
-
 pub each-more : {A : Type 0} (f : ℕ → A → A) (x : A) (i : ℕ) {y z : A} → y ≡ eachBelow i f x → z ≡ f i y → z ≡ eachBelow (i + 1) f x
 unfolding eachBelow
 each-more f x i e q = rw (add-one i) (q ∙ ap (f i) e)
-
-pub each-end : {A : Type 0} (f : ℕ → A → A) (x : A) (i n : ℕ) {y : A} → i ≤ n → n ≤ i → y ≡ eachBelow i f x → y ≡ eachBelow n f x
-each-end f x i n h l e = let q : i ≡ n = omega arith in e ∙ ap (λ (k : ℕ). eachBelow k f x) q
 
 -- ---- prepare
 

@@ -8,7 +8,7 @@ use lib.ListN.{length, getD}
 use Rattle.model.specs.declared.Params.{Params}
 use Rattle.model.specs.Base.{if_then_else_, allBelow, sumBelow}
 use Rattle.model.specs.declared.Refusal.the-variants.{BadSetup, BadTables}
-use Rattle.model.specs.Params.{goodParams, wordCount}
+use Rattle.model.specs.Params.{goodParams, bins, lastBin, wordCount}
 use Rattle.model.specs.BlockList.{walk, ends}
 use Rattle.model.specs.Calls.{Reply, answered, refused, pages}
 use Rattle.native_ms.specs.declared.block_list.Counted.{Counted}
@@ -33,21 +33,21 @@ abbrev pub countOf : Counted → ℕ
 countOf (Blocks n) = n
 countOf Bad = 0
 
--- c, and the blocks from the address a on
+-- a count, and the blocks from the address a on
 unfoldable pub countedMore : Params → List ℕ → Counted → ℕ → Counted
 countedMore p next (Blocks n) a = countedFrom (p .blocks) p next n a
 countedMore p next Bad a = Bad
 
 -- the sizes that pages used asks
 unfoldable pub setFits : Params → List ℕ → ℕ → Bool
-setFits p words n = goodParams p && eqb (length words) (wordCount p) && eqb n 49
+setFits p ws n = goodParams p && eqb (length ws) (wordCount p) && eqb n bins
 
 abbrev pub binsIn : Bool → ℕ
-binsIn fits = if fits then 48 else 0
+binsIn fits = if fits then lastBin else 0
 
 unfoldable pub countedReply : Params → Counted → Reply
 countedReply p (Blocks n) = answered (p .bytes / 4096 * n ∷ [])
 countedReply p Bad = refused BadTables
 
 abbrev pub pagesSaid : Params → Bool → Counted → Reply
-pagesSaid p fits c = if fits then countedReply p c else refused BadSetup
+pagesSaid p fits count = if fits then countedReply p count else refused BadSetup

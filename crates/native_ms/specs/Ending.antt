@@ -8,7 +8,7 @@ use lib.ListN.{getD, set}
 use Rattle.model.specs.declared.Params.{Params}
 use Rattle.model.specs.declared.Offer.{Offer}
 use Rattle.model.specs.Base.{if_then_else_}
-use Rattle.model.specs.Params.{goodParams, localSets, available}
+use Rattle.model.specs.Params.{goodParams, bins, localSets, available}
 use Rattle.model.specs.Tables.{Words, Tables}
 use Rattle.model.specs.SizeClasses.{cellBytes}
 use Rattle.model.specs.BlockList.{push}
@@ -71,7 +71,7 @@ pub record Ready (p : Params) (t : Words) (holder bin align offset : ℕ) : Type
   pub good : goodParams p ≡ true
   pub holder-from : 1 ≤ holder
   pub holder-to : holder ≤ 8
-  pub bin-low : bin < 49
+  pub bin-low : bin < bins
   pub align-from : 0 < align
   pub align-to : align ≤ 64
   pub offset-low : offset ≤ 65536

@@ -14,22 +14,22 @@ pub record Moved : Type 0 where
   pub words : Words
 
 abbrev pub moved : ℕ → Words → Moved
-moved n t = record { number = n; words = t }
+moved n w = record { number = n; words = w }
 
--- the list `other` behind the list l
+-- the list `other` behind the list
 unfoldable pub appendMoves : Params → ℕ → ℕ → Words → Moved
-appendMoves p l other t = moved (appended p other t) (append p l other t)
+appendMoves p list other w = moved (appended p other w) (append p list other w)
 
 -- one bin of an owner's lists behind another's, and the bins below n
 unfoldable pub binMoves : Params → ℕ → ℕ → ℕ → Words → Moved
-binMoves p to from bin t = moved (abandonedBin p to from bin t) (abandonBin p to from bin t)
+binMoves p to from bin w = moved (abandonedBin p to from bin w) (abandonBin p to from bin w)
 
 unfoldable pub binsMove : ℕ → Params → ℕ → ℕ → Words → Moved
-binsMove n p to from t = moved (abandonedBelow n p to from t) (eachBelow n (abandonBin p to from) t)
+binsMove n p to from w = moved (abandonedBelow n p to from w) (eachBelow n (abandonBin p to from) w)
 
 -- the end of a collection, and that of a release
 unfoldable pub endMoves : Params → Words → Moved
-endMoves p t = moved (abandonedBelow bins p abandoned inGc t) (collected p t)
+endMoves p w = moved (abandonedBelow bins p abandoned inGc w) (collected p w)
 
 unfoldable pub partMoves : Params → ℕ → Words → Moved
-partMoves p part t = moved (merged p part t) (partReleased p part t)
+partMoves p part w = moved (merged p part w) (partReleased p part w)

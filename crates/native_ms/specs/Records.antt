@@ -9,54 +9,54 @@ use Rattle.model.specs.BlockList.{Popped, pop}
 use Rattle.native_ms.specs.Moved.{Moved, appendMoves}
 use Rattle.native_ms.specs.declared.block_list.BlockList.{BlockList}
 
--- the words with the record's ends at the list l
+-- the words with the record's ends at the list's number
 unfoldable pub withRecord : ℕ → BlockList → Words → Words
-withRecord l r t = setLast l (r .last .0) (setFirst l (r .first .0) t)
+withRecord list given w = setLast list (given .last .0) (setFirst list (given .first .0) w)
 
--- the record of the list l, of this cell size, as the words have it
+-- the record of the list, of this cell size, as the words have it
 unfoldable pub recordAt : ℕ → ℕ → Words → BlockList
-recordAt l size t = record { first = record { 0 = getD (t .first) l 0 }; last = record { 0 = getD (t .last) l 0 }; size = size }
+recordAt list size w = record { first = record { 0 = getD (w .first) list 0 }; last = record { 0 = getD (w .last) list 0 }; size = size }
 
 -- a lent record and the words, after an operation
-pub record Held : Type 0 where
+pub record Beside : Type 0 where
   pub list : BlockList
   pub words : Words
 
-abbrev pub held : BlockList → Words → Held
-held r t = record { list = r; words = t }
+abbrev pub beside : BlockList → Words → Beside
+beside given w = record { list = given; words = w }
 
--- an operation on the words as one on the record of the list l: the record is put there before it, and read there after it
-unfoldable pub onRecord : ℕ → (Words → Words) → BlockList → Words → Held
-onRecord l f r t = held (recordAt l (r .size) (f (withRecord l r t))) (f (withRecord l r t))
+-- an operation on the words as one on the record of the list: the record is put there before it, and read there after it
+unfoldable pub onRecord : ℕ → (Words → Words) → BlockList → Words → Beside
+onRecord list f given w = beside (recordAt list (given .size) (f (withRecord list given w))) (f (withRecord list given w))
 
 -- the same for pop, which gives the address of the block taken off beside the words
-pub record HeldPopped : Type 0 where
+pub record BesidePopped : Type 0 where
   pub list : BlockList
   pub taken : Popped
 
-abbrev pub heldPopped : BlockList → Popped → HeldPopped
-heldPopped r q = record { list = r; taken = q }
+abbrev pub besidePopped : BlockList → Popped → BesidePopped
+besidePopped given taken = record { list = given; taken = taken }
 
-unfoldable pub popOn : Params → ℕ → BlockList → Words → HeldPopped
-popOn p l r t = heldPopped (recordAt l (r .size) (pop p l (withRecord l r t) .words)) (pop p l (withRecord l r t))
+unfoldable pub popOn : Params → ℕ → BlockList → Words → BesidePopped
+popOn p list given w = besidePopped (recordAt list (given .size) (pop p list (withRecord list given w) .words)) (pop p list (withRecord list given w))
 
 -- the same for append, which has two records and gives the number of blocks appended beside the words
-pub record HeldBoth : Type 0 where
+pub record BesideBoth : Type 0 where
   pub list : BlockList
   pub other : BlockList
   pub gone : Moved
 
-abbrev pub heldBoth : BlockList → BlockList → Moved → HeldBoth
-heldBoth r s q = record { list = r; other = s; gone = q }
+abbrev pub besideBoth : BlockList → BlockList → Moved → BesideBoth
+besideBoth given theirs gone = record { list = given; other = theirs; gone = gone }
 
 abbrev pub appendBoth : Params → ℕ → ℕ → BlockList → BlockList → Words → Moved
-appendBoth p l o r s t = appendMoves p l o (withRecord o s (withRecord l r t))
+appendBoth p list other given theirs w = appendMoves p list other (withRecord other theirs (withRecord list given w))
 
-unfoldable pub appendOn : Params → ℕ → ℕ → BlockList → BlockList → Words → HeldBoth
-appendOn p l o r s t =
-    let q : Moved = appendBoth p l o r s t in
-    heldBoth (recordAt l (r .size) (q .words)) (recordAt o (s .size) (q .words)) q
+unfoldable pub appendOn : Params → ℕ → ℕ → BlockList → BlockList → Words → BesideBoth
+appendOn p list other given theirs w =
+    let gone : Moved = appendBoth p list other given theirs w in
+    besideBoth (recordAt list (given .size) (gone .words)) (recordAt other (theirs .size) (gone .words)) gone
 
 -- where the records' lists start
 unfoldable pub firsts : List BlockList → List ℕ
-firsts rs = map (λ (r : BlockList). r .first .0) rs
+firsts records = map (λ (given : BlockList). given .first .0) records

@@ -18,17 +18,17 @@ pub record Out : Type 0 where
   pub states : List ℕ
 
 abbrev pub out : ℕ → Words → List ℕ → Out
-out n t s = record { number = n; words = t; states = s }
+out n w st = record { number = n; words = w; states = st }
 
 -- the machine's, with its events counted
 unfoldable pub total : Freed → Out
 total f = out (releases (f .events)) (f .words) (f .states)
 
--- one block of the list l: released if it is Unmarked
+-- one block of the list: released if it is Unmarked
 unfoldable pub attemptRelease : Params → ℕ → ℕ → Words → List ℕ → Out
-attemptRelease p l b t s =
-    if eqb (getD s b 0) Unmarked then out 1 (clearBlock b (remove p l b t)) (set s b Unallocated) else out 0 t s
+attemptRelease p list b w st =
+    if eqb (getD st b 0) Unmarked then out 1 (clearBlock b (remove p list b w)) (set st b Unallocated) else out 0 w st
 
 -- the bins below n of one owner
 unfoldable pub releasedBins : Params → ℕ → ℕ → Words → List ℕ → Freed
-releasedBins p owner n t s = eachBelow n (releaseBin p owner) (freed t s)
+releasedBins p owner n w st = eachBelow n (releaseBin p owner) (freed w st)

@@ -7,26 +7,26 @@ use lib.Dec.{eqb}
 use lib.ListN.{length, getD}
 use Rattle.model.specs.declared.Params.{Params}
 use Rattle.model.specs.Base.{allBelow}
-use Rattle.model.specs.Params.{goodParams, isStart, blockAt, bins, sets, headWords}
+use Rattle.model.specs.Params.{goodParams, isStart, blockAt, bins, sets, headWords, blockTables}
 
 -- good parameters, and lent words and state bytes of the lengths that these give
-pub record Lengths (p : Params) (w s : List ℕ) : Type 0 where
+pub record Lengths (p : Params) (ws st : List ℕ) : Type 0 where
   pub good : goodParams p ≡ true
-  pub words : length w ≡ headWords + 6 * p .blocks
-  pub states : length s ≡ p .blocks
+  pub words : length ws ≡ headWords + blockTables * p .blocks
+  pub states : length st ≡ p .blocks
 
 -- and the block size is 2 ^ log
-pub record Ready (p : Params) (log : ℕ) (w s : List ℕ) : Type 0 where
-  pub lent : Lengths p w s
+pub record Ready (p : Params) (log : ℕ) (ws st : List ℕ) : Type 0 where
+  pub lent : Lengths p ws st
   pub power : p .bytes ≡ 2 ^ log
   pub low : log ≤ 16
 
 unfoldable pub zeroAt : List ℕ → ℕ → ℕ → Bool
-zeroAt w from i = eqb (getD w (from + i) 0) 0
+zeroAt ws from i = eqb (getD ws (from + i) 0) 0
 
 -- of each set of lists, a word that is 0 if none of its lists has a first
-pub record Firsts (w unions : List ℕ) : Type 0 where
-  pub set : (i : ℕ) → i < sets → eqb (getD unions i 0) 0 ≡ allBelow bins (zeroAt w (bins * i))
+pub record Firsts (ws unions : List ℕ) : Type 0 where
+  pub set : (i : ℕ) → i < sets → eqb (getD unions i 0) 0 ≡ allBelow bins (zeroAt ws (bins * i))
 
 -- b is the block that starts at a, or past the last block if none does
 pub record Starts (p : Params) (a b : ℕ) : Type 0 where

@@ -5,13 +5,13 @@ use mathlib.Core.Bool.{Bool, _&&_}
 use lib.Dec.{ltb, leb}
 use lib.ListN.{replicate}
 use Rattle.model.specs.declared.Params.{Params}
-use Rattle.model.specs.Params.{start, abandoned, inGc, lists}
+use Rattle.model.specs.Params.{start, lists, parts, abandoned, inGc}
 use Rattle.model.specs.Tables.{Words, setPhase, withReleased}
 use Rattle.model.specs.Global.{Running, abandonBlocks}
 
--- r is the number l of a list
-pub record ListNumber (r l : ℕ) : Type 0 where
-  pub same : r ≡ l
+-- r is the number of a list
+pub record ListNumber (r list : ℕ) : Type 0 where
+  pub same : r ≡ list
   pub low : r < lists
 
 -- an address lies in the block b
@@ -20,4 +20,4 @@ inBlock p b a = leb (start p b) a && ltb a (start p b + p .bytes)
 
 -- the end of a collection
 unfoldable pub collected : Params → Words → Words
-collected p t = setPhase Running (withReleased (replicate 9 0) (abandonBlocks p abandoned inGc t))
+collected p w = setPhase Running (withReleased (replicate parts 0) (abandonBlocks p abandoned inGc w))

@@ -5,8 +5,8 @@ use model::Block;
 use model::Params;
 ghost use mathlib.Core.Path.{_≡_};
 ghost use mathlib.Core.Bool.{true};
-ghost use Prim.Native.Nat.{_<_, _≤_};
-ghost use Rattle.model.specs.Params.{goodParams, start, blockAt, inHeap, isStart, listOf, listWord, localSets, available, unswept, consumed};
+ghost use Prim.Native.Nat.{_+_, _<_, _≤_};
+ghost use Rattle.model.specs.Params.{goodParams, start, blockAt, inHeap, isStart, bins, sets, lists, holders, listOf, listWord, localSets, inGc, available, unswept, consumed};
 ghost use Rattle.native_ms.specs.Space.{ListNumber};
 
 // The address of a block's first byte, and 0 if there is no such block.
@@ -14,9 +14,9 @@ pub(crate) fn start(p: Params, b: Block) -> Address
     requires { ⌜ goodParams p ≡ true ⌝ }
     ensures { λ r. ⌜ r .0 ≡ start p (b .0) ⌝ }
 {
-    let i = b.0;
-    if i < p.blocks {
-        Address(p.base + i * p.bytes)
+    let number = b.0;
+    if number < p.blocks {
+        Address(p.base + number * p.bytes)
     } else {
         Address(0)
     }
@@ -27,12 +27,12 @@ pub(crate) fn block_at(p: Params, a: Address) -> Block
     requires { ⌜ goodParams p ≡ true ⌝ }
     ensures { λ r. ⌜ r .0 ≡ blockAt p (a .0) ⌝ }
 {
-    let v = a.0;
+    let at = a.0;
     let base = p.base;
-    if v < base {
+    if at < base {
         Block(p.blocks)
     } else {
-        Block((v - base) / p.bytes)
+        Block((at - base) / p.bytes)
     }
 }
 
@@ -40,12 +40,12 @@ pub(crate) fn in_heap(p: Params, a: Address) -> bool
     requires { ⌜ goodParams p ≡ true ⌝ }
     ensures { λ r. ⌜ r ≡ inHeap p (a .0) ⌝ }
 {
-    let v = a.0;
+    let at = a.0;
     let base = p.base;
-    if v < base {
+    if at < base {
         return false;
     }
-    if v < base + p.blocks * p.bytes {
+    if at < base + p.blocks * p.bytes {
         true
     } else {
         false
@@ -57,9 +57,9 @@ pub(crate) fn is_start(p: Params, a: Address) -> bool
     requires { ⌜ goodParams p ≡ true ⌝ }
     ensures { λ r. ⌜ r ≡ isStart p (a .0) ⌝ }
 {
-    let v = a.0;
+    let at = a.0;
     if in_heap(p, a) {
-        if (v - p.base) % p.bytes == 0 {
+        if (at - p.base) % p.bytes == 0 {
             true
         } else {
             false
@@ -71,31 +71,31 @@ pub(crate) fn is_start(p: Params, a: Address) -> bool
 
 // The number of a list, from its set and its bin.
 pub(crate) fn list_of(set: usize, bin: usize) -> usize
-    requires { ⌜ (set < 30) × (bin < 49) ⌝ }
+    requires { ⌜ (set < sets) × (bin < bins) ⌝ }
     ensures { λ r. ⌜ r ≡ listOf set bin ⌝ }
 {
     BINS * set + bin
 }
 
-// The word that a block holds for the list l.
-pub(crate) fn list_word(l: usize) -> usize
-    requires { ⌜ l < 1470 ⌝ }
-    ensures { λ r. ⌜ r ≡ listWord l ⌝ }
+// The word that a block holds for the list.
+pub(crate) fn list_word(list: usize) -> usize
+    requires { ⌜ list < lists ⌝ }
+    ensures { λ r. ⌜ r ≡ listWord list ⌝ }
 {
-    1 + l
+    1 + list
 }
 
 // The first of a holder's three sets.
-pub(crate) fn local_sets(h: usize) -> usize
-    requires { ⌜ (1 ≤ h) × (h ≤ 8) ⌝ }
-    ensures { λ r. ⌜ r ≡ localSets h ⌝ }
+pub(crate) fn local_sets(holder: usize) -> usize
+    requires { ⌜ (1 ≤ holder) × (holder ≤ holders) ⌝ }
+    ensures { λ r. ⌜ r ≡ localSets holder ⌝ }
 {
-    3 * (h - 1)
+    3 * (holder - 1)
 }
 
 // The owner's list of blocks that may have free cells.
 pub(crate) fn available(owner: usize, bin: usize) -> usize
-    requires { ⌜ (owner < 28) × (bin < 49) ⌝ }
+    requires { ⌜ (owner < inGc + 1) × (bin < bins) ⌝ }
     ensures { λ r. ⌜ ListNumber r (available owner bin) ⌝ }
 {
     list_of(owner, bin)
@@ -103,7 +103,7 @@ pub(crate) fn available(owner: usize, bin: usize) -> usize
 
 // Its list of blocks that wait for a sweep.
 pub(crate) fn unswept(owner: usize, bin: usize) -> usize
-    requires { ⌜ (owner < 28) × (bin < 49) ⌝ }
+    requires { ⌜ (owner < inGc + 1) × (bin < bins) ⌝ }
     ensures { λ r. ⌜ ListNumber r (unswept owner bin) ⌝ }
 {
     list_of(owner + 1, bin)
@@ -111,7 +111,7 @@ pub(crate) fn unswept(owner: usize, bin: usize) -> usize
 
 // Its list of blocks with no free cell.
 pub(crate) fn consumed(owner: usize, bin: usize) -> usize
-    requires { ⌜ (owner < 28) × (bin < 49) ⌝ }
+    requires { ⌜ (owner < inGc + 1) × (bin < bins) ⌝ }
     ensures { λ r. ⌜ ListNumber r (consumed owner bin) ⌝ }
 {
     list_of(owner + 2, bin)

@@ -21,9 +21,9 @@ ghost use Rattle.model.specs.Block.{firstCell, moreCells, nextCell, cellCount, 
 pub fn first(p: Params, words: &[usize], b: Block) -> ChainWalk
     ensures { λ r. ⌜ r ≡ firstCell p (view (now (words .entry))) b ⌝ }
 {
-    let i = b.0;
-    let head = tables::free(words, i);
-    let size = tables::size(words, i);
+    let number = b.0;
+    let head = tables::free(words, number);
+    let size = tables::size(words, number);
     let left = block::cell_count(p, size);
     ChainWalk {
         block: b,
@@ -34,16 +34,16 @@ pub fn first(p: Params, words: &[usize], b: Block) -> ChainWalk
 }
 
 // Whether the walk stands at a cell: it ends at a bad link, or after as many cells as a block has.
-pub fn more(p: Params, w: ChainWalk) -> bool
-    ensures { λ r. ⌜ r ≡ moreCells p w ⌝ }
+pub fn more(p: Params, walk: ChainWalk) -> bool
+    ensures { λ r. ⌜ r ≡ moreCells p walk ⌝ }
 {
     if !params::good_params(p) {
         return false;
     }
-    if w.left == 0 {
+    if walk.left == 0 {
         return false;
     }
-    block::is_cell(p, w.block, w.size, w.at)
+    block::is_cell(p, walk.block, walk.size, walk.at)
 }
 
 // One less, and 0 for 0.
@@ -57,61 +57,61 @@ fn less_one(n: usize) -> usize
 }
 
 // The walk from the cell's link on.
-pub fn next(p: Params, heap: &[u8], w: ChainWalk) -> ChainWalk
-    ensures { λ r. ⌜ r ≡ nextCell p (now (heap .entry)) w ⌝ }
+pub fn next(p: Params, heap: &[u8], walk: ChainWalk) -> ChainWalk
+    ensures { λ r. ⌜ r ≡ nextCell p (now (heap .entry)) walk ⌝ }
 {
-    let block = w.block;
-    let at = w.at;
+    let block = walk.block;
+    let at = walk.at;
     let link = memory::load(p, heap, at);
-    let left = less_one(w.left);
+    let left = less_one(walk.left);
     ChainWalk {
         block,
         at: Address(link),
-        size: w.size,
+        size: walk.size,
         left,
     }
 }
 
-// Whether a block with cells of `size` bytes has a k-th one, from 0.
-fn has_cell(p: Params, size: usize, k: usize) -> bool
-    ensures { λ r. ⌜ r ≡ (goodParams p && ltb k (cellCount p size)) ⌝ }
+// Whether a block with cells of `size` bytes has an i-th one, from 0.
+fn has_cell(p: Params, size: usize, i: usize) -> bool
+    ensures { λ r. ⌜ r ≡ (goodParams p && ltb i (cellCount p size)) ⌝ }
 {
     if !params::good_params(p) {
         return false;
     }
-    let n = block::cell_count(p, size);
-    k < n
+    let count = block::cell_count(p, size);
+    i < count
 }
 
-fn cell(p: Params, b: Block, size: usize, k: usize) -> Address
-    requires { ⌜ (goodParams p && ltb k (cellCount p size)) ≡ true ⌝ }
-    ensures { λ r. ⌜ r .0 ≡ start p (b .0) + k * size ⌝ }
+fn cell(p: Params, b: Block, size: usize, i: usize) -> Address
+    requires { ⌜ (goodParams p && ltb i (cellCount p size)) ≡ true ⌝ }
+    ensures { λ r. ⌜ r .0 ≡ start p (b .0) + i * size ⌝ }
 {
     let from = address::start(p, b);
-    let up = k * size;
+    let up = i * size;
     let at = from.0 + up;
     Address(at)
 }
 
-// Where the k-th whole cell stands; 0 if there is none.
-pub fn cell_at(p: Params, b: Block, size: usize, k: usize) -> Address
-    ensures { λ r. ⌜ r .0 ≡ cellAt p (b .0) size k ⌝ }
+// Where the i-th whole cell stands; 0 if there is none.
+pub fn cell_at(p: Params, b: Block, size: usize, i: usize) -> Address
+    ensures { λ r. ⌜ r .0 ≡ cellAt p (b .0) size i ⌝ }
 {
-    if !has_cell(p, size, k) {
+    if !has_cell(p, size, i) {
         return Address(0);
     }
-    cell(p, b, size, k)
+    cell(p, b, size, i)
 }
 
 // Whether a sweep by these marks frees it.
-pub fn frees_cell(p: Params, marks: &[u8], b: Block, size: usize, k: usize) -> bool
-    ensures { λ r. ⌜ r ≡ freesCell p (now (marks .entry)) (b .0) size k ⌝ }
+pub fn frees_cell(p: Params, marks: &[u8], b: Block, size: usize, i: usize) -> bool
+    ensures { λ r. ⌜ r ≡ freesCell p (now (marks .entry)) (b .0) size i ⌝ }
 {
-    if !has_cell(p, size, k) {
+    if !has_cell(p, size, i) {
         return false;
     }
-    let a = cell(p, b, size, k);
+    let at = cell(p, b, size, i);
     let simple = block::is_simple(p);
-    let kept = block::cell_is_marked(p, simple, marks, a, size);
+    let kept = block::cell_is_marked(p, simple, marks, at, size);
     !kept
 }

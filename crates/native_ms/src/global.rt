@@ -36,7 +36,7 @@ ghost use mathlib.Core.List.{List, map};
 ghost use Prim.Native.Nat.{ℕ, _<_, _≤_};
 ghost use lib.ListN.{length, getD, replicate};
 ghost use Rattle.model.specs.declared.Params.{Params};
-ghost use Rattle.model.specs.Params.{goodParams, abandoned, inGc, headWords, bins};
+ghost use Rattle.model.specs.Params.{goodParams, bins, lists, holders, parts, headWords, abandoned, inGc};
 ghost use Rattle.model.specs.Tables.{view, tablesOf, withReleased};
 ghost use Rattle.model.specs.Global.{freed, unmarkedState, releaseFrom, releaseBin, releaseHolder, sweepLaterBin, sweepLater, isHolder, isBound, hasReleased, allReleased};
 ghost use Rattle.model.specs.Calls.{bind, destroy, prepare, mark, release, sharedRelease};
@@ -170,7 +170,7 @@ pub fn bind(
 
 // One bin of three lists goes behind another owner's. The answer is how many blocks went over.
 fn abandon_bin(p: Params, w: &mut [usize], to: usize, from: usize, bin: usize) -> usize
-    requires { ⌜ (goodParams p ≡ true) × (to ≤ 27) × (from ≤ 27) × (bin < 49) ⌝ }
+    requires { ⌜ (goodParams p ≡ true) × (to ≤ inGc) × (from ≤ inGc) × (bin < bins) ⌝ }
     ensures { λ r. ⌜ moved r (view (now (w .exit))) ≡ binMoves p to from bin (view (now (w .entry))) ⌝ }
 {
     let available = address::available(to, bin);
@@ -187,16 +187,16 @@ fn abandon_bin(p: Params, w: &mut [usize], to: usize, from: usize, bin: usize) -
 
 // All lists of one owner, by its first set, go behind another's. The answer is how many blocks went over.
 fn abandon_blocks(p: Params, w: &mut [usize], to: usize, from: usize) -> usize
-    requires { ⌜ (goodParams p ≡ true) × (to ≤ 27) × (from ≤ 27) ⌝ }
+    requires { ⌜ (goodParams p ≡ true) × (to ≤ inGc) × (from ≤ inGc) ⌝ }
     ensures { λ r. ⌜ moved r (view (now (w .exit))) ≡ binsMove bins p to from (view (now (w .entry))) ⌝ }
 {
     let mut bin: usize = 0;
-    let mut n: usize = 0;
+    let mut count: usize = 0;
     while bin < BINS {
-        n = n + abandon_bin(p, w, to, from, bin);
+        count = count + abandon_bin(p, w, to, from, bin);
         bin = bin + 1;
     }
-    n
+    count
 }
 
 // Hands a holder's lists to abandoned, where the shared release treats them; the holder is bound no more. The answer is how many
@@ -234,10 +234,10 @@ pub fn destroy(
 
 // ---- marking
 
-fn unmarked_state(s: u8) -> u8
-    ensures { λ r. ⌜ r ≡ unmarkedState s ⌝ }
+fn unmarked_state(state: u8) -> u8
+    ensures { λ r. ⌜ r ≡ unmarkedState state ⌝ }
 {
-    if s == block::UNALLOCATED {
+    if state == block::UNALLOCATED {
         return block::UNALLOCATED;
     }
     block::UNMARKED
@@ -249,8 +249,8 @@ fn unmark_blocks(st: &mut [u8])
 {
     let mut i: usize = 0;
     while i < st.len() {
-        let s = unmarked_state(st[i]);
-        st[i] = s;
+        let state = unmarked_state(st[i]);
+        st[i] = state;
         i = i + 1;
     }
 }
@@ -330,94 +330,94 @@ pub fn mark(
 
 // ---- releasing
 
-// Takes the block out of the list l and releases it, if it is Unmarked. The answer is how many were released: 1 or 0.
-fn attempt_release(p: Params, w: &mut [usize], st: &mut [u8], l: usize, b: Block) -> usize
-    requires { ⌜ (goodParams p ≡ true) × (l < 1470) ⌝ }
-    ensures { λ r. ⌜ out r (view (now (w .exit))) (now (st .exit)) ≡ attemptRelease p l (b .0) (view (now (w .entry))) (now (st .entry)) ⌝ }
+// Takes the block out of the list and releases it, if it is Unmarked. The answer is how many were released: 1 or 0.
+fn attempt_release(p: Params, w: &mut [usize], st: &mut [u8], list: usize, b: Block) -> usize
+    requires { ⌜ (goodParams p ≡ true) × (list < lists) ⌝ }
+    ensures { λ r. ⌜ out r (view (now (w .exit))) (now (st .exit)) ≡ attemptRelease p list (b .0) (view (now (w .entry))) (now (st .entry)) ⌝ }
 {
-    let i = b.0;
-    let s = states::state(st, i);
-    if s != block::UNMARKED {
+    let number = b.0;
+    let state = states::state(st, number);
+    if state != block::UNMARKED {
         return 0;
     }
-    block_list::remove(p, w, l, b);
+    block_list::remove(p, w, list, b);
     block::clear_block(w, st, b);
     1
 }
 
-// Releases the Unmarked blocks of the list l. The next link is read before its block is removed.
-fn release_blocks(p: Params, w: &mut [usize], st: &mut [u8], l: usize) -> usize
-    requires { ⌜ (goodParams p ≡ true) × (l < 1470) ⌝ }
-    ensures { λ r. ⌜ out r (view (now (w .exit))) (now (st .exit)) ≡ total (releaseFrom (p .blocks) p l (getD (view (now (w .entry)) .first) l 0) (view (now (w .entry))) (now (st .entry))) ⌝ }
+// Releases the Unmarked blocks of the list. The next link is read before its block is removed.
+fn release_blocks(p: Params, w: &mut [usize], st: &mut [u8], list: usize) -> usize
+    requires { ⌜ (goodParams p ≡ true) × (list < lists) ⌝ }
+    ensures { λ r. ⌜ out r (view (now (w .exit))) (now (st .exit)) ≡ total (releaseFrom (p .blocks) p list (getD (view (now (w .entry)) .first) list 0) (view (now (w .entry))) (now (st .entry))) ⌝ }
 {
-    let mut k = p.blocks;
-    let mut a = tables::first(w, l);
-    let mut n: usize = 0;
-    while 0 < k {
-        if a == 0 {
-            return n;
+    let mut more = p.blocks;
+    let mut link = tables::first(w, list);
+    let mut released: usize = 0;
+    while 0 < more {
+        if link == 0 {
+            return released;
         }
-        let b = address::block_at(p, Address(a));
-        a = tables::next(w, b.0);
-        n = n + attempt_release(p, w, st, l, b);
-        k = k - 1;
+        let b = address::block_at(p, Address(link));
+        link = tables::next(w, b.0);
+        released = released + attempt_release(p, w, st, list, b);
+        more = more - 1;
     }
-    n
+    released
 }
 
 // One bin of a holder's release: what stays of available and consumed blocks becomes unswept.
 fn release_bin(p: Params, w: &mut [usize], st: &mut [u8], owner: usize, bin: usize) -> usize
-    requires { ⌜ (goodParams p ≡ true) × (owner ≤ 27) × (bin < 49) ⌝ }
+    requires { ⌜ (goodParams p ≡ true) × (owner ≤ inGc) × (bin < bins) ⌝ }
     ensures { λ r. ⌜ out r (view (now (w .exit))) (now (st .exit)) ≡ total (releaseBin p owner bin (freed (view (now (w .entry))) (now (st .entry)))) ⌝ }
 {
     let available = address::available(owner, bin);
     let unswept = address::unswept(owner, bin);
     let consumed = address::consumed(owner, bin);
-    let n = release_blocks(p, w, st, available);
+    let free = release_blocks(p, w, st, available);
     block_list::append(p, w, unswept, available);
-    let m = release_blocks(p, w, st, consumed);
+    let full = release_blocks(p, w, st, consumed);
     block_list::append(p, w, unswept, consumed);
-    n + m
+    free + full
 }
 
 fn release_bins(p: Params, w: &mut [usize], st: &mut [u8], owner: usize) -> usize
-    requires { ⌜ (goodParams p ≡ true) × (owner ≤ 27) ⌝ }
-    ensures { λ r. ⌜ out r (view (now (w .exit))) (now (st .exit)) ≡ total (releasedBins p owner 49 (view (now (w .entry))) (now (st .entry))) ⌝ }
+    requires { ⌜ (goodParams p ≡ true) × (owner ≤ inGc) ⌝ }
+    ensures { λ r. ⌜ out r (view (now (w .exit))) (now (st .exit)) ≡ total (releasedBins p owner bins (view (now (w .entry))) (now (st .entry))) ⌝ }
 {
     let mut bin: usize = 0;
-    let mut n: usize = 0;
+    let mut released: usize = 0;
     while bin < BINS {
-        n = n + release_bin(p, w, st, owner, bin);
+        released = released + release_bin(p, w, st, owner, bin);
         bin = bin + 1;
     }
-    n
+    released
 }
 
 // A holder's part: its lists end up in-gc.
 fn release_holder(p: Params, w: &mut [usize], st: &mut [u8], holder: usize) -> usize
-    requires { ⌜ (goodParams p ≡ true) × (1 ≤ holder) × (holder ≤ 8) ⌝ }
+    requires { ⌜ (goodParams p ≡ true) × (1 ≤ holder) × (holder ≤ holders) ⌝ }
     ensures { λ r. ⌜ out r (view (now (w .exit))) (now (st .exit)) ≡ total (releaseHolder p holder (view (now (w .entry))) (now (st .entry))) ⌝ }
 {
     let owner = address::local_sets(holder);
-    let n = release_bins(p, w, st, owner);
+    let released = release_bins(p, w, st, owner);
     abandon_blocks(p, w, IN_GC, owner);
-    n
+    released
 }
 
 // One bin of the shared part.
 fn sweep_later_bin(p: Params, w: &mut [usize], st: &mut [u8], bin: usize) -> usize
-    requires { ⌜ (goodParams p ≡ true) × (bin < 49) ⌝ }
+    requires { ⌜ (goodParams p ≡ true) × (bin < bins) ⌝ }
     ensures { λ r. ⌜ out r (view (now (w .exit))) (now (st .exit)) ≡ total (sweepLaterBin p bin (freed (view (now (w .entry))) (now (st .entry)))) ⌝ }
 {
     let available = address::available(ABANDONED, bin);
     let unswept = address::unswept(ABANDONED, bin);
     let consumed = address::consumed(ABANDONED, bin);
-    let n = release_blocks(p, w, st, available);
-    let m = release_blocks(p, w, st, consumed);
-    let o = release_blocks(p, w, st, unswept);
+    let free = release_blocks(p, w, st, available);
+    let full = release_blocks(p, w, st, consumed);
+    let waiting = release_blocks(p, w, st, unswept);
     block_list::append(p, w, unswept, available);
     block_list::append(p, w, unswept, consumed);
-    n + m + o
+    free + full + waiting
 }
 
 // The shared part: abandoned blocks are released, or become unswept.
@@ -426,12 +426,12 @@ fn sweep_later(p: Params, w: &mut [usize], st: &mut [u8]) -> usize
     ensures { λ r. ⌜ out r (view (now (w .exit))) (now (st .exit)) ≡ total (sweepLater p (view (now (w .entry))) (now (st .entry))) ⌝ }
 {
     let mut bin: usize = 0;
-    let mut n: usize = 0;
+    let mut released: usize = 0;
     while bin < BINS {
-        n = n + sweep_later_bin(p, w, st, bin);
+        released = released + sweep_later_bin(p, w, st, bin);
         bin = bin + 1;
     }
-    n
+    released
 }
 
 // The in-gc lists go behind the abandoned ones.
@@ -444,7 +444,7 @@ fn merge(p: Params, w: &mut [usize]) -> usize
 
 fn clear_released(w: &mut [usize])
     requires { ⌜ headWords ≤ length (now w) ⌝ }
-    ensures { λ _. ⌜ view (now (w .exit)) ≡ withReleased (replicate 9 0) (view (now (w .entry))) ⌝ }
+    ensures { λ _. ⌜ view (now (w .exit)) ≡ withReleased (replicate parts 0) (view (now (w .entry))) ⌝ }
 {
     let mut i: usize = 0;
     while i < PARTS {
@@ -458,10 +458,10 @@ fn end_of_gc(p: Params, w: &mut [usize]) -> usize
     requires { ⌜ (goodParams p ≡ true) × (headWords ≤ length (now w)) ⌝ }
     ensures { λ r. ⌜ moved r (view (now (w .exit))) ≡ endMoves p (view (now (w .entry))) ⌝ }
 {
-    let n = merge(p, w);
+    let merged = merge(p, w);
     clear_released(w);
     tables::set_phase(w, RUNNING);
-    n
+    merged
 }
 
 // A part has released; the last one ends the collection. The answer is how many blocks were merged, 0 if parts are due.
@@ -520,9 +520,12 @@ pub(crate) fn do_shared_release(p: Params, w: &mut [usize], st: &mut [u8]) -> Re
     match checks::check_shared_release(w) {
         Tested::Refused(r) => ReleaseAnswer::Refused(r),
         Tested::Passed => {
-            let n = sweep_later(p, w, st);
+            let released = sweep_later(p, w, st);
             let merged = part_released(p, w, 0);
-            ReleaseAnswer::Released { blocks: n, merged }
+            ReleaseAnswer::Released {
+                blocks: released,
+                merged,
+            }
         }
     }
 }

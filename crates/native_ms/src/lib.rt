@@ -1,7 +1,7 @@
 // The native mark-sweep space, as in the Rust's files; `checks` has the tests of the calls.
 //
-// Inner functions name what they are lent by one letter: p the parameters, w the table words, st the state bytes, m the marks,
-// h the heap; b is a block, l a list.
+// Inner functions name what they are lent by a letter or two: p the parameters, w the table words, st the state bytes, m the marks,
+// h the heap; a is an address, b a block. All else is spelled out: a list is by its number, a link is an address of a block.
 mod address;
 pub mod allocator;
 mod block;

@@ -16,33 +16,33 @@ ghost use Rattle.model.specs.Memory.{load, store, zeroed, marked, setMark, byte
 fn offset(p: Params, a: Address) -> usize
     ensures { λ r. ⌜ r ≡ a .0 - p .base ⌝ }
 {
-    let v = a.0;
+    let at = a.0;
     let base = p.base;
-    if v < base {
+    if at < base {
         return 0;
     }
-    v - base
+    at - base
 }
 
 pub(crate) fn load(p: Params, h: &[u8], a: Address) -> usize
     ensures { λ r. ⌜ r ≡ load p (now (h .entry)) (a .0) ⌝ }
 {
-    let i = offset(p, a);
-    bytes::load_word(h, i)
+    let from = offset(p, a);
+    bytes::load_word(h, from)
 }
 
 pub(crate) fn store(p: Params, h: &mut [u8], a: Address, v: usize)
     ensures { λ _. ⌜ now (h .exit) ≡ store p (now (h .entry)) (a .0) v ⌝ }
 {
-    let i = offset(p, a);
-    bytes::store_word(h, i, v);
+    let from = offset(p, a);
+    bytes::store_word(h, from, v);
 }
 
 pub(crate) fn zero(p: Params, h: &mut [u8], a: Address, n: usize)
     ensures { λ _. ⌜ now (h .exit) ≡ zeroed p (now (h .entry)) (a .0) n ⌝ }
 {
-    let i = offset(p, a);
-    bytes::zero(h, i, n);
+    let from = offset(p, a);
+    bytes::zero(h, from, n);
 }
 
 // Whether a place is marked; one outside the heap is not.
@@ -52,8 +52,8 @@ pub(crate) fn is_marked(p: Params, m: &[u8], place: Address) -> bool
 {
     let inside = address::in_heap(p, place);
     if inside {
-        let i = offset(p, place);
-        return marks::test(m, i / 8);
+        let from = offset(p, place);
+        return marks::test(m, from / 8);
     }
     false
 }
@@ -61,8 +61,8 @@ pub(crate) fn is_marked(p: Params, m: &[u8], place: Address) -> bool
 pub(crate) fn set_mark(p: Params, m: &mut [u8], place: Address)
     ensures { λ _. ⌜ now (m .exit) ≡ setMark p (now (m .entry)) (place .0) ⌝ }
 {
-    let i = offset(p, place);
-    marks::set_bit(m, i / 8);
+    let from = offset(p, place);
+    marks::set_bit(m, from / 8);
 }
 
 // The n low bytes of v, from the offset i on.
@@ -70,14 +70,14 @@ fn put_bytes(h: &mut [u8], i: usize, v: usize, n: usize)
     requires { ⌜ i + n ≤ length (now h) ⌝ }
     ensures { λ _. ⌜ now (h .exit) ≡ overwrite i (bytesOf n v) (now (h .entry)) ⌝ }
 {
-    let mut k = n;
-    let mut o = i;
-    let mut x = v;
-    while 0 < k {
-        h[o] = (x % 256) as u8;
-        x = x / 256;
-        o = o + 1;
-        k = k - 1;
+    let mut more = n;
+    let mut at = i;
+    let mut rest = v;
+    while 0 < more {
+        h[at] = (rest % 256) as u8;
+        rest = rest / 256;
+        at = at + 1;
+        more = more - 1;
     }
 }
 
@@ -93,6 +93,6 @@ pub(crate) fn bit(m: &[u8], g: usize) -> bool
     requires { ⌜ g / 8 < length (now m) ⌝ }
     ensures { λ r. ⌜ r ≡ bitOf (getD (now (m .entry)) (g / 8) 0) (g % 8) ⌝ }
 {
-    let i = g / 8;
-    (m[i] >> (g % 8)) & 1 == 1
+    let byte = g / 8;
+    (m[byte] >> (g % 8)) & 1 == 1
 }

@@ -1,4 +1,6 @@
 // Parameters and lengths as callers hand them over: whether they are good, on arbitrary numbers.
+use model::BLOCK_TABLES;
+use model::HEAD_WORDS;
 use model::Params;
 ghost use mathlib.Core.Path.{_≡_};
 ghost use mathlib.Core.Bool.{true, not, _&&_, _||_};
@@ -8,15 +10,15 @@ ghost use Rattle.model.specs.Params.{powerOfTwo, lowerOk, goodParams, wordCount
 ghost use lib.IntN.{natAbs};
 
 // A power of two up to 65,536.
-pub(crate) fn power_of_two(x: usize) -> bool
-    ensures { λ r. ⌜ r ≡ powerOfTwo x ⌝ }
+pub(crate) fn power_of_two(number: usize) -> bool
+    ensures { λ r. ⌜ r ≡ powerOfTwo number ⌝ }
 {
-    let mut k: usize = 17;
-    let mut v: usize = 131072;
-    while 0 < k {
-        k = k - 1;
-        v = v / 2;
-        if x == v {
+    let mut more: usize = 17;
+    let mut power: usize = 131072;
+    while 0 < more {
+        more = more - 1;
+        power = power / 2;
+        if number == power {
             return true;
         }
     }
@@ -33,35 +35,35 @@ fn good_min(min: usize) -> bool
 }
 
 // A power of two from low to high.
-pub(crate) fn power_between(x: usize, low: usize, high: usize) -> bool
-    ensures { λ r. ⌜ r ≡ (powerOfTwo x && leb low x && leb x high) ⌝ }
+pub(crate) fn power_between(number: usize, low: usize, high: usize) -> bool
+    ensures { λ r. ⌜ r ≡ (powerOfTwo number && leb low number && leb number high) ⌝ }
 {
-    if x < low {
+    if number < low {
         return false;
     }
-    if high < x {
+    if high < number {
         return false;
     }
-    power_of_two(x)
+    power_of_two(number)
 }
 
 // L: a multiple of 8, −64 to 64, and 0 if unified.
-fn good_lower(unified: bool, l: i64) -> bool
-    ensures { λ r. ⌜ r ≡ (lowerOk l && (not unified || eqb (natAbs l) 0)) ⌝ }
+fn good_lower(unified: bool, lower: i64) -> bool
+    ensures { λ r. ⌜ r ≡ (lowerOk lower && (not unified || eqb (natAbs lower) 0)) ⌝ }
 {
-    if l < -64 {
+    if lower < -64 {
         return false;
     }
-    if 64 < l {
+    if 64 < lower {
         return false;
     }
-    if l % 8 != 0 {
+    if lower % 8 != 0 {
         return false;
     }
     if !unified {
         return true;
     }
-    l == 0
+    lower == 0
 }
 
 fn good_blocks(blocks: usize) -> bool
@@ -122,7 +124,7 @@ pub(crate) fn lengths_fit(p: Params, words: usize, states: usize, marks: usize, 
 {
     let blocks = p.blocks;
     let bytes = p.bytes;
-    if words != 2958 + 6 * blocks {
+    if words != HEAD_WORDS + BLOCK_TABLES * blocks {
         return false;
     }
     if states != blocks {

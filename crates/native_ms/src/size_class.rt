@@ -1,6 +1,7 @@
 // Size classes: the cell sizes of the bins, and the bin of a size.
 use model::BINS;
 use model::CLASS_WORDS;
+use model::LAST_BIN;
 ghost use mathlib.Core.Path.{_≡_};
 ghost use Prim.Native.Nat.{_<_, _≤_};
 ghost use Rattle.model.specs.declared.Params.{Params};
@@ -38,7 +39,7 @@ fn bin_in_octave(n: usize) -> usize
 pub fn mi_bin_from_size(size: usize) -> usize
     ensures { λ r. ⌜ ((p : Params) → r ≡ binOf p size) ⌝ }
 {
-    if CLASS_WORDS[48] * 8 < size {
+    if CLASS_WORDS[LAST_BIN] * 8 < size {
         return 0;
     }
     let words = (size + 7) / 8;

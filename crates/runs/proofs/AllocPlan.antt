@@ -81,7 +81,7 @@ module _ (p : Params) (B : Bounds p) (t : Tables) (h : List ℕ) (sh : List (Lis
     pub rest : List ℕ
     pub chain : getD sh′ block [] ≡ cell ∷ rest
 
-  pub record Searched (s : Search) : Type 0 where
+  pub record SearchEnds (s : Search) : Type 0 where
     pub events : EventsOk p B hd (s .events) h bk
     pub inv : Inv p B (s .tables) (eventsHeap p (s .events) h) (shadowEvents (s .events) sh) (bookEvents p hd (s .events) bk)
     pub phase : s .tables .words .phase ≡ 0
@@ -99,7 +99,7 @@ module _ (p : Params) (B : Bounds p) (t : Tables) (h : List ℕ) (sh : List (Lis
   abbrev On : List Event → Words → Type 0
   On = Going p B (t .states) (t .marks) hd h sh bk
 
-  found-searched : (f : Found) → On (f .events) (f .words) → (f .at ≡ 0) ⊎ Ready p B (t .states) (t .marks) hd bin (f .words) (f .at) → Searched (inFound f t)
+  found-searched : (f : Found) → On (f .events) (f .words) → (f .at ≡ 0) ⊎ Ready p B (t .states) (t .marks) hd bin (f .words) (f .at) → SearchEnds (inFound f t)
   found-searched f A result =
       record {
         events = A .events;
@@ -213,7 +213,7 @@ module _ (p : Params) (B : Bounds p) (t : Tables) (h : List ℕ) (sh : List (Lis
           chain = getD-set-same shadow b chain [] (omega (arith, lb, S .core .shadow)) ∙ k .2;
         }
 
-    fresh-searched : Searched (acquireFresh p hd bin (Fresh (record { 0 = b })) f t)
+    fresh-searched : SearchEnds (acquireFresh p hd bin (Fresh (record { 0 = b })) f t)
     unfolding acquireFresh eventHeap shadowEvent initBlock setTls setSize setFree isTaken
     fresh-searched =
         record {
@@ -223,7 +223,7 @@ module _ (p : Params) (B : Bounds p) (t : Tables) (h : List ℕ) (sh : List (Lis
           result = inr (behind p B hd (λ x y z. Cellful tables y (start p b)) (f .events) (initialised b chain) h sh bk fresh-cellful);
         }
 
-  offered : (offer : Offer) → goodOffer p t offer ≡ true → (f : Found) → f .at ≡ 0 → On (f .events) (f .words) → Searched (acquireFresh p hd bin offer f t)
+  offered : (offer : Offer) → goodOffer p t offer ≡ true → (f : Found) → f .at ≡ 0 → On (f .events) (f .words) → SearchEnds (acquireFresh p hd bin offer f t)
   unfolding acquireFresh goodOffer stateOf
   offered Nothing fine f e A = found-searched f A (inl e)
   offered (Fresh b) fine f e A =
@@ -233,11 +233,11 @@ module _ (p : Params) (B : Bounds p) (t : Tables) (h : List ℕ) (sh : List (Lis
 
   -- ---- the whole search
 
-  pub find-searched : (offer : Offer) → goodOffer p t offer ≡ true → Searched (findBlock p hd bin offer t)
+  pub find-searched : (offer : Offer) → goodOffer p t offer ≡ true → SearchEnds (findBlock p hd bin offer t)
   unfolding eventsHeap shadowEvents bookEvents
   find-searched offer fine =
       find-keeps p hd bin t On (Gone p B (t .states) (t .marks) hd h sh bk bin)
-      (steps p B (t .states) (t .marks) hd h sh bk bin (hd - 1) low (omega arith) own) Searched offer
+      (steps p B (t .states) (t .marks) hd h sh bk bin (hd - 1) low (omega arith) own) SearchEnds offer
       (λ f e A. offered offer fine f e A) (λ f e A. found-searched f (A .going) (inr (A .ready))) (record { events = no-events p B hd h bk; searching = starting })
 
   -- ---- the plan
@@ -251,7 +251,7 @@ module _ (p : Params) (B : Bounds p) (t : Tables) (h : List ℕ) (sh : List (Lis
       s : Search
       s = findBlock p hd bin offer t
 
-      S : Searched s
+      S : SearchEnds s
       S = find-searched offer fine
 
       go : (s .at ≡ 0) ⊎ Cellful (s .tables) (shadowEvents (s .events) sh) (s .at) → Planned p B t h sh bk (alloc hd size align offset offer) (takePlan p align offset s)

@@ -16,7 +16,7 @@ use Rattle.model.specs.Tables.{blocksIn, Tables, view, flat}
 use Rattle.model.specs.Events.{sweeps, releases}
 use Rattle.model.specs.Global.{freshWords, freshTables}
 use Rattle.model.specs.Calls.{Call, Step, step, Result, lentOf, resultFrom, setUp, pages}
-use Rattle.model.specs.Runs.{Cell, Book, bookAfter, Write, written, Turn, State, foundBy, stepOf, resultOf, bookOf, turned, emptyBook, begun, covers, Holds, HoldersWrite, Seen, seen, trace, TurnKeeps, RunKeeps, Demand3}
+use Rattle.model.specs.Runs.{Cell, Book, bookAfter, Write, written, Turn, State, foundBy, stepOf, resultOf, bookOf, turned, emptyBook, begun, covers, Holds, HoldersWrite, Seen, seen, seenIn, TurnKeeps, RunKeeps, Demand3}
 use Rattle.laws.proofs.Params.{Bounds}
 use Rattle.laws.proofs.Tables.{part-zeros, Sized, sized-view}
 use Rattle.laws.proofs.Memory as Mem
@@ -118,11 +118,11 @@ module _ (p : Params) (fine : goodParams p ≡ true) where
         marks = a .tables .marks;
       }
 
-  shadowTrace : Tables → List (List ℕ) → List Call → List Seen
-  shadowTrace t sh [] = []
-  shadowTrace t sh (c ∷ cs) =
+  shadowSeenIn : Tables → List (List ℕ) → List Call → List Seen
+  shadowSeenIn t sh [] = []
+  shadowSeenIn t sh (c ∷ cs) =
       let a : ShadowStep = shadowStep p t sh c in
-      shadowSeen a ∷ shadowTrace (a .tables) (a .shadow) cs
+      shadowSeen a ∷ shadowSeenIn (a .tables) (a .shadow) cs
 
   module _ (t : Tables) (h : List ℕ) (sh : List (List ℕ)) (bk : Book) (I : Inv p bounds t h sh bk) (u : Turn)
       (honest : (w : Write) → In w (u .writes) → Holds bk w) where
@@ -186,8 +186,8 @@ module _ (p : Params) (fine : goodParams p ≡ true) where
   -- ---- whole runs
 
   follows : (us : List Turn) (t : Tables) (h : List ℕ) (sh : List (List ℕ)) (bk : Book) → Inv p bounds t h sh bk → HoldersWrite p (stateOf t h bk) us
-      → trace p (stateOf t h bk) us ≡ shadowTrace t sh (map (λ (u : Turn). u .call) us)
-  unfolding trace shadowTrace HoldersWrite
+      → seenIn p (stateOf t h bk) us ≡ shadowSeenIn t sh (map (λ (u : Turn). u .call) us)
+  unfolding seenIn shadowSeenIn HoldersWrite
   follows [] t h sh bk I H = refl
   follows (u ∷ us) t h sh bk I H =
       let g : List ℕ = written p (u .writes) h in
@@ -195,10 +195,10 @@ module _ (p : Params) (fine : goodParams p ≡ true) where
       let a : ShadowStep = shadowStep p t sh c in
       let O : StepOk p bounds g bk c (step p t g c) a = S t h sh bk I u (H .0) in
       let e = turn-of t h sh bk I u (H .0) in
-      let rest : trace p (turned p (stateOf t h bk) u) us ≡ shadowTrace (a .tables) (a .shadow) (map (λ (x : Turn). x .call) us) =
-      ap (λ (x : State). trace p x us) e
+      let rest : seenIn p (turned p (stateOf t h bk) u) us ≡ shadowSeenIn (a .tables) (a .shadow) (map (λ (x : Turn). x .call) us) =
+      ap (λ (x : State). seenIn p x us) e
       ∙ follows us (step p t g c .tables) (step p t g c .heap) (a .shadow) (bookAfter p c (step p t g c) bk) (O .inv) (subst (λ (x : State). HoldersWrite p x us) e (H .1))
-      ∙ ap (λ (x : Tables). shadowTrace x (a .shadow) (map (λ (x : Turn). x .call) us)) (O .tables) in
+      ∙ ap (λ (x : Tables). shadowSeenIn x (a .shadow) (map (λ (x : Turn). x .call) us)) (O .tables) in
       λ i. turn-seen t h sh bk I u (H .0) i ∷ rest i
 
   keeps : (us : List Turn) (t : Tables) (h : List ℕ) (sh : List (List ℕ)) (bk : Book) → Inv p bounds t h sh bk → HoldersWrite p (stateOf t h bk) us
@@ -289,16 +289,16 @@ demand3 p l l′ us us′ e e′ H H′ same = (
     held l f us H = subst (λ (x : State). HoldersWrite p x us) (start-is l f) H
 
     run-is : (l : Lent) (f : fits p l ≡ true) (us : List Turn) → HoldersWrite p (begun p l) us
-        → trace p (begun p l) us ≡ shadowTrace p fine (freshTables p) (replicate (p .blocks) []) (map (λ (u : Turn). u .call) us)
-    run-is l f us H = ap (λ (x : State). trace p x us) (start-is l f) ∙ follows p fine us (freshTables p) (l .heap) (replicate (p .blocks) []) emptyBook (inv l f) (held l f us H)
+        → seenIn p (begun p l) us ≡ shadowSeenIn p fine (freshTables p) (replicate (p .blocks) []) (map (λ (u : Turn). u .call) us)
+    run-is l f us H = ap (λ (x : State). seenIn p x us) (start-is l f) ∙ follows p fine us (freshTables p) (l .heap) (replicate (p .blocks) []) emptyBook (inv l f) (held l f us H)
 
     run-keeps : (l : Lent) → fits p l ≡ true → (us : List Turn) → HoldersWrite p (begun p l) us → RunKeeps p (begun p l) us
     run-keeps l f us H =
         subst (λ (x : State). RunKeeps p x us) (sym (start-is l f))
         (keeps p fine us (freshTables p) (l .heap) (replicate (p .blocks) []) emptyBook (inv l f) (held l f us H))
 
-    calls-same : trace p (begun p l) us ≡ trace p (begun p l′) us′
-    calls-same = run-is l fit us H ∙ ap (shadowTrace p fine (freshTables p) (replicate (p .blocks) [])) same ∙ sym (run-is l′ fit′ us′ H′)
+    calls-same : seenIn p (begun p l) us ≡ seenIn p (begun p l′) us′
+    calls-same = run-is l fit us H ∙ ap (shadowSeenIn p fine (freshTables p) (replicate (p .blocks) [])) same ∙ sym (run-is l′ fit′ us′ H′)
 
     seen-same : seen (setUp p l) [] ≡ seen (setUp p l′) []
     seen-same = ap (λ (x : Result). seen x []) (set-up-is p l fit) ∙ sym (ap (λ (x : Result). seen x []) (set-up-is p l′ fit′))

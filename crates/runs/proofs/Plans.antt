@@ -30,7 +30,7 @@ use Rattle.laws.proofs.Params.{Bounds, blockAt-within}
 use Rattle.laws.proofs.Tables.{Sized, sized-same, kept-lengths}
 use Rattle.laws.proofs.Memory as Mem
 use Rattle.laws.proofs.Marks.{marked-cleared, length-setMark, length-cleared, bytes-setMark, bytes-cleared, marked-setMark}
-use Rattle.laws.proofs.Frame.{LinksOnly, links-refl, append-links, remove-links, each-keeps, FirstsBut, link-list, append-first, append-none}
+use Rattle.laws.proofs.Frame.{LinksOnly, links-refl, append-links, remove-links, each-keeps, FirstsBut, link-list, append-first, append-none, relabel-keeps}
 use Rattle.laws.proofs.Walks.{releasedOne, blocks-keep-any, bins-keep-any, later-keeps-any}
 use Rattle.soundness.proofs.Owners.{unswept-numbered, abandon-links, abandon-framed, holder-framed, holder-empties, shared-framed}
 use Rattle.runs.proofs.Inv.{Held, Placed, Core, set-cases, release-core, release-unmarked}
@@ -424,10 +424,9 @@ module _ (p : Params) (B : Bounds p) where
           (List·getD-eq-default l 0 {n = z} (omega (arith, e)) ∙ sym (List·getD-eq-default (set l i v) 0 {n = z} (omega (arith, length-set l i v, e)))) sl
 
   relabel-steady : (k l a : ℕ) (w : Words) → Settled (listWord l) → Steady w (relabel k p l a w)
-  unfolding Steady relabel setList
-  relabel-steady zero l a w sl = λ b s. s
-  relabel-steady (suc k) l a w sl = λ b s. if-cases (λ (x : Words). Settled (getD (x .list) b 0)) (eqb a 0) (λ e. s)
-      (λ e. relabel-steady k l _ _ sl b (set-steady (w .list) (blockAt p a) (listWord l) b sl s))
+  unfolding Steady setList
+  relabel-steady k l a w sl = λ b s.
+      relabel-keeps p (λ (x : Words). Settled (getD (x .list) b 0)) l (λ i u. set-steady (u .list) i (listWord l) b sl) k a w s
 
   append-steady : (l o : ℕ) (w : Words) → Settled (listWord l) → Steady w (append p l o w)
   unfolding Steady append setFirst setLast

@@ -5,16 +5,16 @@ use mathlib.Core.List.{List, [], _∷_, map}
 use Prim.Native.Nat.{ℕ}
 use Rattle.model.specs.declared.Params.{Params}
 use Rattle.model.specs.Calls.{Reply, answered, Result, setUp, pages}
-use Rattle.model.specs.Runs.{Turn, State, stepOf, resultOf, turned, emptyBook, begun, Seen, seen, trace, RunKeeps, Demand3}
-use Rattle.model.specs.Port.{Made, Chain, PortRun, turnsOf, portBegun, portTurned, portTrace, PortKeeps, ran, IsRun, Demand3OfThePort}
+use Rattle.model.specs.Runs.{Turn, State, stepOf, resultOf, turned, emptyBook, begun, Seen, seen, seenIn, RunKeeps, Demand3}
+use Rattle.model.specs.Port.{Made, EachPromised, PortRun, turnsOf, portBegun, portTurned, portSeen, PortKeeps, ran, IsRun, Demand3OfThePort}
 use Rattle.runs.proofs.Demand3.{demand3}
 
 module _ (p : Params) where
   -- ---- the machine's own calls
 
   -- they keep the promises
-  pub ran-chain : (us : List Turn) (s : State) → Chain p (s .lent) (ran p s us)
-  unfolding Chain ran turned resultOf
+  pub ran-chain : (us : List Turn) (s : State) → EachPromised p (s .lent) (ran p s us)
+  unfolding EachPromised ran turned resultOf
   ran-chain [] s = tt
   ran-chain (u ∷ us) s = (record { reply = refl; lent = refl }, ran-chain us (turned p s u))
 
@@ -23,10 +23,10 @@ module _ (p : Params) where
   ran-turns [] s = refl
   ran-turns (u ∷ us) s = ap (λ (x : List Turn). u ∷ x) (ran-turns us (turned p s u))
 
-  ran-trace : (us : List Turn) (s : State) → portTrace p s (ran p s us) ≡ trace p s us
-  unfolding ran portTrace portTurned trace turned
-  ran-trace [] s = refl
-  ran-trace (u ∷ us) s = ap (λ (x : List Seen). seen (resultOf p s u) (stepOf p s u .events) ∷ x) (ran-trace us (turned p s u))
+  ran-seen : (us : List Turn) (s : State) → portSeen p s (ran p s us) ≡ seenIn p s us
+  unfolding ran portSeen portTurned seenIn turned
+  ran-seen [] s = refl
+  ran-seen (u ∷ us) s = ap (λ (x : List Seen). seen (resultOf p s u) (stepOf p s u .events) ∷ x) (ran-seen us (turned p s u))
 
   ran-keeps : (us : List Turn) (s : State) → RunKeeps p s us → PortKeeps p s (ran p s us)
   unfolding ran PortKeeps portTurned RunKeeps turned
@@ -35,13 +35,13 @@ module _ (p : Params) where
 
   -- ---- a chain of promises has no other calls
 
-  chain-ran : (ms : List Made) (s : State) → Chain p (s .lent) ms → ms ≡ ran p s (turnsOf ms)
-  unfolding Chain ran turned resultOf
+  chain-ran : (ms : List Made) (s : State) → EachPromised p (s .lent) ms → ms ≡ ran p s (turnsOf ms)
+  unfolding EachPromised ran turned resultOf
   chain-ran [] s c = refl
   chain-ran (m ∷ ms) s c =
       let q : m .gave ≡ resultOf p s (m .turn) = λ i. record { reply = c .0 .reply i; lent = c .0 .lent i } in
       let rest : ms ≡ ran p (turned p s (m .turn)) (turnsOf ms) =
-      chain-ran ms (turned p s (m .turn)) (subst (λ (x : Result). Chain p (x .lent) ms) q (c .1)) in
+      chain-ran ms (turned p s (m .turn)) (subst (λ (x : Result). EachPromised p (x .lent) ms) q (c .1)) in
       λ i. record { turn = m .turn; gave = q i } ∷ rest i
 
   -- ---- a run of the port
@@ -59,17 +59,17 @@ module _ (p : Params) where
     is-run =
         record {
           setUps = first-is;
-          calls = chain-ran (a .made) (begun p (a .given)) (subst (λ (x : Result). Chain p (x .lent) (a .made)) first-is (a .callsKept));
+          calls = chain-ran (a .made) (begun p (a .given)) (subst (λ (x : Result). EachPromised p (x .lent) (a .made)) first-is (a .callsKept));
         }
 
     -- what is shown of the machine's calls from where it begins holds of the port's
     as-run : (P : State → List Made → Type 0) → P (begun p (a .given)) (ran p (begun p (a .given)) (turnsOf (a .made))) → P (portBegun a) (a .made)
     as-run P k = subst (λ (x : State). P x (a .made)) (sym begun-is) (subst (P (begun p (a .given))) (sym (is-run .calls)) k)
 
-    trace-is : portTrace p (portBegun a) (a .made) ≡ trace p (begun p (a .given)) (turnsOf (a .made))
-    trace-is =
-        as-run (λ (s : State) (ms : List Made). portTrace p s ms ≡ trace p (begun p (a .given)) (turnsOf (a .made)))
-        (ran-trace (turnsOf (a .made)) (begun p (a .given)))
+    seen-is : portSeen p (portBegun a) (a .made) ≡ seenIn p (begun p (a .given)) (turnsOf (a .made))
+    seen-is =
+        as-run (λ (s : State) (ms : List Made). portSeen p s ms ≡ seenIn p (begun p (a .given)) (turnsOf (a .made)))
+        (ran-seen (turnsOf (a .made)) (begun p (a .given)))
 
     answers : a .first .reply ≡ answered [] → setUp p (a .given) .reply ≡ answered []
     answers e = sym (ap (λ (x : Result). x .reply) first-is) ∙ e
@@ -78,8 +78,8 @@ module _ (p : Params) where
     run-keeps k = as-run (PortKeeps p) (ran-keeps (turnsOf (a .made)) (begun p (a .given)) k)
 
   -- the words that a reader sees
-  words-seen : (ms : List Made) (s : State) (f : List ℕ → Reply) → map (λ (x : Seen). f (x .words)) (portTrace p s ms) ≡ map (λ (m : Made). f (m .gave .lent .words)) ms
-  unfolding portTrace
+  words-seen : (ms : List Made) (s : State) (f : List ℕ → Reply) → map (λ (x : Seen). f (x .words)) (portSeen p s ms) ≡ map (λ (m : Made). f (m .gave .lent .words)) ms
+  unfolding portSeen
   words-seen [] s f = refl
   words-seen (m ∷ ms) s f = ap (λ (x : List Reply). f (m .gave .lent .words) ∷ x) (words-seen ms (portTurned p s m) f)
 
@@ -91,8 +91,8 @@ demand3-of-the-port p a b e e′ H H′ same =
     let d = demand3 p (a .given) (b .given) (turnsOf (a .made)) (turnsOf (b .made)) (answers p a e) (answers p b e′) H H′ same in
     let setUps : seen (a .first) [] ≡ seen (b .first) [] =
     ap (λ (x : Result). seen x []) (first-is p a) ∙ d .0 .setUps ∙ sym (ap (λ (x : Result). seen x []) (first-is p b)) in
-    let calls : portTrace p (portBegun a) (a .made) ≡ portTrace p (portBegun b) (b .made) =
-    trace-is p a ∙ d .0 .calls ∙ sym (trace-is p b) in (
+    let calls : portSeen p (portBegun a) (a .made) ≡ portSeen p (portBegun b) (b .made) =
+    seen-is p a ∙ d .0 .calls ∙ sym (seen-is p b) in (
       (is-run p a, is-run p b),
       record {
         setUps = setUps;

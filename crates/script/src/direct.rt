@@ -7,11 +7,13 @@ use crate::reply;
 use crate::reply::Reply;
 use model::Address;
 use model::AllocAnswer;
+use model::BINS;
 use model::Block;
 use model::MarkAnswer;
 use model::Offer;
 use model::PagesAnswer;
 use model::Params;
+use model::SETS;
 use native_ms::free_list_allocator;
 use native_ms::global;
 
@@ -67,10 +69,10 @@ fn mark(
 
 // `u set`: the 49 records of the set are those of its lists.
 fn pages(p: Params, w: &[usize], set: usize) -> Reply {
-    if 30 <= set {
+    if SETS <= set {
         return Reply::Bad;
     }
-    if w.len() < 49 * set + 49 {
+    if w.len() < BINS * set + BINS {
         return Reply::Bad;
     }
     match records::pages(p, w, set) {

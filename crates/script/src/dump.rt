@@ -1,6 +1,8 @@
 // The dump: every table word, every mark byte, and the heap's hash.
 use crate::fill;
 use crate::out;
+use model::LISTS;
+use words::bytes;
 use words::states;
 use words::tables;
 
@@ -40,14 +42,10 @@ fn phase(w: &[usize], o: &mut [u8; out::OUT], n: usize) -> usize {
     out::put(o, f, b'\n')
 }
 
-fn wide(b: u8) -> usize {
-    b as usize
-}
-
 fn block(w: &[usize], st: &[u8], i: usize, o: &mut [u8; out::OUT], n: usize) -> usize {
     let a = out::text(o, n, b"block");
     let b = out::word(o, a, i);
-    let c = out::word(o, b, wide(states::state(st, i)));
+    let c = out::word(o, b, bytes::wide(states::state(st, i)));
     let d = out::word(o, c, tables::next(w, i));
     let e = out::word(o, d, tables::prev(w, i));
     let f = out::word(o, e, tables::free(w, i));
@@ -71,7 +69,7 @@ fn blocks(w: &[usize], st: &[u8], o: &mut [u8; out::OUT], n: usize) -> usize {
 fn list(w: &[usize], i: usize, o: &mut [u8; out::OUT], n: usize) -> usize {
     let first = tables::first(w, i);
     let last = tables::last(w, i);
-    if i < 1470 {
+    if i < LISTS {
         if first != 0 {
             return list_line(i + 1, first, last, o, n);
         }
@@ -93,7 +91,7 @@ fn list_line(number: usize, first: usize, last: usize, o: &mut [u8; out::OUT], n
 fn lists(w: &[usize], o: &mut [u8; out::OUT], n: usize) -> usize {
     let mut m = n;
     let mut i: usize = 0;
-    while i < 1470 {
+    while i < LISTS {
         m = list(w, i, o, m);
         i = i + 1;
     }

@@ -2,6 +2,7 @@
 use crate::lines;
 use crate::numbers;
 use crate::reply::Reply;
+use model::LISTS;
 use model::Params;
 use words::bytes;
 use words::states;
@@ -51,7 +52,7 @@ pub(crate) fn list(w: &mut [usize], number: usize, first: usize, last: usize) ->
     if number < 1 {
         return Reply::Bad;
     }
-    if 1470 < number {
+    if LISTS < number {
         return Reply::Bad;
     }
     tables::set_first(w, number - 1, first);

@@ -1,5 +1,6 @@
 // The words of a line: decimal numbers, each after one space.
 use crate::lines;
+use words::bytes;
 
 // How many words a form can have, and the count of a line that has none.
 pub(crate) const MOST_WORDS: usize = 9;
@@ -34,10 +35,6 @@ pub(crate) struct Taken {
     pub form: u8,
 }
 
-fn wide(b: u8) -> usize {
-    b as usize
-}
-
 // The value with one digit more.
 fn grown(v: usize, b: u8) -> More {
     if b < 48 {
@@ -49,7 +46,7 @@ fn grown(v: usize, b: u8) -> More {
     if 1844674407370955161 < v {
         return More::Over;
     }
-    let d = wide(b - 48);
+    let d = bytes::wide(b - 48);
     let t = v * 10;
     if usize::MAX - t < d {
         return More::Over;

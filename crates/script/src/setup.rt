@@ -5,6 +5,9 @@ use crate::numbers;
 use crate::reply;
 use crate::reply::Reply;
 use crate::through;
+use model::BINS;
+use model::BLOCK_TABLES;
+use model::HEAD_WORDS;
 use model::PagesAnswer;
 use model::Params;
 use model::Refusal;
@@ -135,7 +138,7 @@ pub(crate) fn word_count(blocks: usize) -> usize {
     if BLOCKS < blocks {
         return 0;
     }
-    2958 + 6 * blocks
+    HEAD_WORDS + BLOCK_TABLES * blocks
 }
 
 // A length within an array of m: a part of it can be lent.
@@ -185,7 +188,7 @@ fn bad_setup(via: usize) -> Reply {
 
 // Past the capacity: pages used, over words of the right length, says whether the parameters are good.
 pub(crate) fn beyond(p: Params, via: usize, w: &[usize]) -> Reply {
-    let none = [0usize; 49];
+    let none = [0usize; BINS];
     match block_list::pages_of_firsts(p, w, &none) {
         PagesAnswer::Pages(_) => Reply::Bad,
         PagesAnswer::Refused(r) => match r {

@@ -38,7 +38,7 @@ use Rattle.soundness.proofs.Lists.{Lists, AllOn, Off, OnSome, put, put-
 use Rattle.soundness.proofs.Moves.{push-stays, push-lists, pop-off, pop-stays, pop-lists}
 use Rattle.soundness.proofs.SoundLists.{Fit, Good}
 use Rattle.soundness.proofs.Owners.{Numbered, available-numbered, unswept-numbered, consumed-numbered, Framed, framed-refl, framed-trans, Theirs, push-framed, pop-framed, free-framed, size-framed, tls-framed}
-use Rattle.soundness.proofs.Held.{Held, SameWords, links-words, fit-as, fit-same, clear-same}
+use Rattle.soundness.proofs.GoodTables.{GoodTables, SameWords, links-words, fit-as, fit-same, clear-same}
 
 -- ---- a block out of all lists
 
@@ -165,8 +165,8 @@ chain-link p w x s a kept word e q =
 
 module _ (p : Params) (B : Bounds p) (st ms : List ℕ) (h bin : ℕ) (lo : 1 ≤ h) (hi : h ≤ 8) (low : bin < 49) (w₀ : Words) where
   -- its words are good, and differ from w₀ in lists of the holder and abandoned ones alone
-  pub record Searched (w : Words) : Type 0 where
-    pub held : Held p ms w st
+  pub record SearchedSoFar (w : Words) : Type 0 where
+    pub good : GoodTables p ms w st
     pub frame : Framed (h - 1) 8 w₀ w
 
   -- x is out of all lists, and fits the list l
@@ -201,12 +201,12 @@ module _ (p : Params) (B : Bounds p) (st ms : List ℕ) (h bin : ℕ) (lo : 1 �
     here : blockAt p (getD (w .first) l 0) ≡ block
     taken : Taken l block (pop p l w .words)
 
-  head-of : (l : ℕ) (w : Words) → l < 1470 → Theirs p (h - 1) 8 l → Searched w → getD (w .first) l 0 ≢ 0 → Head l w
+  head-of : (l : ℕ) (w : Words) → l < 1470 → Theirs p (h - 1) 8 l → SearchedSoFar w → getD (w .first) l 0 ≢ 0 → Head l w
   unfolding In
-  head-of l w ll mine S some = go (S .held .lists l) refl
+  head-of l w ll mine S some = go (S .good .lists l) refl
     where
-      H : Held p ms w st
-      H = S .held
+      H : GoodTables p ms w st
+      H = S .good
 
       go : (xs : List ℕ) → H .lists l ≡ xs → Head l w
       go [] e = absurd (some (first-none p B (H .good .lists) l ll e))
@@ -263,11 +263,11 @@ module _ (p : Params) (B : Bounds p) (st ms : List ℕ) (h bin : ℕ) (lo : 1 �
       )
 
   -- it is pushed on a list of its bin, which is its holder's
-  file-taken : (w : Words) (l x c : ℕ) → Taken l x w → l % 49 ≡ bin → Numbered c (h - 1) bin → getD (w .tls) x 0 ≡ h → Searched (push p c x w)
+  file-taken : (w : Words) (l x c : ℕ) → Taken l x w → l % 49 ≡ bin → Numbered c (h - 1) bin → getD (w .tls) x 0 ≡ h → SearchedSoFar (push p c x w)
   file-taken w l x c T eb N own =
       let F = push-framed p (h - 1) 8 c x w (inl (N .owner)) in
       record {
-        held = record {
+        good = record {
           lists = put c (x ∷ T .lists c) (T .lists);
           good = file-good p B st ms w (T .sized) (T .lists) x c (T .out) (N .low)
               (fit-as p (tablesOf w st ms) (tablesOf w st ms) l c x (T .fit) refl refl (N .bin ∙ sym eb) (T .fit .free) (T .fit .holder) (λ less. own ∙ omega (arith, N .owner)));
@@ -283,7 +283,7 @@ module _ (p : Params) (B : Bounds p) (st ms : List ℕ) (h bin : ℕ) (lo : 1 �
 
   -- a block that was taken out is filed
   files : (l x a : ℕ) (w : Words) (es : List Event) → blockAt p a ≡ x → Taken l x w → l % 49 ≡ bin → getD (w .tls) x 0 ≡ h
-      → Files p ms h bin (λ es w. Searched w) (λ es a w. Searched w) es a w
+      → Files p ms h bin (λ es w. SearchedSoFar w) (λ es a w. SearchedSoFar w) es a w
   files l x a w es e T eb own =
       record {
         full = λ q. rw e (file-taken w l x (consumed (localSets h) bin) T eb my-consumed own);
@@ -291,7 +291,7 @@ module _ (p : Params) (B : Bounds p) (st ms : List ℕ) (h bin : ℕ) (lo : 1 �
       }
 
   -- every step of the search keeps the words so
-  pub steps : Steps p ms h bin (λ es w. Searched w) (λ es a w. Searched w)
+  pub steps : Steps p ms h bin (λ es w. SearchedSoFar w) (λ es a w. SearchedSoFar w)
   steps =
       record {
         moved = λ es w S some q.
@@ -332,7 +332,7 @@ init-push : (p : Params) (b s h l : ℕ) (w : Words) → initBlock p b s h (push
 unfolding initBlock push setFirst setLast setNext setPrev setFree setSize setList setTls
 init-push p b s h l w = if-map (initBlock p b s h) (eqb (getD (w .first) l 0) 0) _ _
 
-module _ (p : Params) (B : Bounds p) (st ms : List ℕ) (w : Words) (H : Held p ms w st) (x : ℕ) (lx : x < p .blocks) (z : getD st x 0 ≡ 0) where
+module _ (p : Params) (B : Bounds p) (st ms : List ℕ) (w : Words) (H : GoodTables p ms w st) (x : ℕ) (lx : x < p .blocks) (z : getD st x 0 ≡ 0) where
   -- an unused block becomes Unmarked, and is on no list
   fresh-out : Out p (tablesOf w (set st x Unmarked) ms) (H .lists) x
   unfolding AllOn Off stateOf
@@ -398,8 +398,8 @@ module _ (p : Params) (B : Bounds p) (st ms : List ℕ) (w : Words) (H : Held p 
     init-sized = sized-same (simp kept-lengths) (H .sized)
 
     -- the offered block is on the available list then
-    offer-held : Held p ms (initBlock p x (cellBytes p bin) h (push p av x w)) (set st x Unmarked)
-    offer-held =
+    offer-good : GoodTables p ms (initBlock p x (cellBytes p bin) h (push p av x w)) (set st x Unmarked)
+    offer-good =
         let u : Words = initBlock p x (cellBytes p bin) h w in
         record {
           lists = put av (x ∷ H .lists av) (H .lists);
@@ -425,34 +425,34 @@ find-marks p h bin offer t =
     fresh (Fresh b) f = refl
 
 -- what it leaves: good tables, of which lists of the holder and abandoned ones alone changed
-pub record Served (p : Params) (h : ℕ) (t u : Tables) : Type 0 where
-  pub held : Held p (u .marks) (u .words) (u .states)
+pub record AllocKeeps (p : Params) (h : ℕ) (t u : Tables) : Type 0 where
+  pub good : GoodTables p (u .marks) (u .words) (u .states)
   pub frame : Framed (h - 1) 8 (t .words) (u .words)
 
-module _ (p : Params) (B : Bounds p) (t : Tables) (H : Held p (t .marks) (t .words) (t .states))
+module _ (p : Params) (B : Bounds p) (t : Tables) (H : GoodTables p (t .marks) (t .words) (t .states))
     (h bin : ℕ) (lo : 1 ≤ h) (hi : h ≤ 8) (pos : 1 ≤ bin) (low : bin < 49) where
   abbrev Ok : Search → Type 0
-  Ok s = Served p h t (s .tables)
+  Ok s = AllocKeeps p h t (s .tables)
 
   abbrev Good′ : Words → Type 0
-  Good′ = Searched p B (t .states) (t .marks) h bin lo hi low (t .words)
+  Good′ = SearchedSoFar p B (t .states) (t .marks) h bin lo hi low (t .words)
 
   -- the offer keeps good what a search left
   fresh-ok : (offer : Offer) → goodOffer p t offer ≡ true → (f : Found) → Good′ (f .words) → Ok (acquireFresh p h bin offer f t)
   unfolding acquireFresh goodOffer stateOf
-  fresh-ok Nothing e f S = record { held = S .held; frame = S .frame }
+  fresh-ok Nothing e f S = record { good = S .good; frame = S .frame }
   fresh-ok (Fresh b) e f S =
       let lb = ltb-true _ _ (and-left (ltb (b .0) (p .blocks)) (eqb (getD (t .states) (b .0) 0) 0) e) in
       let z = eqb-true _ _ (and-right (ltb (b .0) (p .blocks)) (eqb (getD (t .states) (b .0) 0) 0) e) in
       record {
-        held = offer-held p B (t .states) (t .marks) (f .words) (S .held) (b .0) lb z h bin lo hi pos low;
-        frame = framed-trans (S .frame) (offer-framed p B (t .states) (t .marks) (f .words) (S .held) (b .0) lb z h bin lo hi pos low);
+        good = offer-good p B (t .states) (t .marks) (f .words) (S .good) (b .0) lb z h bin lo hi pos low;
+        frame = framed-trans (S .frame) (offer-framed p B (t .states) (t .marks) (f .words) (S .good) (b .0) lb z h bin lo hi pos low);
       }
 
   pub find-served : (offer : Offer) → goodOffer p t offer ≡ true → Ok (findBlock p h bin offer t)
   find-served offer fine =
       find-keeps p h bin t (λ es w. Good′ w) (λ es a w. Good′ w) (steps p B (t .states) (t .marks) h bin lo hi low (t .words)) Ok offer
-      (λ f e S. fresh-ok offer fine f S) (λ f e S. record { held = S .held; frame = S .frame }) (record { held = H; frame = framed-refl (t .words) })
+      (λ f e S. fresh-ok offer fine f S) (λ f e S. record { good = S .good; frame = S .frame }) (record { good = H; frame = framed-refl (t .words) })
 
 -- ---- a cell is taken: the block's free head moves on
 pub take-good : (p : Params) (t : Tables) (L : ℕ → List ℕ) → Sized (p .blocks) (t .words) → Good p t L → (b v : ℕ)

@@ -33,8 +33,8 @@ use Rattle.laws.proofs.Tables.{Sized, sized-same, kept-lengths, sized-view, len
 use Rattle.soundness.proofs.SoundLists.{Good, sound-good, good-blocks, good-linked}
 use Rattle.soundness.proofs.Owners.{holder-framed, holder-empties, shared-framed}
 use Rattle.soundness.proofs.Flags.{Flags, sound-flags, bind-flags, prepare-flags, destroy-flags, same-flags, released-flags, bound-at}
-use Rattle.soundness.proofs.Held.{Held, clear-words}
-use Rattle.soundness.proofs.Release.{abandon-held, holder-held, shared-held}
+use Rattle.soundness.proofs.GoodTables.{GoodTables, clear-words}
+use Rattle.soundness.proofs.Release.{abandon-good, holder-good, shared-good}
 use Rattle.soundness.proofs.Alloc.{find-served, take-good}
 use Rattle.soundness.proofs.Simple.{rowsOf, good-stays, same-states, bind-good, prepare-good, mark-good, fresh-good, fresh-flags}
 
@@ -63,29 +63,29 @@ module _ (p : Params) (B : Bounds p) where
       }
 
   -- other words with the same tables of lists and blocks
-  pub held-stays : {ms st : List ℕ} {w : Words} (w′ : Words) → rowsOf w′ ≡ rowsOf w → Sized (p .blocks) w′ → Held p ms w st → Held p ms w′ st
-  held-stays {ms} {st} w′ e z H =
+  pub still-good : {ms st : List ℕ} {w : Words} (w′ : Words) → rowsOf w′ ≡ rowsOf w → Sized (p .blocks) w′ → GoodTables p ms w st → GoodTables p ms w′ st
+  still-good {ms} {st} w′ e z H =
       record { lists = H .lists; good = good-stays p w′ ms e (same-states p st) (H .good); sized = z; states = H .states }
 
   -- the end of a release: flags alone, or in-gc merged into abandoned
-  pub part-held : (part : ℕ) (w : Words) (st ms : List ℕ) → Held p ms w st → Held p ms (partReleased p part w) st
+  pub part-good : (part : ℕ) (w : Words) (st ms : List ℕ) → GoodTables p ms w st → GoodTables p ms (partReleased p part w) st
   unfolding partReleased setReleased setPhase withReleased
-  part-held part w st ms H = if-cases (λ (x : Words). Held p ms x st) (allReleased w₁)
+  part-good part w st ms H = if-cases (λ (x : Words). GoodTables p ms x st) (allReleased w₁)
       (λ e.
-      let A = abandon-held p B ms 8 9 (omega arith) (omega arith) (omega arith) (omega arith) st w₁ H₁ in
+      let A = abandon-good p B ms 8 9 (omega arith) (omega arith) (omega arith) (omega arith) st w₁ H₁ in
       let S = A .sized in
-      held-stays _ refl (record { first = S .first; last = S .last; bound = S .bound; released = refl; next = S .next; prev = S .prev; free = S .free; size = S .size; list = S .list; tls = S .tls }) A)
+      still-good _ refl (record { first = S .first; last = S .last; bound = S .bound; released = refl; next = S .next; prev = S .prev; free = S .free; size = S .size; list = S .list; tls = S .tls }) A)
       (λ e. H₁)
     where
       w₁ : Words
       w₁ = setReleased part 1 (setPhase 2 w)
 
-      H₁ : Held p ms w₁ st
-      H₁ = held-stays w₁ refl (sized-same (simp kept-lengths) (H .sized)) H
+      H₁ : GoodTables p ms w₁ st
+      H₁ = still-good w₁ refl (sized-same (simp kept-lengths) (H .sized)) H
 
   -- held tables whose flags are good
-  held-kept : (t : Tables) → Held p (t .marks) (t .words) (t .states) → Flags (t .words) → Kept t
-  held-kept t H F = record { sized = H .sized; states = H .states; passes = good-sound t (H .lists) (H .good) F }
+  good-kept : (t : Tables) → GoodTables p (t .marks) (t .words) (t .states) → Flags (t .words) → Kept t
+  good-kept t H F = record { sized = H .sized; states = H .states; passes = good-sound t (H .lists) (H .good) F }
 
   module _ (t : Tables) (K : Kept t) where
     abbrev L : ℕ → List ℕ
@@ -94,7 +94,7 @@ module _ (p : Params) (B : Bounds p) where
     G : Good p t L
     G = sound-good p B t (K .passes)
 
-    H : Held p (t .marks) (t .words) (t .states)
+    H : GoodTables p (t .marks) (t .words) (t .states)
     H = record { lists = L; good = G; sized = K .sized; states = K .states }
 
     F : Flags (t .words)
@@ -133,17 +133,17 @@ module _ (p : Params) (B : Bounds p) where
     unfolding destroyHolder localSets setBound
     destroy-kept h e o =
         let P = bound-at (t .words) h o in
-        let A = abandon-held p B (t .marks) 8 (h - 1) (omega arith) (omega (arith, P .high)) (omega (arith, P .low, P .high)) (omega arith) (t .states) (t .words) H in
-        held-kept (destroyHolder p h t) (held-stays _ refl (sized-same (lengths-setBound (h - 1) 0 _) (A .sized)) A) (destroy-flags p (t .words) h (K .sized) F e o)
+        let A = abandon-good p B (t .marks) 8 (h - 1) (omega arith) (omega (arith, P .high)) (omega (arith, P .low, P .high)) (omega arith) (t .states) (t .words) H in
+        good-kept (destroyHolder p h t) (still-good _ refl (sized-same (lengths-setBound (h - 1) 0 _) (A .sized)) A) (destroy-flags p (t .words) h (K .sized) F e o)
 
     -- a release: own blocks released or handed to in-gc
     release-kept : (h : ℕ) → isBound (t .words) h ≡ true → Kept (releasePlan p h t (releaseHolder p h (t .words) (t .states)) .tables)
     unfolding releasePlan
     release-kept h o =
         let P = bound-at (t .words) h o in
-        let A = holder-held p B (t .marks) h (P .low) (P .high) (t .words) (t .states) H in
+        let A = holder-good p B (t .marks) h (P .low) (P .high) (t .words) (t .states) H in
         let R = holder-framed p (t .words) (t .states) h (P .low) (P .high) in
-        held-kept _ (part-held h _ _ (t .marks) A)
+        good-kept _ (part-good h _ _ (t .marks) A)
         (released-flags p (t .words) _ h (A .sized) F (inr o) (R .bound) (R .released)
         (λ l lt ne. R .first l (omega (arith, ne)) (omega (arith, lt)))
         (λ l e. holder-empties p (t .words) (t .states) h (P .low) (P .high) (K .sized) l (omega (arith, e))))
@@ -151,9 +151,9 @@ module _ (p : Params) (B : Bounds p) where
     shared-kept : Kept (releasePlan p 0 t (sweepLater p (t .words) (t .states)) .tables)
     unfolding releasePlan
     shared-kept =
-        let A = shared-held p B (t .marks) (t .words) (t .states) H in
+        let A = shared-good p B (t .marks) (t .words) (t .states) H in
         let R = shared-framed p (t .words) (t .states) in
-        held-kept _ (part-held 0 _ _ (t .marks) A)
+        good-kept _ (part-good 0 _ _ (t .marks) A)
         (released-flags p (t .words) _ 0 (A .sized) F (inl refl) (R .bound) (R .released)
         (λ l lt ne. R .first l (omega (arith, lt)) (omega (arith, lt))) (λ l e. absurd (omega (arith, e))))
 
@@ -163,7 +163,7 @@ module _ (p : Params) (B : Bounds p) where
     find-kept h bin offer e o pos low fine =
         let P = bound-at (t .words) h o in
         let S = find-served p B t H h bin (P .low) (P .high) pos low offer fine in
-        held-kept _ (S .held) (same-flags (t .words) _ F e h o (S .frame))
+        good-kept _ (S .good) (same-flags (t .words) _ F e h o (S .frame))
 
   -- ---- the end of a call: the cell taken
 

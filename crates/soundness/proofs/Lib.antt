@@ -4,7 +4,7 @@ pub mod Removes
 pub mod Moves
 pub mod Owners
 pub mod Flags
-pub mod Held
+pub mod GoodTables
 pub mod Simple
 pub mod Release
 pub mod Alloc

@@ -16,7 +16,7 @@ use Rattle.model.specs.Global.{freshTables, bindHolder, destroyHolder, prepared
 use Rattle.model.specs.Sound.{linkOk, sound}
 use Rattle.model.specs.Calls.{refusalNumber, Reply, Call, bind, destroy, alloc, prepare, mark, release, sharedRelease, End, says, takes, Plan, takePlan, releasePlan, planPassed, planSound, plan, Step, takeCell, finish, step, Result, lentOf, resultFrom, call}
 use Rattle.model.specs.Refusals.{NoBadTables}
-use Rattle.model.specs.Runs.{Write, written, Turn, State, foundBy, resultOf, turned, begun, Seen, trace}
+use Rattle.model.specs.Runs.{Write, written, Turn, State, foundBy, resultOf, turned, begun, Seen, seenIn}
 use Rattle.laws.proofs.Base.{if-cases}
 use Rattle.laws.proofs.Params.{Bounds, good-bounds}
 use Rattle.laws.proofs.Memory.{length-overwrite}
@@ -133,8 +133,8 @@ module _ (p : Params) (fine : goodParams p ≡ true) where
 
   -- each call of a run
   run-never : (us : List Turn) (t : Tables) (h : List ℕ) (s : State) → s .lent ≡ lentOf t h → Fits t h
-      → (x : Seen) → In x (trace p s us) → x .reply .number ≢ 2
-  unfolding trace In turned
+      → (x : Seen) → In x (seenIn p s us) → x .reply .number ≢ 2
+  unfolding seenIn In turned
   run-never [] t h s e K x m = absurd m
   run-never (u ∷ us) t h s e K x m =
       ⊎-elim (λ q. turn-never u t h s e K x (ap (λ (y : Seen). y .reply) q))

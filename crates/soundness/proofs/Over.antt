@@ -30,9 +30,9 @@ use Rattle.laws.proofs.Walks.{Numbered, available-numbered, unswept-numbered, c
 use Rattle.soundness.proofs.Lists.{Lists, AllOn, Off, put, put-same, put-other, put-in, on-list, one-list, free-off, lists-distinct, none-first, seg-under}
 use Rattle.soundness.proofs.Removes.{without, without-in, append-lists}
 use Rattle.soundness.proofs.SoundLists.{lists-walk}
-use Rattle.soundness.proofs.Held.{Held}
+use Rattle.soundness.proofs.GoodTables.{GoodTables}
 use Rattle.soundness.proofs.Owners.{abandon-empties}
-use Rattle.soundness.proofs.Release.{HeldBy, append-placed, blocks-held-with, to-held, released-lists, abandon-held}
+use Rattle.soundness.proofs.Release.{GoodBy, append-placed, blocks-good-with, to-good, released-lists, abandon-good}
 
 -- ---- owners
 
@@ -95,7 +95,7 @@ module _ (p : Params) where
 module _ (p : Params) (B : Bounds p) (ms : List ℕ) where
   -- ---- one append: the blocks of the other list change their owner, no others do
 
-  module _ (w : Words) (st : List ℕ) (H : Held p ms w st) {l o i j bin : ℕ} (P : Numbered l i bin) (Q : Numbered o j bin) (ne : l ≢ o) where
+  module _ (w : Words) (st : List ℕ) (H : GoodTables p ms w st) {l o i j bin : ℕ} (P : Numbered l i bin) (Q : Numbered o j bin) (ne : l ≢ o) where
     abbrev L : ℕ → List ℕ
     L = H .lists
 
@@ -165,12 +165,12 @@ module _ (p : Params) (B : Bounds p) (ms : List ℕ) where
     two : {l o bin : ℕ} → Numbered l i bin → Numbered o j bin → l ≢ o
     two P Q e = ne (sym (P .owner) ∙ ap (λ (x : ℕ). x / 147) e ∙ Q .owner)
 
-    after : {l o bin : ℕ} (w : Words) → Numbered l i bin → Numbered o j bin → Held p ms w st → Held p ms (append p l o w) st
+    after : {l o bin : ℕ} (w : Words) → Numbered l i bin → Numbered o j bin → GoodTables p ms w st → GoodTables p ms (append p l o w) st
     after w P Q H = append-placed p B ms w st P Q (two P Q) (λ low. absurd (omega arith)) H
 
     -- one bin
-    bin-count : (bin : ℕ) → bin < 49 → (w : Words) → Held p ms w st
-        → Held p ms (abandonBin p (3 * i) (3 * j) bin w) st
+    bin-count : (bin : ℕ) → bin < 49 → (w : Words) → GoodTables p ms w st
+        → GoodTables p ms (abandonBin p (3 * i) (3 * j) bin w) st
         × (count (p .blocks) j w st ≡ abandonedBin p (3 * i) (3 * j) bin w + count (p .blocks) j (abandonBin p (3 * i) (3 * j) bin w) st)
     unfolding abandonBin abandonedBin
     bin-count bin lb w H = (H₃, omega (arith, append-count w st H a fa (two a fa) ne, append-count w₁ st H₁ c fc (two c fc) ne, append-count w₂ st H₂ u fu (two u fu) ne))
@@ -199,18 +199,18 @@ module _ (p : Params) (B : Bounds p) (ms : List ℕ) where
         w₂ : Words
         w₂ = append p (consumed (3 * i) bin) (consumed (3 * j) bin) w₁
 
-        H₁ : Held p ms w₁ st
+        H₁ : GoodTables p ms w₁ st
         H₁ = after w a fa H
 
-        H₂ : Held p ms w₂ st
+        H₂ : GoodTables p ms w₂ st
         H₂ = after w₁ c fc H₁
 
-        H₃ : Held p ms (append p (unswept (3 * i) bin) (unswept (3 * j) bin) w₂) st
+        H₃ : GoodTables p ms (append p (unswept (3 * i) bin) (unswept (3 * j) bin) w₂) st
         H₃ = after w₂ u fu H₂
 
     -- the bins below n
-    bins-count : (n : ℕ) → n ≤ 49 → (w : Words) → Held p ms w st
-        → Held p ms (eachBelow n (abandonBin p (3 * i) (3 * j)) w) st
+    bins-count : (n : ℕ) → n ≤ 49 → (w : Words) → GoodTables p ms w st
+        → GoodTables p ms (eachBelow n (abandonBin p (3 * i) (3 * j)) w) st
         × (count (p .blocks) j w st ≡ abandonedBelow n p (3 * i) (3 * j) w + count (p .blocks) j (eachBelow n (abandonBin p (3 * i) (3 * j)) w) st)
     unfolding abandonedBelow sumBelow eachBelow
     bins-count zero le w H = (H, omega arith)
@@ -223,35 +223,35 @@ module _ (p : Params) (B : Bounds p) (ms : List ℕ) where
     abbrev Changed : Words → Words → ℕ → Type 0
     Changed w u b = ((ownerOf w b ≢ j) × (ownerOf u b ≡ ownerOf w b)) ⊎ ((ownerOf w b ≡ j) × (ownerOf u b ≡ i))
 
-    module _ (w : Words) (H : Held p ms w st) where
+    module _ (w : Words) (H : GoodTables p ms w st) where
       record So (u : Words) : Type 0 where
-        held : Held p ms u st
+        good : GoodTables p ms u st
         own : (b : ℕ) → b < p .blocks → getD st b 0 ≢ 0 → (ownerOf u b ≡ ownerOf w b) ⊎ ((ownerOf w b ≡ j) × (ownerOf u b ≡ i))
 
       so-far : (l o bin : ℕ) → Numbered l i bin → Numbered o j bin → (u : Words) → So u → So (append p l o u)
-      so-far l o bin P Q u S = record { held = after u P Q (S .held); own = λ b low occ. go b low occ (bool-cases (member b (S .held .lists o))) (S .own b low occ) }
+      so-far l o bin P Q u S = record { good = after u P Q (S .good); own = λ b low occ. go b low occ (bool-cases (member b (S .good .lists o))) (S .own b low occ) }
         where
-          go : (b : ℕ) → b < p .blocks → getD st b 0 ≢ 0 → (member b (S .held .lists o) ≡ true) ⊎ (member b (S .held .lists o) ≡ false)
+          go : (b : ℕ) → b < p .blocks → getD st b 0 ≢ 0 → (member b (S .good .lists o) ≡ true) ⊎ (member b (S .good .lists o) ≡ false)
               → (ownerOf u b ≡ ownerOf w b) ⊎ ((ownerOf w b ≡ j) × (ownerOf u b ≡ i))
               → (ownerOf (append p l o u) b ≡ ownerOf w b) ⊎ ((ownerOf w b ≡ j) × (ownerOf (append p l o u) b ≡ i))
           go b low occ (inl y) (inl e) =
-              let x = appended-in u st (S .held) P Q (two P Q) b (member-in b (S .held .lists o) y) in
+              let x = appended-in u st (S .good) P Q (two P Q) b (member-in b (S .good .lists o) y) in
               inr (sym e ∙ x .0, x .1)
           go b low occ (inl y) (inr e) =
-              let x = appended-in u st (S .held) P Q (two P Q) b (member-in b (S .held .lists o) y) in
+              let x = appended-in u st (S .good) P Q (two P Q) b (member-in b (S .good .lists o) y) in
               inr (e .0, x .1)
           go b low occ (inr n) e =
-              let x = appended-out u st (S .held) P Q (two P Q) b low occ (λ y. true-not-false (sym (in-member b (S .held .lists o) y) ∙ n)) in
+              let x = appended-out u st (S .good) P Q (two P Q) b low occ (λ y. true-not-false (sym (in-member b (S .good .lists o) y) ∙ n)) in
               ⊎-elim (λ q. inl (x ∙ q)) (λ q. inr (q .0, x ∙ q .1)) e
 
       all-so : So (abandonBlocks p (3 * i) (3 * j) w)
-      all-so = abandon-keeps p i j li lj So so-far w (record { held = H; own = λ b low occ. inl refl })
+      all-so = abandon-keeps p i j li lj So so-far w (record { good = H; own = λ b low occ. inl refl })
 
       -- none is left
       none-left : (b : ℕ) → b < p .blocks → getD st b 0 ≢ 0 → ownerOf (abandonBlocks p (3 * i) (3 * j) w) b ≢ j
       unfolding In AllOn
       none-left b low occ e =
-          let G = all-so .held .good in
+          let G = all-so .good .good in
           let m = G .on b low occ in
           let own : m .0 / 147 ≡ j = sym (on-owner p (G .lists) (m .0) b (m .1) (m .2)) ∙ e in
           let none = none-first p B (G .lists) (m .0) (m .1) (abandon-empties p i j w (H .sized) ne li lj (m .0) own) in
@@ -288,9 +288,9 @@ module _ (p : Params) (B : Bounds p) (ms : List ℕ) where
       used : (b : ℕ) → getD (f .states) b 0 ≢ 0 → getD st b 0 ≢ 0
 
     abbrev Follows : Freed → Type 0
-    Follows f = HeldBy p B ms f × Followed f
+    Follows f = GoodBy p B ms f × Followed f
 
-    one-followed : (l : ℕ) → l < 1470 → (f : Freed) (H : HeldBy p B ms f) (b : ℕ) → In b (H .lists l) → Followed f → Followed (releasedOne p l b f)
+    one-followed : (l : ℕ) → l < 1470 → (f : Freed) (H : GoodBy p B ms f) (b : ℕ) → In b (H .lists l) → Followed f → Followed (releasedOne p l b f)
     unfolding AllOn
     one-followed l ll f H b i F = record { own = λ x low occ. here x low occ (ℕ-discrete x b); used = λ x occ. F .used x (before x occ (ℕ-discrete x b)) }
       where
@@ -314,12 +314,12 @@ module _ (p : Params) (B : Bounds p) (ms : List ℕ) where
             ∙ sym (on-owner p (H .good .lists) (m .0) x (m .1) (m .2)) ∙ F .own x low o
 
     blocks-follow : (o l bin : ℕ) → Numbered l o bin → (f : Freed) → Follows f → Follows (releaseBlocks p l f)
-    blocks-follow o l bin N f F = blocks-held-with p B ms l bin o N Followed (one-followed l (N .low)) f (F .0) (F .1)
+    blocks-follow o l bin N f F = blocks-good-with p B ms l bin o N Followed (one-followed l (N .low)) f (F .0) (F .1)
 
     -- an append to a list of the same owner
     append-follow : (i l o bin : ℕ) → Numbered l i bin → Numbered o i bin → l ≢ o → (f : Freed) → Follows f → Follows (appendTo p l o f)
     unfolding appendTo
-    append-follow i l o bin P Q ne f F = (to-held p B ms l o bin i P Q ne f (F .0), record { own = λ b low occ. go b low occ (bool-cases (member b (F .0 .lists o))); used = F .1 .used })
+    append-follow i l o bin P Q ne f F = (to-good p B ms l o bin i P Q ne f (F .0), record { own = λ b low occ. go b low occ (bool-cases (member b (F .0 .lists o))); used = F .1 .used })
       where
         go : (b : ℕ) → b < p .blocks → getD (f .states) b 0 ≢ 0 → (member b (F .0 .lists o) ≡ true) ⊎ (member b (F .0 .lists o) ≡ false)
             → ownerOf (append p l o (f .words)) b ≡ ownerOf w b
@@ -329,21 +329,21 @@ module _ (p : Params) (B : Bounds p) (ms : List ℕ) where
         go b low occ (inr n) =
             appended-out (f .words) (f .states) (F .0) P Q ne b low occ (λ y. true-not-false (sym (in-member b (F .0 .lists o) y) ∙ n)) ∙ F .1 .own b low occ
 
-    start : Held p ms w st → Follows (freed w st)
+    start : GoodTables p ms w st → Follows (freed w st)
     start H = (H, record { own = λ b low occ. refl; used = λ b occ. occ })
 
     -- ---- what a release leaves: of the blocks still in use, those of abandoned are those that were
 
     pub record Apart (f : Freed) : Type 0 where
-      pub held : HeldBy p B ms f
+      pub good : GoodBy p B ms f
       pub used : (b : ℕ) → getD (f .states) b 0 ≢ 0 → getD st b 0 ≢ 0
       pub same : (b : ℕ) → b < p .blocks → getD (f .states) b 0 ≢ 0 → eqb (ownerOf (f .words) b) 8 ≡ eqb (ownerOf w b) 8
 
-    pub holder-apart : (h : ℕ) → 1 ≤ h → h ≤ 8 → Held p ms w st → Apart (releaseHolder p h w st)
+    pub holder-apart : (h : ℕ) → 1 ≤ h → h ≤ 8 → GoodTables p ms w st → Apart (releaseHolder p h w st)
     unfolding releaseHolder localSets
     holder-apart h lo hi H =
         record {
-          held = abandon-held p B ms 9 (h - 1) (omega arith) (omega arith) (omega arith) (omega arith) _ _ (F .0);
+          good = abandon-good p B ms 9 (h - 1) (omega arith) (omega arith) (omega arith) (omega arith) _ _ (F .0);
           used = F .1 .used;
           same = λ b low occ. go (X .words) (abandonBlocks p 27 (3 * (h - 1)) (X .words)) b (abandoned-owner 9 (h - 1) (omega arith) (omega arith) (omega arith) (omega arith) _ _ (F .0) b low occ) (F .1 .own b low occ);
         }
@@ -360,12 +360,12 @@ module _ (p : Params) (B : Bounds p) (ms : List ℕ) where
         go u v b (inr q) e =
             ne-eqb (ownerOf v b) 8 (λ z. omega (arith, sym (q .1) ∙ z)) ∙ sym (ne-eqb (ownerOf w b) 8 (λ z. omega (arith, sym (q .0) ∙ e ∙ z)))
 
-    pub shared-apart : Held p ms w st → Apart (sweepLater p w st)
+    pub shared-apart : GoodTables p ms w st → Apart (sweepLater p w st)
     unfolding sweepLater
     shared-apart H =
         let F : Follows (eachBelow bins (sweepLaterBin p) (freed w st)) =
         later-keeps p Follows (blocks-follow 8) (append-follow 8) (freed w st) (start H) in
-        record { held = F .0; used = F .1 .used; same = λ b low occ. ap (λ (x : ℕ). eqb x 8) (F .1 .own b low occ) }
+        record { good = F .0; used = F .1 .used; same = λ b low occ. ap (λ (x : ℕ). eqb x 8) (F .1 .own b low occ) }
 
   -- ---- what goes over: of abandoned after, and not before
 
@@ -391,7 +391,7 @@ module _ (p : Params) (B : Bounds p) (ms : List ℕ) where
               rw (ne-eqb (getD (f .states) b 0) 0 occ, ne-eqb (getD st b 0) 0 (A .used b occ), e b, A .same b low occ) (never (eqb (ownerOf w b) 8))
 
       -- where in-gc was merged, its blocks
-      merged-over : (u v : Words) → Held p ms u (f .states) → ((b : ℕ) → ownerOf u b ≡ ownerOf (f .words) b)
+      merged-over : (u v : Words) → GoodTables p ms u (f .states) → ((b : ℕ) → ownerOf u b ≡ ownerOf (f .words) b)
           → ((b : ℕ) → ownerOf v b ≡ ownerOf (abandonBlocks p 24 27 u) b)
           → abandonedBlocks p 24 27 u ≡ sumBelow (p .blocks) (Over v (f .states))
       unfolding count
@@ -423,7 +423,7 @@ module _ (p : Params) (B : Bounds p) (ms : List ℕ) where
           go b low (no occ) = used b low occ (abandoned-owner 8 9 (omega arith) (omega arith) (omega arith) (omega arith) (f .states) u H b low occ)
 
       -- the end of a release
-      pub part-over : (part : ℕ) → Held p ms (setReleased part 1 (setPhase 2 (f .words))) (f .states)
+      pub part-over : (part : ℕ) → GoodTables p ms (setReleased part 1 (setPhase 2 (f .words))) (f .states)
           → merged p part (f .words) ≡ sumBelow (p .blocks) (Over (partReleased p part (f .words)) (f .states))
       unfolding merged partReleased
       part-over part H = go (allReleased u) refl
@@ -439,7 +439,7 @@ module _ (p : Params) (B : Bounds p) (ms : List ℕ) where
           go false e = sym (none-over u (releasing-owner part (f .words)))
 
     -- destroy: the holder's blocks
-    pub destroyed-over : Held p ms w st → (j : ℕ) → j < 8 → (v : Words) → ((b : ℕ) → ownerOf v b ≡ ownerOf (abandonBlocks p 24 (3 * j) w) b)
+    pub destroyed-over : GoodTables p ms w st → (j : ℕ) → j < 8 → (v : Words) → ((b : ℕ) → ownerOf v b ≡ ownerOf (abandonBlocks p 24 (3 * j) w) b)
         → count (p .blocks) j w st ≡ sumBelow (p .blocks) (Over v st)
     unfolding count
     destroyed-over H j lj v q = sum-same (p .blocks) _ _ (λ b low. go b low (ℕ-discrete (getD st b 0) 0))

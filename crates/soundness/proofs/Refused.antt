@@ -25,7 +25,7 @@ use Rattle.model.specs.Events.{Event, initialised, eventHeap, eventsHeap}
 use Rattle.model.specs.FreeListAllocator.{Found, Search, inFound, acquireFresh, findBlock}
 use Rattle.model.specs.Sound.{linkOk, sound}
 use Rattle.model.specs.Calls.{refusalNumber, Call, bind, destroy, alloc, prepare, mark, release, sharedRelease, Plan, refuses, changes, goodOffer, takePlan, releasePlan, callTests, planPassed, planSound, plan, Step, takeCell, finish, step, Result, tablesIn, lentOf, resultFrom, badSetup, call, setUp}
-use Rattle.model.specs.Refusals.{Passed, Unmoved, TakenOver, SearchKeeps, KeptExhausted, KeptBadLink, OfAlloc, Refused, RefusalKeeps, SetUpKeeps}
+use Rattle.model.specs.Refusals.{PassedOver, Unmoved, TakenOver, SearchKeeps, KeptExhausted, KeptBadLink, OfAlloc, Refused, RefusalKeeps, SetUpKeeps}
 use Rattle.laws.proofs.Below.{and-five}
 use Rattle.laws.proofs.Base.{if-cases, and-left, not-both}
 use Rattle.laws.proofs.Good.{good}
@@ -39,7 +39,7 @@ use Rattle.laws.proofs.Walks.{find-keeps}
 use Rattle.laws.proofs.Tests.{alloc-passed, plan-cases}
 use Rattle.soundness.proofs.SoundLists.{sound-good}
 use Rattle.soundness.proofs.Owners.{Framed, framed-refl}
-use Rattle.soundness.proofs.Held.{Held}
+use Rattle.soundness.proofs.GoodTables.{GoodTables}
 use Rattle.soundness.proofs.Flags.{bound-at}
 use Rattle.soundness.proofs.Searches.{chain-above, some-head, chain-link, events-behind, Quiet, quiet-start, Going, Stopped, search-steps}
 
@@ -71,9 +71,9 @@ module _ (p : Params) (h bin : ℕ) (l : Lent) (w : Words) (heap : List ℕ) (Z 
         prev = λ b f. ap (λ (x : Words). getD (x .prev) b 0) seen ∙ Q .prev b f;
       }
 
-  exhausted-lent : Quiet h bin w₀ w → Framed (h - 1) 8 w₀ w → ((b : ℕ) → Passed p (l .marks) h bin w₀ w b) → KeptExhausted p h bin l m
+  exhausted-lent : Quiet h bin w₀ w → Framed (h - 1) 8 w₀ w → ((b : ℕ) → PassedOver p (l .marks) h bin w₀ w b) → KeptExhausted p h bin l m
   exhausted-lent Q F f =
-      record { keeps = keeps-lent Q F; blocks = λ b. subst (λ (x : Words). Passed p (l .marks) h bin w₀ x b) (sym seen) (f b) }
+      record { keeps = keeps-lent Q F; blocks = λ b. subst (λ (x : Words). PassedOver p (l .marks) h bin w₀ x b) (sym seen) (f b) }
 
   -- its free head and cell size are as they were, so its link was bad before
   head-same : (x : ℕ) → Unmoved w₀ w x ⊎ TakenOver h bin w₀ w x → getD (w .free) x 0 ≡ getD (w₀ .free) x 0
@@ -81,7 +81,7 @@ module _ (p : Params) (h bin : ℕ) (l : Lent) (w : Words) (heap : List ℕ) (Z 
   head-same x (inr T) = T .free
 
   bad-lent : (x : ℕ) → Quiet h bin w₀ w → Framed (h - 1) 8 w₀ w → Unmoved w₀ w x ⊎ TakenOver h bin w₀ w x
-      → ((b : ℕ) → b ≢ x → Passed p (l .marks) h bin w₀ w b) → linkOk p w x (load p heap (getD (w .free) x 0)) ≡ false → KeptBadLink p h bin l m
+      → ((b : ℕ) → b ≢ x → PassedOver p (l .marks) h bin w₀ w b) → linkOk p w x (load p heap (getD (w .free) x 0)) ≡ false → KeptBadLink p h bin l m
   unfolding linkOk
   bad-lent x Q F here f bad =
       record {
@@ -89,7 +89,7 @@ module _ (p : Params) (h bin : ℕ) (l : Lent) (w : Words) (heap : List ℕ) (Z 
         block = x;
         link = rw (← Q .size, ← head-same x here, ← same) bad;
         here = subst (λ (y : Words). Unmoved w₀ y x ⊎ TakenOver h bin w₀ y x) (sym seen) here;
-        others = λ b g. subst (λ (y : Words). Passed p (l .marks) h bin w₀ y b) (sym seen) (f b g);
+        others = λ b g. subst (λ (y : Words). PassedOver p (l .marks) h bin w₀ y b) (sym seen) (f b g);
       }
 
 -- ---- calls on buffers that fit
@@ -122,7 +122,7 @@ module _ (p : Params) (l : Lent) where
 -- ---- an alloc's search and what it ends in
 
 module _ (p : Params) (l : Lent) (B : Bounds p) (len : length (l .heap) ≡ heapBytes p)
-    (H : Held p (l .marks) (view (l .words)) (l .states))
+    (H : GoodTables p (l .marks) (view (l .words)) (l .states))
     (h size align offset : ℕ) (offer : Offer) (lo : 1 ≤ h) (hi : h ≤ 8) (low : binOf p (raised p size align) < 49)
     (room : cellBytes p (binOf p (raised p size align)) ≤ p .bytes) where
   abbrev bin : ℕ
@@ -149,7 +149,7 @@ module _ (p : Params) (l : Lent) (B : Bounds p) (len : length (l .heap) ≡ heap
         nothing = λ a b. absurd (b refl);
         badLink = λ q. absurd (omega (arith, q));
         exhausted = λ q.
-            exhausted-lent p h bin l (g .words) (eventsHeap p (g .events) (l .heap)) (G .good .held .sized) (G .idle)
+            exhausted-lent p h bin l (g .words) (eventsHeap p (g .events) (l .heap)) (G .good .good .sized) (G .idle)
             (G .quiet) (G .good .frame) (G .blocks);
       })
 
@@ -165,7 +165,7 @@ module _ (p : Params) (l : Lent) (B : Bounds p) (len : length (l .heap) ≡ heap
         nothing = λ a b. absurd (a refl);
         badLink = λ q.
             ⊎-elim
-            (λ S. bad-lent p h bin l (g .words) heap (G .good .held .sized) (S .idle) x (S .quiet) (G .good .frame) (S .here) (S .others) n)
+            (λ S. bad-lent p h bin l (g .words) heap (G .good .good .sized) (S .idle) x (S .quiet) (G .good .frame) (S .here) (S .others) n)
             (λ y. absurd (not-both _ y n)) (G .end);
         exhausted = λ q. absurd (omega (arith, q));
       }))
@@ -191,7 +191,7 @@ module _ (p : Params) (l : Lent) (B : Bounds p) (len : length (l .heap) ≡ heap
     v = initBlock p b s h u
 
     Zu : Sized (p .blocks) u
-    Zu = sized-same (push-links p (available (localSets h) bin) b (g .words) (links-refl (g .words)) .lengths) (G .good .held .sized)
+    Zu = sized-same (push-links p (available (localSets h) bin) b (g .words) (links-refl (g .words)) .lengths) (G .good .good .sized)
 
     some-cell : headD (initChain p b s) 0 ≢ 0
     unfolding initChain
@@ -222,7 +222,7 @@ module _ (p : Params) (l : Lent) (B : Bounds p) (len : length (l .heap) ≡ heap
       find-keeps p h bin (tablesIn l) Going′ Stopped′ (search-steps p B (l .states) (l .marks) h bin lo hi low (view (l .words)) (l .heap) len) R offer
       (λ g e G. fresh-found offer y g e G) (λ g e G. some-found g e G)
       (record {
-        good = record { held = H; frame = framed-refl (view (l .words)) };
+        good = record { good = H; frame = framed-refl (view (l .words)) };
         quiet = quiet-start h bin (view (l .words));
         idle = refl;
         blocks = λ b. inl (record { list = refl; free = refl; tls = refl });
@@ -249,7 +249,7 @@ module _ (p : Params) (l : Lent) (f : fits p l ≡ true) where
   Z = sized-view (p .blocks) (l .words) (parts .1)
 
   module _ (ok : sound p (tablesIn l) ≡ true) where
-    H : Held p (l .marks) w (l .states)
+    H : GoodTables p (l .marks) w (l .states)
     H = record { lists = λ n. blocksOn p n w; good = sound-good p B (tablesIn l) ok; sized = Z; states = parts .2 }
 
     passed-fine : (c : Call) → callTests p (tablesIn l) c ≡ Test.Passed → Fine p l c (planPassed p (tablesIn l) c)

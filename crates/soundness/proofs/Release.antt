@@ -28,7 +28,7 @@ use Rattle.laws.proofs.Pigeon.{Distinct}
 use Rattle.soundness.proofs.Lists.{Seg, Run, Lists, AllOn, Off, OnSome, put, put-same, put-other, put-all, put-in, in-put, on-list, one-list, free-off, lists-distinct}
 use Rattle.soundness.proofs.Removes.{without, in-without, without-in, without-none, remove-lists, remove-stays, append-lists, append-stays, clear-lists}
 use Rattle.soundness.proofs.SoundLists.{Fit}
-use Rattle.soundness.proofs.Held.{Held, SameWords, links-words, fit-moves, fit-same, clear-same}
+use Rattle.soundness.proofs.GoodTables.{GoodTables, SameWords, links-words, fit-moves, fit-same, clear-same}
 
 -- ---- a list from some block on
 
@@ -81,7 +81,7 @@ cleared-lengths b w = simp kept-lengths
 module _ (p : Params) (B : Bounds p) (ms : List ℕ) where
   -- ---- one append
 
-  module _ (w : Words) (st : List ℕ) (H : Held p ms w st) (l o : ℕ) (ll : l < 1470) (lo : o < 1470) (ne : l ≢ o)
+  module _ (w : Words) (st : List ℕ) (H : GoodTables p ms w st) (l o : ℕ) (ll : l < 1470) (lo : o < 1470) (ne : l ≢ o)
       (bin : l % 49 ≡ o % 49) (owner : l < 1176 → o / 147 ≡ l / 147) where
     abbrev L : ℕ → List ℕ
     L = H .lists
@@ -113,9 +113,9 @@ module _ (p : Params) (B : Bounds p) (ms : List ℕ) where
         (λ k g h i. fit-same p ms k b refl (links-words K b) (H .good .fit k b h i)) m)
         m
 
-    pub append-held : Held p ms (append p l o w) st
+    pub append-good : GoodTables p ms (append p l o w) st
     unfolding AllOn Off stateOf
-    append-held =
+    append-good =
         record {
           lists = M;
           good = record {
@@ -131,23 +131,23 @@ module _ (p : Params) (B : Bounds p) (ms : List ℕ) where
         }
 
   -- by the places of the lists
-  pub append-placed : (w : Words) (st : List ℕ) {l o i j bin : ℕ} → Numbered l i bin → Numbered o j bin → l ≢ o → (i < 8 → j ≡ i) → Held p ms w st
-      → Held p ms (append p l o w) st
+  pub append-placed : (w : Words) (st : List ℕ) {l o i j bin : ℕ} → Numbered l i bin → Numbered o j bin → l ≢ o → (i < 8 → j ≡ i) → GoodTables p ms w st
+      → GoodTables p ms (append p l o w) st
   append-placed w st {l} {o} {i} {j} P Q ne own H =
-      append-held w st H l o (P .low) (Q .low) ne (P .bin ∙ sym (Q .bin)) (λ low. Q .owner ∙ own (few low (P .owner)) ∙ sym (P .owner))
+      append-good w st H l o (P .low) (Q .low) ne (P .bin ∙ sym (Q .bin)) (λ low. Q .owner ∙ own (few low (P .owner)) ∙ sym (P .owner))
     where
       few : l < 1176 → l / 147 ≡ i → i < 8
       few low e = omega arith
 
   -- an owner's lists put behind another's, which is no holder
-  pub abandon-held : (i j : ℕ) → i < 10 → j < 10 → i ≢ j → 8 ≤ i → (st : List ℕ) (w : Words) → Held p ms w st → Held p ms (abandonBlocks p (3 * i) (3 * j) w) st
-  abandon-held i j li lj ne shared st =
-      abandon-keeps p i j li lj (λ (x : Words). Held p ms x st)
+  pub abandon-good : (i j : ℕ) → i < 10 → j < 10 → i ≢ j → 8 ≤ i → (st : List ℕ) (w : Words) → GoodTables p ms w st → GoodTables p ms (abandonBlocks p (3 * i) (3 * j) w) st
+  abandon-good i j li lj ne shared st =
+      abandon-keeps p i j li lj (λ (x : Words). GoodTables p ms x st)
       (λ l o bin P Q w H. append-placed w st P Q (λ e. ne (sym (P .owner) ∙ ap (λ (x : ℕ). x / 147) e ∙ Q .owner)) (λ low. absurd (omega arith)) H)
 
   -- ---- one block released
 
-  module _ (w : Words) (st : List ℕ) (H : Held p ms w st) (l b : ℕ) (ll : l < 1470) (i : In b (H .lists l)) where
+  module _ (w : Words) (st : List ℕ) (H : GoodTables p ms w st) (l b : ℕ) (ll : l < 1470) (i : In b (H .lists l)) where
     abbrev Ls : ℕ → List ℕ
     Ls = H .lists
 
@@ -212,9 +212,9 @@ module _ (p : Params) (B : Bounds p) (ms : List ℕ) where
     unfolding Off
     released-lists = clear-lists p (remove-lists p B st w (H .sized) Ls (H .good .lists) l b ll i) b (λ m low x. old m b low x .1 refl)
 
-    pub release-held : Held p ms (clearBlock b R) (set st b 0)
+    pub release-good : GoodTables p ms (clearBlock b R) (set st b 0)
     unfolding AllOn Off stateOf
-    release-held =
+    release-good =
         record {
           lists = Left;
           good = record {
@@ -232,25 +232,25 @@ module _ (p : Params) (B : Bounds p) (ms : List ℕ) where
 
   -- ---- a list released
 
-  abbrev pub HeldBy : Freed → Type 0
-  HeldBy f = Held p ms (f .words) (f .states)
+  abbrev pub GoodBy : Freed → Type 0
+  GoodBy f = GoodTables p ms (f .words) (f .states)
 
   -- the walk stands at a: `done` are left behind, `rest` are still to come
   record Walking (l a : ℕ) (f : Freed) : Type 0 where
-    held : HeldBy f
+    good : GoodBy f
     done : List ℕ
     rest : List ℕ
-    split : held .lists l ≡ done ++ rest
+    split : good .lists l ≡ done ++ rest
     at : At p a rest
 
   -- it goes on by one block, which is released or stays
-  steps-held : (l a : ℕ) (f : Freed) (H : HeldBy f) (done rest : List ℕ) → l < 1470 → H .lists l ≡ done ++ rest → At p a rest → a ≢ 0
+  steps-good : (l a : ℕ) (f : Freed) (H : GoodBy f) (done rest : List ℕ) → l < 1470 → H .lists l ≡ done ++ rest → At p a rest → a ≢ 0
       → Walking l (getD (f .words .next) (blockAt p a) 0) (releasedOne p l (blockAt p a) f) × Walking l (getD (f .words .next) (blockAt p a) 0) f
-  unfolding At release-held
-  steps-held l a f H done [] ll e at some = absurd (some at)
-  steps-held l a f H done (x ∷ rest) ll e at some = (
-    record { held = release-held (f .words) (f .states) H l (blockAt p a) ll (rw is-x here); done = done; rest = rest; split = left; at = next },
-    record { held = H; done = done ++ (x ∷ []); rest = rest; split = e ∙ sym (append-assoc done (x ∷ []) rest); at = next },
+  unfolding At release-good
+  steps-good l a f H done [] ll e at some = absurd (some at)
+  steps-good l a f H done (x ∷ rest) ll e at some = (
+    record { good = release-good (f .words) (f .states) H l (blockAt p a) ll (rw is-x here); done = done; rest = rest; split = left; at = next },
+    record { good = H; done = done ++ (x ∷ []); rest = rest; split = e ∙ sym (append-assoc done (x ∷ []) rest); at = next },
   )
     where
       here : In x (H .lists l)
@@ -268,46 +268,46 @@ module _ (p : Params) (B : Bounds p) (ms : List ℕ) where
       next = rw is-x (seg-next p (f .states) (f .words) _ _ 0 _ done x rest (subst (Run p (f .states) (f .words) l) e (H .good .lists .seg l ll)))
 
   -- the block at which it stands is on the list
-  walking-on : (l a : ℕ) (f : Freed) → l < 1470 → (W : Walking l a f) → a ≢ 0 → In (blockAt p a) (W .held .lists l)
+  walking-on : (l a : ℕ) (f : Freed) → l < 1470 → (W : Walking l a f) → a ≢ 0 → In (blockAt p a) (W .good .lists l)
   unfolding At
   walking-on l a f ll W some = go (W .rest) (W .split) (W .at)
     where
-      go : (rest : List ℕ) → W .held .lists l ≡ W .done ++ rest → At p a rest → In (blockAt p a) (W .held .lists l)
+      go : (rest : List ℕ) → W .good .lists l ≡ W .done ++ rest → At p a rest → In (blockAt p a) (W .good .lists l)
       go [] e at = absurd (some at)
       go (x ∷ xs) e at =
-          let here : In x (W .held .lists l) = rw e (in-middle (W .done) x xs) in
-          rw (ap (blockAt p) at ∙ blockAt-start p B x (on-list p (W .held .good .lists) l x ll here .low)) here
+          let here : In x (W .good .lists l) = rw e (in-middle (W .done) x xs) in
+          rw (ap (blockAt p) at ∙ blockAt-start p B x (on-list p (W .good .good .lists) l x ll here .low)) here
 
   -- good tables are kept, and with them what each release of a block on the list keeps
-  pub blocks-held-with : (l bin o : ℕ) → Numbered l o bin → (P : Freed → Type 0)
-      → ((f : Freed) (H : HeldBy f) (b : ℕ) → In b (H .lists l) → P f → P (releasedOne p l b f))
-      → (f : Freed) → HeldBy f → P f → HeldBy (releaseBlocks p l f) × P (releaseBlocks p l f)
-  blocks-held-with l bin o N P one f H q =
+  pub blocks-good-with : (l bin o : ℕ) → Numbered l o bin → (P : Freed → Type 0)
+      → ((f : Freed) (H : GoodBy f) (b : ℕ) → In b (H .lists l) → P f → P (releasedOne p l b f))
+      → (f : Freed) → GoodBy f → P f → GoodBy (releaseBlocks p l f) × P (releaseBlocks p l f)
+  blocks-good-with l bin o N P one f H q =
       blocks-keep p l (λ k a g. Walking l a g × P g)
-      (λ k a g W some u. (step a g (W .0) some .0, one g (W .0 .held) (blockAt p a) (walking-on l a g (N .low) (W .0) some) (W .1)))
-      (λ k a g W some. (step a g (W .0) some .1, W .1)) (λ g. HeldBy g × P g) (λ k a g W. (W .0 .held, W .1)) f
-      (record { held = H; done = []; rest = H .lists l; split = refl; at = seg-at p (f .states) (f .words) _ _ 0 _ (H .lists l) (H .good .lists .seg l (N .low)) }, q)
+      (λ k a g W some u. (step a g (W .0) some .0, one g (W .0 .good) (blockAt p a) (walking-on l a g (N .low) (W .0) some) (W .1)))
+      (λ k a g W some. (step a g (W .0) some .1, W .1)) (λ g. GoodBy g × P g) (λ k a g W. (W .0 .good, W .1)) f
+      (record { good = H; done = []; rest = H .lists l; split = refl; at = seg-at p (f .states) (f .words) _ _ 0 _ (H .lists l) (H .good .lists .seg l (N .low)) }, q)
     where
       step : (a : ℕ) (g : Freed) → Walking l a g → a ≢ 0
           → Walking l (getD (g .words .next) (blockAt p a) 0) (releasedOne p l (blockAt p a) g) × Walking l (getD (g .words .next) (blockAt p a) 0) g
-      step a g W some = steps-held l a g (W .held) (W .done) (W .rest) (N .low) (W .split) (W .at) some
+      step a g W some = steps-good l a g (W .good) (W .done) (W .rest) (N .low) (W .split) (W .at) some
 
-  blocks-held : (l bin o : ℕ) → Numbered l o bin → (f : Freed) → HeldBy f → HeldBy (releaseBlocks p l f)
-  blocks-held l bin o N f H = blocks-held-with l bin o N (λ g. Unit {0}) (λ g G b i u. tt) f H tt .0
+  blocks-good : (l bin o : ℕ) → Numbered l o bin → (f : Freed) → GoodBy f → GoodBy (releaseBlocks p l f)
+  blocks-good l bin o N f H = blocks-good-with l bin o N (λ g. Unit {0}) (λ g G b i u. tt) f H tt .0
 
   -- ---- rows of releases and appends
 
-  pub to-held : (l o bin i : ℕ) → Numbered l i bin → Numbered o i bin → l ≢ o → (f : Freed) → HeldBy f → HeldBy (appendTo p l o f)
+  pub to-good : (l o bin i : ℕ) → Numbered l i bin → Numbered o i bin → l ≢ o → (f : Freed) → GoodBy f → GoodBy (appendTo p l o f)
   unfolding appendTo
-  to-held l o bin i P Q ne f H = append-placed (f .words) (f .states) P Q ne (λ low. refl) H
+  to-good l o bin i P Q ne f H = append-placed (f .words) (f .states) P Q ne (λ low. refl) H
 
   -- a holder's release, and the shared one
-  pub holder-held : (h : ℕ) → 1 ≤ h → h ≤ 8 → (w : Words) (st : List ℕ) → Held p ms w st → HeldBy (releaseHolder p h w st)
+  pub holder-good : (h : ℕ) → 1 ≤ h → h ≤ 8 → (w : Words) (st : List ℕ) → GoodTables p ms w st → GoodBy (releaseHolder p h w st)
   unfolding releaseHolder localSets
-  holder-held h lo hi w st H =
-      abandon-held 9 (h - 1) (omega arith) (omega arith) (omega arith) (omega arith) _ _
-      (bins-keep p (h - 1) (omega arith) HeldBy (λ l bin. blocks-held l bin (h - 1)) (λ l o bin. to-held l o bin (h - 1)) (freed w st) H)
+  holder-good h lo hi w st H =
+      abandon-good 9 (h - 1) (omega arith) (omega arith) (omega arith) (omega arith) _ _
+      (bins-keep p (h - 1) (omega arith) GoodBy (λ l bin. blocks-good l bin (h - 1)) (λ l o bin. to-good l o bin (h - 1)) (freed w st) H)
 
-  pub shared-held : (w : Words) (st : List ℕ) → Held p ms w st → HeldBy (sweepLater p w st)
+  pub shared-good : (w : Words) (st : List ℕ) → GoodTables p ms w st → GoodBy (sweepLater p w st)
   unfolding sweepLater
-  shared-held w st H = later-keeps p HeldBy (λ l bin. blocks-held l bin 8) (λ l o bin. to-held l o bin 8) (freed w st) H
+  shared-good w st H = later-keeps p GoodBy (λ l bin. blocks-good l bin 8) (λ l o bin. to-good l o bin 8) (freed w st) H

@@ -34,10 +34,10 @@ use Rattle.laws.proofs.Pigeon.{sum-same, sum-zero, sum-add, sum-one}
 use Rattle.laws.proofs.Walks.{releasedOne, blocks-keep-any, bins-keep-any, later-keeps-any}
 use Rattle.laws.proofs.Tests.{leave-passed, release-passed, plan-cases}
 use Rattle.soundness.proofs.SoundLists.{sound-good}
-use Rattle.soundness.proofs.Held.{Held}
+use Rattle.soundness.proofs.GoodTables.{GoodTables}
 use Rattle.soundness.proofs.Flags.{BoundAt, bound-at}
-use Rattle.soundness.proofs.Release.{abandon-held}
-use Rattle.soundness.proofs.Kept.{held-stays, part-held}
+use Rattle.soundness.proofs.Release.{abandon-good}
+use Rattle.soundness.proofs.Kept.{still-good, part-good}
 use Rattle.soundness.proofs.Over.{count, same-owner, Apart, Over, holder-apart, shared-apart, abandoned-count, part-over, destroyed-over, went-over, blocks-of}
 
 -- one release more is counted
@@ -144,9 +144,9 @@ fits-words p l e =
     (eqb (length (l .marks)) (heapBytes p / 64)) (eqb (length (l .heap)) (heapBytes p)) e .1))
 
 -- phase and released marks are no matter of lists
-releasing-held : (p : Params) (B : Bounds p) (part : ℕ) {ms st : List ℕ} {w : Words} → Held p ms w st → Held p ms (setReleased part 1 (setPhase 2 w)) st
+releasing-good : (p : Params) (B : Bounds p) (part : ℕ) {ms st : List ℕ} {w : Words} → GoodTables p ms w st → GoodTables p ms (setReleased part 1 (setPhase 2 w)) st
 unfolding setReleased setPhase lengths
-releasing-held p B part H = held-stays p B _ refl (sized-same (simp kept-lengths) (H .sized)) H
+releasing-good p B part H = still-good p B _ refl (sized-same (simp kept-lengths) (H .sized)) H
 
 module _ (p : Params) (l : Lent) where
   abbrev w : Words
@@ -172,8 +172,8 @@ module _ (p : Params) (l : Lent) where
     abbrev B : Bounds p
     B = good-bounds p (fits-parts p l f .0)
 
-    held : Held p (l .marks) w (l .states)
-    held = record { lists = λ n. blocksOn p n w; good = sound-good p B (tablesIn l) s; sized = fits-words p l f; states = fits-states p l f }
+    good : GoodTables p (l .marks) w (l .states)
+    good = record { lists = λ n. blocksOn p n w; good = sound-good p B (tablesIn l) s; sized = fits-words p l f; states = fits-states p l f }
 
     released-counts : (part : ℕ) (g : Freed) → Tally (p .blocks) (l .states) g → Apart p B (l .marks) w (l .states) g
         → Planned (λ m. madeUnallocated p l m ∷ wentOver p l m ∷ []) (releasePlan p part (tablesIn l) g)
@@ -181,18 +181,18 @@ module _ (p : Params) (l : Lent) where
     released-counts part g T A e =
         λ i. T .count i ∷ (over ∙ sym (went-over p l (lentOf (tablesOf (partReleased p part (g .words)) (g .states) (l .marks)) (eventsHeap p (g .events) (l .heap))) (partReleased p part (g .words)) (view-flat (p .blocks) _ (H .sized)))) i ∷ []
       where
-        H : Held p (l .marks) (partReleased p part (g .words)) (g .states)
-        H = part-held p B part (g .words) (g .states) (l .marks) (A .held)
+        H : GoodTables p (l .marks) (partReleased p part (g .words)) (g .states)
+        H = part-good p B part (g .words) (g .states) (l .marks) (A .good)
 
         over : merged p part (g .words) ≡ sumBelow (p .blocks) (Over p B (l .marks) w (l .states) (partReleased p part (g .words)) (g .states))
-        over = part-over p B (l .marks) w (l .states) g A part (releasing-held p B part (A .held))
+        over = part-over p B (l .marks) w (l .states) g A part (releasing-good p B part (A .good))
 
     destroyed-counts : (h : ℕ) → isBound w h ≡ true → Planned (λ m. blocksOf p l h ∷ []) (destroyed h) × Planned (λ m. wentOver p l m ∷ []) (destroyed h)
     unfolding destroyHolder finish localSets setBound eventsHeap
     destroyed-counts h o = (
       (λ e. ap (λ (x : ℕ). x ∷ []) (left ∙ sym (blocks-of p l h))),
       λ e. ap (λ (x : ℕ). x ∷ [])
-          (left ∙ destroyed-over p B (l .marks) w (l .states) held (h - 1) (omega (arith, P .low, P .high)) v (λ b. same-owner _ v b refl)
+          (left ∙ destroyed-over p B (l .marks) w (l .states) good (h - 1) (omega (arith, P .low, P .high)) v (λ b. same-owner _ v b refl)
           ∙ sym (went-over p l (lentOf (tablesOf v (l .states) (l .marks)) (l .heap)) v (view-flat (p .blocks) v (sized-same (lengths-setBound (h - 1) 0 u) (A .sized))))),
     )
       where
@@ -205,11 +205,11 @@ module _ (p : Params) (l : Lent) where
         v : Words
         v = setBound (h - 1) 0 u
 
-        A : Held p (l .marks) u (l .states)
-        A = abandon-held p B (l .marks) 8 (h - 1) (omega arith) (omega (arith, P .high)) (omega (arith, P .low, P .high)) (omega arith) (l .states) w held
+        A : GoodTables p (l .marks) u (l .states)
+        A = abandon-good p B (l .marks) 8 (h - 1) (omega arith) (omega (arith, P .high)) (omega (arith, P .low, P .high)) (omega arith) (l .states) w good
 
         left : abandonedBlocks p 24 (3 * (h - 1)) w ≡ count (p .blocks) (h - 1) w (l .states)
-        left = abandoned-count p B (l .marks) 8 (h - 1) (omega arith) (omega (arith, P .high)) (omega (arith, P .low, P .high)) (omega arith) (l .states) w held
+        left = abandoned-count p B (l .marks) 8 (h - 1) (omega arith) (omega (arith, P .high)) (omega (arith, P .low, P .high)) (omega arith) (l .states) w good
 
   module _ (v : Lent → List ℕ) where
     -- a call, by what its plan says if it passed its tests
@@ -240,10 +240,10 @@ released-counted p l = (
   (λ h. call-counts p l v (release h)
       (λ e s q. let P = bound-at (w p l) h (release-passed (w p l) h q .1) in
       released-counts p l e s h _ (holder-tally (p .blocks) (l .states) p (w p l) (fits-states p l e) h)
-      (holder-apart p (B p l e s) (l .marks) (w p l) (l .states) h (P .low) (P .high) (held p l e s)))),
+      (holder-apart p (B p l e s) (l .marks) (w p l) (l .states) h (P .low) (P .high) (good p l e s)))),
   call-counts p l v sharedRelease
       (λ e s q. released-counts p l e s 0 _ (shared-tally (p .blocks) (l .states) p (w p l) (fits-states p l e))
-      (shared-apart p (B p l e s) (l .marks) (w p l) (l .states) (held p l e s))),
+      (shared-apart p (B p l e s) (l .marks) (w p l) (l .states) (good p l e s))),
 )
   where
     v : Lent → List ℕ

@@ -21,7 +21,7 @@ use Rattle.model.specs.Block.{isCell, cellCount, cellsDown, linkAll, keeps, swe
 use Rattle.model.specs.Events.{Event, eventHeap, eventsHeap}
 use Rattle.model.specs.FreeListAllocator.{sweepOf}
 use Rattle.model.specs.Sound.{linkOk}
-use Rattle.model.specs.Refusals.{OnList, searches, HadNone, Unmoved, TakenOver, Passed}
+use Rattle.model.specs.Refusals.{OnList, searches, HadNone, Unmoved, TakenOver, PassedOver}
 use Rattle.laws.proofs.Base.{if-cases, not-both, or-left, or-right}
 use Rattle.laws.proofs.Params.{Bounds, blockAt-start, word-same}
 use Rattle.laws.proofs.Stores.{set-at, set-off}
@@ -32,9 +32,9 @@ use Rattle.laws.proofs.Tables.{Sized, lengths, sized-same, lengths-setFree, len
 use Rattle.laws.proofs.Frame.{LinksOnly, links-refl, push-links, pop-links, push-list, push-first, FirstsBut, pop-firsts}
 use Rattle.soundness.proofs.Lists.{Lists, On, Same, put, Links, on-list, lists-same, first-none, first-some}
 use Rattle.soundness.proofs.Moves.{push-stays, pop-words, pop-stays, pop-lists}
-use Rattle.soundness.proofs.Held.{Held}
+use Rattle.soundness.proofs.GoodTables.{GoodTables}
 use Rattle.soundness.proofs.SoundLists.{Fit}
-use Rattle.soundness.proofs.Alloc.{Tweaked, tweak-free, tweak-tls, my-available, my-unswept, my-consumed, Searched, steps}
+use Rattle.soundness.proofs.Alloc.{Tweaked, tweak-free, tweak-tls, my-available, my-unswept, my-consumed, SearchedSoFar, steps}
 
 -- ---- one block moved
 
@@ -282,21 +282,21 @@ module _ (p : Params) (B : Bounds p) (st ms : List ℕ) (h bin : ℕ) (lo : 1 �
     (heap : List ℕ) (len : length heap ≡ heapBytes p) where
   -- tables are good still
   abbrev Good : Words → Type 0
-  Good = Searched p B st ms h bin lo hi low w₀
+  Good = SearchedSoFar p B st ms h bin lo hi low w₀
 
   -- nothing is found yet
   pub record Going (es : List Event) (w : Words) : Type 0 where
     pub good : Good w
     pub quiet : Quiet h bin w₀ w
     pub idle : eventsHeap p es heap ≡ heap
-    pub blocks : (b : ℕ) → Passed p ms h bin w₀ w b
+    pub blocks : (b : ℕ) → PassedOver p ms h bin w₀ w b
 
   -- the block x is found, by no sweep
   pub record Stood (es : List Event) (x : ℕ) (w : Words) : Type 0 where
     pub quiet : Quiet h bin w₀ w
     pub idle : eventsHeap p es heap ≡ heap
     pub here : Unmoved w₀ w x ⊎ TakenOver h bin w₀ w x
-    pub others : (b : ℕ) → b ≢ x → Passed p ms h bin w₀ w b
+    pub others : (b : ℕ) → b ≢ x → PassedOver p ms h bin w₀ w b
 
   -- or by one, and then the link of its first cell is good
   pub record Stopped (es : List Event) (a : ℕ) (w : Words) : Type 0 where
@@ -304,7 +304,7 @@ module _ (p : Params) (B : Bounds p) (st ms : List ℕ) (h bin : ℕ) (lo : 1 �
     pub end : Stood es (blockAt p a) w
         ⊎ (linkOk p w (blockAt p a) (load p (eventsHeap p es heap) (getD (w .free) (blockAt p a) 0)) ≡ true)
 
-  pass-on : (b : ℕ) (w u : Words) → Passed p ms h bin w₀ w b → Unmoved w u b → Passed p ms h bin w₀ u b
+  pass-on : (b : ℕ) (w u : Words) → PassedOver p ms h bin w₀ w b → Unmoved w u b → PassedOver p ms h bin w₀ u b
   pass-on b w u (inl U) K = inl (record { list = K .list ∙ U .list; free = K .free ∙ U .free; tls = K .tls ∙ U .tls })
   pass-on b w u (inr M) K = inr (record { was = M .was; list = K .list ∙ M .list; free = K .free ∙ M .free; tls = K .tls ∙ M .tls })
 
@@ -316,8 +316,8 @@ module _ (p : Params) (B : Bounds p) (st ms : List ℕ) (h bin : ℕ) (lo : 1 �
 
   -- its head
   module _ (es : List Event) (w : Words) (G : Going es w) (l : ℕ) (R : Tried l) (some : getD (w .first) l 0 ≢ 0) where
-    abbrev Hw : Held p ms w st
-    Hw = G .good .held
+    abbrev Hw : GoodTables p ms w st
+    Hw = G .good .good
 
     abbrev y : ℕ
     y = blockAt p (getD (w .first) l 0)
@@ -366,7 +366,7 @@ module _ (p : Params) (B : Bounds p) (st ms : List ℕ) (h bin : ℕ) (lo : 1 �
         M : Move l c y w (push p c y v)
         M = moves c (my-consumed p B st ms h bin lo hi low w₀ .low) v T e
 
-        at : (b : ℕ) → Dec (b ≡ y) → Passed p ms h bin w₀ (push p c y v) b
+        at : (b : ℕ) → Dec (b ≡ y) → PassedOver p ms h bin w₀ (push p c y v) b
         at b (yes q) =
             rw q (inr (record {
               was = n;
@@ -504,7 +504,7 @@ module _ (p : Params) (B : Bounds p) (st ms : List ℕ) (h bin : ℕ) (lo : 1 �
             let x = blockAt p (getD (w .first) l 0) in
             let R = fourth-tried in
             files-swept es w G l R some (setTls x h u) (tweak-tls x h u) (lengths-setTls x h u) (P .size)
-            (set-at (u .tls) x h (omega (arith, sized-same (P .lengths) (G .good .held .sized) .tls, head es w G l R some .on .low)))
+            (set-at (u .tls) x h (omega (arith, sized-same (P .lengths) (G .good .good .sized) .tls, head es w G l R some .on .low)))
             (inr (was es w G l R some)) (S .swept es w (G .good) none some);
       }
     where
@@ -563,4 +563,4 @@ module _ (p : Params) (B : Bounds p) (st ms : List ℕ) (h bin : ℕ) (lo : 1 �
           from = was es w G l R some
 
           mine : getD (v .tls) x 0 ≡ h
-          mine = set-at (u .tls) x h (omega (arith, sized-same (P .lengths) (G .good .held .sized) .tls, head es w G l R some .on .low))
+          mine = set-at (u .tls) x h (omega (arith, sized-same (P .lengths) (G .good .good .sized) .tls, head es w G l R some .on .low))

@@ -23,7 +23,7 @@ use Rattle.laws.proofs.Stores.{set-all}
 use Rattle.laws.proofs.Tables.{part-zeros, by-lt}
 use Rattle.soundness.proofs.Lists.{Seg, AllOn, Links, linksOf, on-list, lists-same}
 use Rattle.soundness.proofs.SoundLists.{Fit, Good}
-use Rattle.soundness.proofs.Held.{SameWords, clear-same}
+use Rattle.soundness.proofs.GoodTables.{SameWords, clear-same}
 use Rattle.soundness.proofs.Flags.{Flags, Empty, facts-flags}
 
 -- the tables of lists and blocks

@@ -1,13 +1,8 @@
 // Numbers of a trace: decimal, below 2^64, with no needless zero.
 use crate::Number;
+use words::bytes;
 ghost use mathlib.Core.Path.{_≡_};
 ghost use Rattle.trace.specs.Number.{pushDigit, readFrom, numberOf};
-
-fn wide(x: u8) -> usize
-    ensures { λ r. ⌜ r ≡ x ⌝ }
-{
-    x as usize
-}
 
 // v with the digit c behind it. The tests come before the product and the sum, so that neither wraps.
 fn push_digit(v: usize, c: u8) -> Number
@@ -22,7 +17,7 @@ fn push_digit(v: usize, c: u8) -> Number
     if 1844674407370955161 < v {
         return Number::None;
     }
-    let d = wide(c) - 48;
+    let d = bytes::wide(c) - 48;
     let t = 10 * v;
     if 18446744073709551615 - t < d {
         return Number::None;

@@ -4,7 +4,7 @@ ghost use Prim.Native.Nat.{_+_, _≤_};
 ghost use lib.ListN.{length, replicate};
 ghost use Rattle.model.specs.Memory.{loadBytes, bytesOf, overwrite};
 
-fn wide(x: u8) -> usize
+pub fn wide(x: u8) -> usize
     ensures { λ r. ⌜ r ≡ x ⌝ }
 {
     x as usize
@@ -15,13 +15,13 @@ fn read(h: &[u8], i: usize, n: usize) -> usize
     requires { ⌜ (i + n ≤ length (now h)) × (n ≤ 8) ⌝ }
     ensures { λ r. ⌜ r ≡ loadBytes n (now (h .entry)) i ⌝ }
 {
-    let mut k = n;
-    let mut v: usize = 0;
-    while 0 < k {
-        k = k - 1;
-        v = v * 256 + wide(h[i + k]);
+    let mut more = n;
+    let mut value: usize = 0;
+    while 0 < more {
+        more = more - 1;
+        value = value * 256 + wide(h[i + more]);
     }
-    v
+    value
 }
 
 // The n low bytes of v, from i on.
@@ -29,14 +29,14 @@ fn write(h: &mut [u8], i: usize, v: usize, n: usize)
     requires { ⌜ i + n ≤ length (now h) ⌝ }
     ensures { λ _. ⌜ now (h .exit) ≡ overwrite i (bytesOf n v) (now (h .entry)) ⌝ }
 {
-    let mut k = n;
-    let mut o = i;
-    let mut x = v;
-    while 0 < k {
-        h[o] = (x % 256) as u8;
-        x = x / 256;
-        o = o + 1;
-        k = k - 1;
+    let mut more = n;
+    let mut at = i;
+    let mut rest = v;
+    while 0 < more {
+        h[at] = (rest % 256) as u8;
+        rest = rest / 256;
+        at = at + 1;
+        more = more - 1;
     }
 }
 
@@ -44,12 +44,12 @@ fn fill(h: &mut [u8], i: usize, n: usize)
     requires { ⌜ i + n ≤ length (now h) ⌝ }
     ensures { λ _. ⌜ now (h .exit) ≡ overwrite i (replicate n 0) (now (h .entry)) ⌝ }
 {
-    let mut k = n;
-    let mut o = i;
-    while 0 < k {
-        h[o] = 0;
-        o = o + 1;
-        k = k - 1;
+    let mut more = n;
+    let mut at = i;
+    while 0 < more {
+        h[at] = 0;
+        at = at + 1;
+        more = more - 1;
     }
 }
 

@@ -37,6 +37,6 @@ pub fn clear_bit(m: &mut [u8], g: usize)
 pub fn clear_all(m: &mut [u8])
     ensures { λ _. ⌜ now (m .exit) ≡ cleared (now (m .entry)) ⌝ }
 {
-    let n = m.len();
-    bytes::zero(m, 0, n);
+    let bytes_in = m.len();
+    bytes::zero(m, 0, bytes_in);
 }

@@ -11,7 +11,7 @@ use model::Params;
 ghost use mathlib.Core.Path.{_≡_};
 ghost use Prim.Native.Nat.{_+_, _*_, _<_};
 ghost use lib.ListN.{length};
-ghost use Rattle.model.specs.Params.{headWords};
+ghost use Rattle.model.specs.Params.{headWords, blockTables};
 ghost use Rattle.model.specs.Tables.{view};
 ghost use Rattle.model.specs.SizeClasses.{classWords};
 ghost use Rattle.model.specs.Sound.{blockClear, listNamed, sizeOk, tlsOk};
@@ -19,7 +19,7 @@ ghost use Rattle.native_ms.specs.SoundWalk.{inUse, namesList, blockFits,
 ghost use Rattle.native_ms.specs.SoundLent.{Lengths};
 
 fn block_clear(words: &[usize], blocks: usize, b: Block) -> bool
-    requires { ⌜ (length (now words) ≡ headWords + 6 * blocks) × (b .0 < blocks) ⌝ }
+    requires { ⌜ (length (now words) ≡ headWords + blockTables * blocks) × (b .0 < blocks) ⌝ }
     ensures { λ r. ⌜ r ≡ blockClear (view (now (words .entry))) (b .0) ⌝ }
 {
     let next = known::next(words, blocks, b);
@@ -41,7 +41,7 @@ fn in_use(state: u8) -> bool
 }
 
 fn names_list(words: &[usize], blocks: usize, b: Block) -> bool
-    requires { ⌜ (length (now words) ≡ headWords + 6 * blocks) × (b .0 < blocks) ⌝ }
+    requires { ⌜ (length (now words) ≡ headWords + blockTables * blocks) × (b .0 < blocks) ⌝ }
     ensures { λ r. ⌜ r ≡ namesList (view (now (words .entry))) (b .0) ⌝ }
 {
     let word = known::list(words, blocks, b);
@@ -53,7 +53,7 @@ fn names_list(words: &[usize], blocks: usize, b: Block) -> bool
 
 // The list that the block names; 0 if it names none.
 fn list_named(words: &[usize], blocks: usize, b: Block) -> usize
-    requires { ⌜ (length (now words) ≡ headWords + 6 * blocks) × (b .0 < blocks) ⌝ }
+    requires { ⌜ (length (now words) ≡ headWords + blockTables * blocks) × (b .0 < blocks) ⌝ }
     ensures { λ r. ⌜ r ≡ listNamed (view (now (words .entry))) (b .0) ⌝ }
 {
     let word = known::list(words, blocks, b);
@@ -65,7 +65,7 @@ fn list_named(words: &[usize], blocks: usize, b: Block) -> usize
 
 // The class sizes are lent: a constant array would be built anew for each block.
 fn size_ok(p: Params, words: &[usize], b: Block, classes: &[usize; BINS]) -> bool
-    requires { ⌜ (length (now words) ≡ headWords + 6 * p .blocks) × (b .0 < p .blocks) × (now classes ≡ classWords) ⌝ }
+    requires { ⌜ (length (now words) ≡ headWords + blockTables * p .blocks) × (b .0 < p .blocks) × (now classes ≡ classWords) ⌝ }
     ensures { λ r. ⌜ r ≡ sizeOk p (view (now (words .entry))) (b .0) ⌝ }
 {
     let blocks = p.blocks;
@@ -79,7 +79,7 @@ fn size_ok(p: Params, words: &[usize], b: Block, classes: &[usize; BINS]) -> boo
 }
 
 fn tls_ok(words: &[usize], blocks: usize, b: Block) -> bool
-    requires { ⌜ (length (now words) ≡ headWords + 6 * blocks) × (b .0 < blocks) ⌝ }
+    requires { ⌜ (length (now words) ≡ headWords + blockTables * blocks) × (b .0 < blocks) ⌝ }
     ensures { λ r. ⌜ r ≡ tlsOk (view (now (words .entry))) (b .0) ⌝ }
 {
     let holder = known::tls(words, blocks, b);

@@ -11,55 +11,55 @@ ghost use Prim.Native.Nat.{_+_, _*_, _<_, _≤_};
 ghost use lib.Dec.{eqb};
 ghost use lib.ListN.{length, getD};
 ghost use Rattle.model.specs.Base.{allBelow};
-ghost use Rattle.model.specs.Params.{lists, headWords};
+ghost use Rattle.model.specs.Params.{lists, headWords, blockTables};
 ghost use Rattle.model.specs.Tables.{view, blocksIn, blockTable};
 ghost use Rattle.native_ms.specs.SoundLent.{zeroAt, Firsts};
 
 // A block's word in one of the six block tables.
 fn block_word(words: &[usize], blocks: usize, table: usize, b: Block) -> usize
-    requires { ⌜ (length (now words) ≡ headWords + 6 * blocks) × (b .0 < blocks) × (table < 6) ⌝ }
+    requires { ⌜ (length (now words) ≡ headWords + blockTables * blocks) × (b .0 < blocks) × (table < blockTables) ⌝ }
     ensures { λ r. ⌜ r ≡ getD (blockTable (blocksIn (now (words .entry))) table (now (words .entry))) (b .0) 0 ⌝ }
 {
     words[HEAD_WORDS + table * blocks + b.0]
 }
 
 pub(crate) fn next(words: &[usize], blocks: usize, b: Block) -> Address
-    requires { ⌜ (length (now words) ≡ headWords + 6 * blocks) × (b .0 < blocks) ⌝ }
+    requires { ⌜ (length (now words) ≡ headWords + blockTables * blocks) × (b .0 < blocks) ⌝ }
     ensures { λ r. ⌜ r .0 ≡ getD (view (now (words .entry)) .next) (b .0) 0 ⌝ }
 {
     Address(block_word(words, blocks, 0, b))
 }
 
 pub(crate) fn prev(words: &[usize], blocks: usize, b: Block) -> Address
-    requires { ⌜ (length (now words) ≡ headWords + 6 * blocks) × (b .0 < blocks) ⌝ }
+    requires { ⌜ (length (now words) ≡ headWords + blockTables * blocks) × (b .0 < blocks) ⌝ }
     ensures { λ r. ⌜ r .0 ≡ getD (view (now (words .entry)) .prev) (b .0) 0 ⌝ }
 {
     Address(block_word(words, blocks, 1, b))
 }
 
 pub(crate) fn free(words: &[usize], blocks: usize, b: Block) -> Address
-    requires { ⌜ (length (now words) ≡ headWords + 6 * blocks) × (b .0 < blocks) ⌝ }
+    requires { ⌜ (length (now words) ≡ headWords + blockTables * blocks) × (b .0 < blocks) ⌝ }
     ensures { λ r. ⌜ r .0 ≡ getD (view (now (words .entry)) .free) (b .0) 0 ⌝ }
 {
     Address(block_word(words, blocks, 2, b))
 }
 
 pub(crate) fn size(words: &[usize], blocks: usize, b: Block) -> usize
-    requires { ⌜ (length (now words) ≡ headWords + 6 * blocks) × (b .0 < blocks) ⌝ }
+    requires { ⌜ (length (now words) ≡ headWords + blockTables * blocks) × (b .0 < blocks) ⌝ }
     ensures { λ r. ⌜ r ≡ getD (view (now (words .entry)) .size) (b .0) 0 ⌝ }
 {
     block_word(words, blocks, 3, b)
 }
 
 pub(crate) fn list(words: &[usize], blocks: usize, b: Block) -> usize
-    requires { ⌜ (length (now words) ≡ headWords + 6 * blocks) × (b .0 < blocks) ⌝ }
+    requires { ⌜ (length (now words) ≡ headWords + blockTables * blocks) × (b .0 < blocks) ⌝ }
     ensures { λ r. ⌜ r ≡ getD (view (now (words .entry)) .list) (b .0) 0 ⌝ }
 {
     block_word(words, blocks, 4, b)
 }
 
 pub(crate) fn tls(words: &[usize], blocks: usize, b: Block) -> usize
-    requires { ⌜ (length (now words) ≡ headWords + 6 * blocks) × (b .0 < blocks) ⌝ }
+    requires { ⌜ (length (now words) ≡ headWords + blockTables * blocks) × (b .0 < blocks) ⌝ }
     ensures { λ r. ⌜ r ≡ getD (view (now (words .entry)) .tls) (b .0) 0 ⌝ }
 {
     block_word(words, blocks, 5, b)

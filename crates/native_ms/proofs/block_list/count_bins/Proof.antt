@@ -13,10 +13,10 @@ use Rattle.native_ms.proofs.block_list.count_bins.Statement.{statement}
 use Rattle.native_ms.proofs.block_list.count_bins.Tie as tie
 
 abbrev Inv-loop : tie.InvT-loop
-Inv-loop p w firsts k₀ n₀ k n = (k ≤ 48) × (n + k * 1024 ≤ 49152) × (countedBins k p (view w .next) firsts n ≡ countedBins 48 p (view w .next) firsts 0)
+Inv-loop p w firsts bin₀ met₀ bin met = (bin ≤ 48) × (met + bin * 1024 ≤ 49152) × (countedBins bin p (view w .next) firsts met ≡ countedBins 48 p (view w .next) firsts 0)
 
 abbrev μ-loop : tie.MeasureT-loop
-μ-loop p w firsts k₀ n₀ k n = k
+μ-loop p w firsts bin₀ met₀ bin met = bin
 
 loop-holds : tie.Need-loop-holds Inv-loop μ-loop
 loop-holds c = (omega arith, omega arith, refl)
@@ -40,15 +40,15 @@ enum-told c = search needs
 returns : tie.Need-returns Inv-loop μ-loop
 returns c = bins-bad _ _ _ _ _ (c .before .before .before .before .loop-test .taken) (c .before .before .count-blocks .ensures) (c .enum-told .given .1) ∙ c .before .before .before .before .before .loop .inv .2
 
-enum-known-m : tie.Need-enum-known-m Inv-loop μ-loop
-enum-known-m c = search needs
+enum-known-passed : tie.Need-enum-known-passed Inv-loop μ-loop
+enum-known-passed c = search needs
 
---@ add-n c = omega (arith, @loop .inv .1, counted-few _ _ _ _ (@count-blocks .ensures) (@m .given .1), good-bounds (@args .p) (@pre .0) .blocks-high)
-add-n : tie.Need-add-n Inv-loop μ-loop
-add-n c = omega (arith, c .before .before .before .before .before .before .loop .inv .1, counted-few _ _ _ _ (c .before .before .before .count-blocks .ensures) (c .before .m .given .1), good-bounds (c .before .before .before .before .before .before .before .before .before .args .p) (c .before .before .before .before .before .before .before .before .before .pre .0) .blocks-high)
+--@ add-met c = omega (arith, @loop .inv .1, counted-few _ _ _ _ (@count-blocks .ensures) (@m .given .1), good-bounds (@args .p) (@pre .0) .blocks-high)
+add-met : tie.Need-add-met Inv-loop μ-loop
+add-met c = omega (arith, c .before .before .before .before .before .before .loop .inv .1, counted-few _ _ _ _ (c .before .before .before .count-blocks .ensures) (c .before .passed .given .1), good-bounds (c .before .before .before .before .before .before .before .before .before .args .p) (c .before .before .before .before .before .before .before .before .before .pre .0) .blocks-high)
 
-sub-k : tie.Need-sub-k Inv-loop μ-loop
-sub-k c = search needs
+sub-bin : tie.Need-sub-bin Inv-loop μ-loop
+sub-bin c = search needs
 
 --@ loop-less c = falls-down _ (@loop-test .taken)
 loop-less : tie.Need-loop-less Inv-loop μ-loop
@@ -56,7 +56,7 @@ loop-less c = falls-down _ (c .before .before .before .before .before .loop-test
 
 --@ loop-again c = (omega (arith, @loop .inv .0), omega (arith, @loop .inv .1, @loop-test .taken, counted-few _ _ _ _ (@count-blocks .ensures) (@m .given .1), good-bounds (@args .p) (@pre .0) .blocks-high), bins-step _ _ _ _ _ (@loop-test .taken) (@count-blocks .ensures) (@m .given .1) ∙ @loop .inv .2)
 loop-again : tie.Need-loop-again Inv-loop μ-loop
-loop-again c = (omega (arith, c .before .before .before .before .before .before .loop .inv .0), omega (arith, c .before .before .before .before .before .before .loop .inv .1, c .before .before .before .before .before .loop-test .taken, counted-few _ _ _ _ (c .before .before .before .count-blocks .ensures) (c .before .m .given .1), good-bounds (c .before .before .before .before .before .before .before .before .before .args .p) (c .before .before .before .before .before .before .before .before .before .pre .0) .blocks-high), bins-step _ _ _ _ _ (c .before .before .before .before .before .loop-test .taken) (c .before .before .before .count-blocks .ensures) (c .before .m .given .1) ∙ c .before .before .before .before .before .before .loop .inv .2)
+loop-again c = (omega (arith, c .before .before .before .before .before .before .loop .inv .0), omega (arith, c .before .before .before .before .before .before .loop .inv .1, c .before .before .before .before .before .loop-test .taken, counted-few _ _ _ _ (c .before .before .before .count-blocks .ensures) (c .before .passed .given .1), good-bounds (c .before .before .before .before .before .before .before .before .before .args .p) (c .before .before .before .before .before .before .before .before .before .pre .0) .blocks-high), bins-step _ _ _ _ _ (c .before .before .before .before .before .loop-test .taken) (c .before .before .before .count-blocks .ensures) (c .before .passed .given .1) ∙ c .before .before .before .before .before .before .loop .inv .2)
 
 --@ returns-2 c = bins-end _ _ _ _ _ (@loop-test .left) ∙ @loop .inv .2
 returns-2 : tie.Need-returns-2 Inv-loop μ-loop
@@ -74,9 +74,9 @@ count-bins-spec =
     count-blocks-requires
     enum-told
     returns
-    enum-known-m
-    add-n
-    sub-k
+    enum-known-passed
+    add-met
+    sub-bin
     loop-less
     loop-again
     returns-2)

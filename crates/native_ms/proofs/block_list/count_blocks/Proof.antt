@@ -15,10 +15,10 @@ use Rattle.native_ms.proofs.block_list.count_blocks.Statement.{statemen
 use Rattle.native_ms.proofs.block_list.count_blocks.Tie as tie
 
 abbrev Inv-loop : tie.InvT-loop
-Inv-loop p w k₀ n₀ a₀ k n a = (n + k ≡ k₀) × (countedFrom k p (view w .next) n a ≡ countedFrom k₀ p (view w .next) n₀ a₀)
+Inv-loop p w more₀ passed₀ link₀ more passed link = (passed + more ≡ more₀) × (countedFrom more p (view w .next) passed link ≡ countedFrom more₀ p (view w .next) passed₀ link₀)
 
 abbrev μ-loop : tie.MeasureT-loop
-μ-loop p w k₀ n₀ a₀ k n a = k
+μ-loop p w more₀ passed₀ link₀ more passed link = more
 
 loop-holds : tie.Need-loop-holds Inv-loop μ-loop
 loop-holds c = (zero-add _, refl)
@@ -42,12 +42,12 @@ block-at-requires c κs = (c .before .before .before .before .before .before .pr
 next-requires : tie.Need-next-requires Inv-loop μ-loop
 next-requires c κs = tt
 
---@ add-n c = omega (arith, good-bounds (@args .p) (@pre) .blocks-high, @loop .inv .0)
-add-n : tie.Need-add-n Inv-loop μ-loop
-add-n c = omega (arith, good-bounds (c .before .before .before .before .before .before .before .before .args .p) ((c .before .before .before .before .before .before .before .before .pre)) .blocks-high, c .before .before .before .before .before .before .loop .inv .0)
+--@ add-passed c = omega (arith, good-bounds (@args .p) (@pre) .blocks-high, @loop .inv .0)
+add-passed : tie.Need-add-passed Inv-loop μ-loop
+add-passed c = omega (arith, good-bounds (c .before .before .before .before .before .before .before .before .args .p) ((c .before .before .before .before .before .before .before .before .pre)) .blocks-high, c .before .before .before .before .before .before .loop .inv .0)
 
-sub-k : tie.Need-sub-k Inv-loop μ-loop
-sub-k c = search needs
+sub-more : tie.Need-sub-more Inv-loop μ-loop
+sub-more c = search needs
 
 --@ loop-less c = falls-down _ (@loop-test .taken)
 loop-less : tie.Need-loop-less Inv-loop μ-loop
@@ -77,8 +77,8 @@ count-blocks-spec =
     returns-2
     block-at-requires
     next-requires
-    add-n
-    sub-k
+    add-passed
+    sub-more
     loop-less
     loop-again
     returns-3

@@ -16,10 +16,10 @@ use Rattle.native_ms.proofs.block_list.count_from.Statement.{statement}
 use Rattle.native_ms.proofs.block_list.count_from.Tie as tie
 
 abbrev Inv-loop : tie.InvT-loop
-Inv-loop p w k₀ n₀ a₀ k n a = (n + k ≡ k₀) × (n + length (walk k p (view w .next) a) ≡ length (walk k₀ p (view w .next) a₀))
+Inv-loop p w more₀ n₀ link₀ more n link = (n + more ≡ more₀) × (n + length (walk more p (view w .next) link) ≡ length (walk more₀ p (view w .next) link₀))
 
 abbrev μ-loop : tie.MeasureT-loop
-μ-loop p w k₀ n₀ a₀ k n a = k
+μ-loop p w more₀ n₀ link₀ more n link = more
 
 loop-holds : tie.Need-loop-holds Inv-loop μ-loop
 loop-holds c = (zero-add _, zero-add _)
@@ -39,8 +39,8 @@ next-requires c κs = tt
 add-met : tie.Need-add-met Inv-loop μ-loop
 add-met c = omega (arith, good-bounds (c .before .before .before .before .before .before .args .p) ((c .before .before .before .before .before .before .pre)) .blocks-high, c .before .before .before .before .loop .inv .0)
 
-sub-k : tie.Need-sub-k Inv-loop μ-loop
-sub-k c = search needs
+sub-more : tie.Need-sub-more Inv-loop μ-loop
+sub-more c = search needs
 
 --@ loop-less c = falls-down _ (@loop-test .taken)
 loop-less : tie.Need-loop-less Inv-loop μ-loop
@@ -65,7 +65,7 @@ count-from-spec =
     block-at-requires
     next-requires
     add-met
-    sub-k
+    sub-more
     loop-less
     loop-again
     returns-2)

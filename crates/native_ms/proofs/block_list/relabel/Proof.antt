@@ -12,10 +12,10 @@ use Rattle.native_ms.proofs.block_list.relabel.Statement.{statement}
 use Rattle.native_ms.proofs.block_list.relabel.Tie as tie
 
 abbrev Inv-loop : tie.InvT-loop
-Inv-loop p w₀ l m k₀ a₀ w k a = (length w ≡ length w₀) × (relabel k p l a (view w) ≡ relabel k₀ p l a₀ (view w₀))
+Inv-loop p w₀ list word more₀ link₀ w more link = (length w ≡ length w₀) × (relabel more p list link (view w) ≡ relabel more₀ p list link₀ (view w₀))
 
 abbrev μ-loop : tie.MeasureT-loop
-μ-loop p w₀ l m k₀ a₀ w k a = k
+μ-loop p w₀ list word more₀ link₀ w more link = more
 
 --@ list-word-requires c κs = @pre .1
 list-word-requires : tie.Need-list-word-requires Inv-loop μ-loop
@@ -42,8 +42,8 @@ next-requires c κs = tt
 set-list-requires : tie.Need-set-list-requires Inv-loop μ-loop
 set-list-requires c κs = tt
 
-sub-k : tie.Need-sub-k Inv-loop μ-loop
-sub-k c = search needs
+sub-more : tie.Need-sub-more Inv-loop μ-loop
+sub-more c = search needs
 
 --@ loop-less c = falls-down _ (@loop-test .taken)
 loop-less : tie.Need-loop-less Inv-loop μ-loop
@@ -74,7 +74,7 @@ relabel-spec =
     block-at-requires
     next-requires
     set-list-requires
-    sub-k
+    sub-more
     loop-less
     loop-again
     same-length-2

@@ -10,13 +10,13 @@ use Rattle.native_ms.proofs.free_chain.cell.Tie as tie
 start-requires : tie.Need-start-requires
 start-requires c κs = and-left _ _ (c .pre)
 
---@ mul-up c = let a = @args in omega (arith, cell-fits (a .p) (a .b .0) (a .size) (a .k) (@pre) .0)
+--@ mul-up c = let a = @args in omega (arith, cell-fits (a .p) (a .b .0) (a .size) (a .i) (@pre) .0)
 mul-up : tie.Need-mul-up
-mul-up c = let a = (c .before .args) in omega (arith, cell-fits (a .p) (a .b .0) (a .size) (a .k) ((c .before .pre)) .0)
+mul-up c = let a = (c .before .args) in omega (arith, cell-fits (a .p) (a .b .0) (a .size) (a .i) ((c .before .pre)) .0)
 
---@ add-at c = let a = @args in omega (arith, cell-fits (a .p) (a .b .0) (a .size) (a .k) (@pre) .0, @start .ensures)
+--@ add-at c = let a = @args in omega (arith, cell-fits (a .p) (a .b .0) (a .size) (a .i) (@pre) .0, @start .ensures)
 add-at : tie.Need-add-at
-add-at c = let a = (c .before .before .args) in omega (arith, cell-fits (a .p) (a .b .0) (a .size) (a .k) ((c .before .before .pre)) .0, c .before .start .ensures)
+add-at c = let a = (c .before .before .args) in omega (arith, cell-fits (a .p) (a .b .0) (a .size) (a .i) ((c .before .before .pre)) .0, c .before .start .ensures)
 
 --@ returns c = rw (@start .ensures)
 returns : tie.Need-returns

@@ -24,9 +24,9 @@ cell-requires c κs = sym (c .before .has-cell .ensures) ∙ not-false _ (c .if1
 is-simple-requires : tie.Need-is-simple-requires
 is-simple-requires c κs = search needs
 
---@ cell-is-marked-requires c κs = let a = @args in let here = sym (@has-cell .ensures) ∙ not-false _ (@if1 .left) in let f = cell-fits (a .p) (a .b .0) (a .size) (a .k) here in (and-left _ _ here, omega (arith, f .0, @cell .ensures), f .1)
+--@ cell-is-marked-requires c κs = let a = @args in let here = sym (@has-cell .ensures) ∙ not-false _ (@if1 .left) in let f = cell-fits (a .p) (a .b .0) (a .size) (a .i) here in (and-left _ _ here, omega (arith, f .0, @cell .ensures), f .1)
 cell-is-marked-requires : tie.Need-cell-is-marked-requires
-cell-is-marked-requires c κs = let a = (c .before .before .before .before .before .args) in let here = sym (c .before .before .before .has-cell .ensures) ∙ not-false _ (c .before .before .if1 .left) in let f = cell-fits (a .p) (a .b .0) (a .size) (a .k) here in (and-left _ _ here, omega (arith, f .0, c .before .cell .ensures), f .1)
+cell-is-marked-requires c κs = let a = (c .before .before .before .before .before .args) in let here = sym (c .before .before .before .has-cell .ensures) ∙ not-false _ (c .before .before .if1 .left) in let f = cell-fits (a .p) (a .b .0) (a .size) (a .i) here in (and-left _ _ here, omega (arith, f .0, c .before .cell .ensures), f .1)
 
 --@ returns-2 c = frees-kept _ _ _ _ _ (sym (@has-cell .ensures) ∙ not-false _ (@if1 .left)) (@is-simple .ensures) (@cell .ensures) (@cell-is-marked .ensures)
 returns-2 : tie.Need-returns-2

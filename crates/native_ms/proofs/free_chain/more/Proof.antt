@@ -24,10 +24,10 @@ returns-2 c = rw (sym (c .before .before .before .good-params .ensures) ∙ not-
 is-cell-requires : tie.Need-is-cell-requires
 is-cell-requires c κs = sym (c .before .before .before .good-params .ensures) ∙ not-false _ (c .before .before .if1 .left)
 
---@ returns-3 c = @is-cell .ensures ∙ rw (sym (@good-params .ensures) ∙ not-false _ (@if1 .left), lt-ltb 0 (@args .w .left) (omega (arith, @if2 .left)))
+--@ returns-3 c = @is-cell .ensures ∙ rw (sym (@good-params .ensures) ∙ not-false _ (@if1 .left), lt-ltb 0 (@args .walk .left) (omega (arith, @if2 .left)))
 returns-3 : tie.Need-returns-3
 unfolding moreCells
-returns-3 c = c .is-cell .ensures ∙ rw (sym (c .before .before .before .before .good-params .ensures) ∙ not-false _ (c .before .before .before .if1 .left), lt-ltb 0 (c .before .before .before .before .before .args .w .left) (omega (arith, c .before .if2 .left)))
+returns-3 c = c .is-cell .ensures ∙ rw (sym (c .before .before .before .before .good-params .ensures) ∙ not-false _ (c .before .before .before .if1 .left), lt-ltb 0 (c .before .before .before .before .before .args .walk .left) (omega (arith, c .before .if2 .left)))
 
 pub more-spec : {M : Type 1} → statement M
 more-spec = tie.close (tie.spec good-params-requires returns returns-2 is-cell-requires returns-3)

@@ -11,10 +11,10 @@ use Rattle.native_ms.proofs.global.abandon_blocks.Statement.{statement}
 use Rattle.native_ms.proofs.global.abandon_blocks.Tie as tie
 
 abbrev Inv-loop : tie.InvT-loop
-Inv-loop p w₀ to from bin₀ n₀ w bin n = (length w ≡ length w₀) × (bin ≤ 49) × (n ≤ 3072 * bin) × (moved n (view w) ≡ binsMove bin p to from (view w₀))
+Inv-loop p w₀ to from bin₀ count₀ w bin count = (length w ≡ length w₀) × (bin ≤ 49) × (count ≤ 3072 * bin) × (moved count (view w) ≡ binsMove bin p to from (view w₀))
 
 abbrev μ-loop : tie.MeasureT-loop
-μ-loop p w₀ to from bin₀ n₀ w bin n = 49 - bin
+μ-loop p w₀ to from bin₀ count₀ w bin count = 49 - bin
 
 loop-holds : tie.Need-loop-holds Inv-loop μ-loop
 loop-holds c = (refl, omega arith, omega arith, over-none _ _ _ _)
@@ -23,9 +23,9 @@ loop-holds c = (refl, omega arith, omega arith, over-none _ _ _ _)
 abandon-bin-requires : tie.Need-abandon-bin-requires Inv-loop μ-loop
 abandon-bin-requires c κs = (c .before .before .before .before .pre .0, c .before .before .before .before .pre .1, c .before .before .before .before .pre .2, c .before .loop-test .taken)
 
---@ add-n c = omega (arith, @loop .inv .2, @loop-test .taken, over-few _ _ _ _ _ (good-bounds (@args .p) (@pre .0) .blocks-high) (@abandon-bin .ensures))
-add-n : tie.Need-add-n Inv-loop μ-loop
-add-n c = omega (arith, c .before .before .before .before .before .loop .inv .2, c .before .before .before .before .loop-test .taken, over-few _ _ _ _ _ (good-bounds (c .before .before .before .before .before .before .before .args .p) (c .before .before .before .before .before .before .before .pre .0) .blocks-high) (c .before .before .abandon-bin .ensures))
+--@ add-count c = omega (arith, @loop .inv .2, @loop-test .taken, over-few _ _ _ _ _ (good-bounds (@args .p) (@pre .0) .blocks-high) (@abandon-bin .ensures))
+add-count : tie.Need-add-count Inv-loop μ-loop
+add-count c = omega (arith, c .before .before .before .before .before .loop .inv .2, c .before .before .before .before .loop-test .taken, over-few _ _ _ _ _ (good-bounds (c .before .before .before .before .before .before .before .args .p) (c .before .before .before .before .before .before .before .pre .0) .blocks-high) (c .before .before .abandon-bin .ensures))
 
 --@ add-bin c = omega (arith, @loop-test .taken)
 add-bin : tie.Need-add-bin Inv-loop μ-loop
@@ -55,7 +55,7 @@ abandon-blocks-spec =
     μ-loop
     loop-holds
     abandon-bin-requires
-    add-n
+    add-count
     add-bin
     loop-less
     loop-again

@@ -11,10 +11,10 @@ use Rattle.native_ms.proofs.global.release_bins.Statement.{statement}
 use Rattle.native_ms.proofs.global.release_bins.Tie as tie
 
 abbrev Inv-loop : tie.InvT-loop
-Inv-loop p w₀ st₀ owner bin₀ n₀ w st bin n = (length w ≡ length w₀) × (length st ≡ length st₀) × (bin ≤ 49) × (n ≤ 3072 * bin) × (out n (view w) st ≡ total (releasedBins p owner bin (view w₀) st₀))
+Inv-loop p w₀ st₀ owner bin₀ released₀ w st bin released = (length w ≡ length w₀) × (length st ≡ length st₀) × (bin ≤ 49) × (released ≤ 3072 * bin) × (out released (view w) st ≡ total (releasedBins p owner bin (view w₀) st₀))
 
 abbrev μ-loop : tie.MeasureT-loop
-μ-loop p w₀ st₀ owner bin₀ n₀ w st bin n = 49 - bin
+μ-loop p w₀ st₀ owner bin₀ released₀ w st bin released = 49 - bin
 
 loop-holds : tie.Need-loop-holds Inv-loop μ-loop
 loop-holds c = (refl, refl, omega arith, omega arith, bins-none _ _ _ _)
@@ -23,9 +23,9 @@ loop-holds c = (refl, refl, omega arith, omega arith, bins-none _ _ _ _)
 release-bin-requires : tie.Need-release-bin-requires Inv-loop μ-loop
 release-bin-requires c κs = (c .before .before .before .before .before .before .pre .0, c .before .before .before .before .before .before .pre .1, c .before .before .loop-test .taken)
 
---@ add-n c = omega (arith, @loop .inv .3, @loop-test .taken, bin-few _ _ _ _ _ (good-bounds (@args .p) (@pre .0) .blocks-high) (@release-bin .ensures))
-add-n : tie.Need-add-n Inv-loop μ-loop
-add-n c = omega (arith, c .before .before .before .before .before .before .before .before .loop .inv .3, c .before .before .before .before .before .before .before .loop-test .taken, bin-few _ _ _ _ _ (good-bounds (c .before .before .before .before .before .before .before .before .before .before .before .args .p) (c .before .before .before .before .before .before .before .before .before .before .before .pre .0) .blocks-high) (c .before .before .before .before .release-bin .ensures))
+--@ add-released c = omega (arith, @loop .inv .3, @loop-test .taken, bin-few _ _ _ _ _ (good-bounds (@args .p) (@pre .0) .blocks-high) (@release-bin .ensures))
+add-released : tie.Need-add-released Inv-loop μ-loop
+add-released c = omega (arith, c .before .before .before .before .before .before .before .before .loop .inv .3, c .before .before .before .before .before .before .before .loop-test .taken, bin-few _ _ _ _ _ (good-bounds (c .before .before .before .before .before .before .before .before .before .before .before .args .p) (c .before .before .before .before .before .before .before .before .before .before .before .pre .0) .blocks-high) (c .before .before .before .before .release-bin .ensures))
 
 --@ add-bin c = omega (arith, @loop-test .taken)
 add-bin : tie.Need-add-bin Inv-loop μ-loop
@@ -59,7 +59,7 @@ release-bins-spec =
     μ-loop
     loop-holds
     release-bin-requires
-    add-n
+    add-released
     add-bin
     loop-less
     loop-again

@@ -13,10 +13,10 @@ use Rattle.native_ms.proofs.global.release_blocks.Statement.{statement}
 use Rattle.native_ms.proofs.global.release_blocks.Tie as tie
 
 abbrev Inv-loop : tie.InvT-loop
-Inv-loop p w₀ st₀ l k₀ a₀ n₀ w st k a n = (length w ≡ length w₀) × (length st ≡ length st₀) × (n + k ≤ p .blocks) × (plus n (total (releaseFrom k p l a (view w) st)) ≡ total (releaseFrom (p .blocks) p l a₀ (view w₀) st₀))
+Inv-loop p w₀ st₀ list more₀ link₀ released₀ w st more link released = (length w ≡ length w₀) × (length st ≡ length st₀) × (released + more ≤ p .blocks) × (plus released (total (releaseFrom more p list link (view w) st)) ≡ total (releaseFrom (p .blocks) p list link₀ (view w₀) st₀))
 
 abbrev μ-loop : tie.MeasureT-loop
-μ-loop p w₀ st₀ l k₀ a₀ n₀ w st k a n = k
+μ-loop p w₀ st₀ list more₀ link₀ released₀ w st more link released = more
 
 first-requires : tie.Need-first-requires Inv-loop μ-loop
 first-requires c κs = tt
@@ -47,13 +47,13 @@ next-requires c κs = tt
 attempt-release-requires : tie.Need-attempt-release-requires Inv-loop μ-loop
 attempt-release-requires c κs = (c .before .before .before .before .before .before .before .before .before .before .before .before .pre)
 
---@ add-n c = omega (arith, @loop .inv .2, good-bounds (@args .p) (@pre .0) .blocks-high, attempt-few _ _ _ _ _ (@attempt-release .ensures))
-add-n : tie.Need-add-n Inv-loop μ-loop
-add-n c = omega (arith, c .before .before .before .before .before .before .before .before .before .before .before .before .loop .inv .2, good-bounds (c .before .before .before .before .before .before .before .before .before .before .before .before .before .before .before .before .before .args .p) (c .before .before .before .before .before .before .before .before .before .before .before .before .before .before .before .before .before .pre .0) .blocks-high, attempt-few _ _ _ _ _ (c .before .before .before .before .attempt-release .ensures))
+--@ add-released c = omega (arith, @loop .inv .2, good-bounds (@args .p) (@pre .0) .blocks-high, attempt-few _ _ _ _ _ (@attempt-release .ensures))
+add-released : tie.Need-add-released Inv-loop μ-loop
+add-released c = omega (arith, c .before .before .before .before .before .before .before .before .before .before .before .before .loop .inv .2, good-bounds (c .before .before .before .before .before .before .before .before .before .before .before .before .before .before .before .before .before .args .p) (c .before .before .before .before .before .before .before .before .before .before .before .before .before .before .before .before .before .pre .0) .blocks-high, attempt-few _ _ _ _ _ (c .before .before .before .before .attempt-release .ensures))
 
---@ sub-k c = @loop-test .taken
-sub-k : tie.Need-sub-k Inv-loop μ-loop
-sub-k c = c .before .before .before .before .before .before .before .before .before .before .before .loop-test .taken
+--@ sub-more c = @loop-test .taken
+sub-more : tie.Need-sub-more Inv-loop μ-loop
+sub-more c = c .before .before .before .before .before .before .before .before .before .before .before .loop-test .taken
 
 --@ loop-less c = falls-down _ (@loop-test .taken)
 loop-less : tie.Need-loop-less Inv-loop μ-loop
@@ -89,8 +89,8 @@ release-blocks-spec =
     block-at-requires
     next-requires
     attempt-release-requires
-    add-n
-    sub-k
+    add-released
+    sub-more
     loop-less
     loop-again
     same-length-3

@@ -11,10 +11,10 @@ use Rattle.native_ms.proofs.global.sweep_later.Statement.{statement}
 use Rattle.native_ms.proofs.global.sweep_later.Tie as tie
 
 abbrev Inv-loop : tie.InvT-loop
-Inv-loop p w₀ st₀ bin₀ n₀ w st bin n = (length w ≡ length w₀) × (length st ≡ length st₀) × (bin ≤ 49) × (n ≤ 3072 * bin) × (out n (view w) st ≡ total (laterBins p bin (view w₀) st₀))
+Inv-loop p w₀ st₀ bin₀ released₀ w st bin released = (length w ≡ length w₀) × (length st ≡ length st₀) × (bin ≤ 49) × (released ≤ 3072 * bin) × (out released (view w) st ≡ total (laterBins p bin (view w₀) st₀))
 
 abbrev μ-loop : tie.MeasureT-loop
-μ-loop p w₀ st₀ bin₀ n₀ w st bin n = 49 - bin
+μ-loop p w₀ st₀ bin₀ released₀ w st bin released = 49 - bin
 
 loop-holds : tie.Need-loop-holds Inv-loop μ-loop
 loop-holds c = (refl, refl, omega arith, omega arith, later-none _ _ _)
@@ -23,9 +23,9 @@ loop-holds c = (refl, refl, omega arith, omega arith, later-none _ _ _)
 sweep-later-bin-requires : tie.Need-sweep-later-bin-requires Inv-loop μ-loop
 sweep-later-bin-requires c κs = ((c .before .before .before .before .before .before .pre), c .before .before .loop-test .taken)
 
---@ add-n c = omega (arith, @loop .inv .3, @loop-test .taken, later-few _ _ _ _ (good-bounds (@args .p) (@pre) .blocks-high) (@sweep-later-bin .ensures))
-add-n : tie.Need-add-n Inv-loop μ-loop
-add-n c = omega (arith, c .before .before .before .before .before .before .before .before .loop .inv .3, c .before .before .before .before .before .before .before .loop-test .taken, later-few _ _ _ _ (good-bounds (c .before .before .before .before .before .before .before .before .before .before .before .args .p) ((c .before .before .before .before .before .before .before .before .before .before .before .pre)) .blocks-high) (c .before .before .before .before .sweep-later-bin .ensures))
+--@ add-released c = omega (arith, @loop .inv .3, @loop-test .taken, later-few _ _ _ _ (good-bounds (@args .p) (@pre) .blocks-high) (@sweep-later-bin .ensures))
+add-released : tie.Need-add-released Inv-loop μ-loop
+add-released c = omega (arith, c .before .before .before .before .before .before .before .before .loop .inv .3, c .before .before .before .before .before .before .before .loop-test .taken, later-few _ _ _ _ (good-bounds (c .before .before .before .before .before .before .before .before .before .before .before .args .p) ((c .before .before .before .before .before .before .before .before .before .before .before .pre)) .blocks-high) (c .before .before .before .before .sweep-later-bin .ensures))
 
 --@ add-bin c = omega (arith, @loop-test .taken)
 add-bin : tie.Need-add-bin Inv-loop μ-loop
@@ -59,7 +59,7 @@ sweep-later-spec =
     μ-loop
     loop-holds
     sweep-later-bin-requires
-    add-n
+    add-released
     add-bin
     loop-less
     loop-again

@@ -11,10 +11,10 @@ use Rattle.native_ms.proofs.memory.put_bytes.Statement.{statement}
 use Rattle.native_ms.proofs.memory.put_bytes.Tie as tie
 
 abbrev Inv-loop : tie.InvT-loop
-Inv-loop h₀ i v n k₀ o₀ x₀ h k o x = (length h ≡ length h₀) × (o + k ≤ length h₀) × (overwrite o (bytesOf k x) h ≡ overwrite i (bytesOf n v) h₀)
+Inv-loop h₀ i v n more₀ at₀ rest₀ h more at rest = (length h ≡ length h₀) × (at + more ≤ length h₀) × (overwrite at (bytesOf more rest) h ≡ overwrite i (bytesOf n v) h₀)
 
 abbrev μ-loop : tie.MeasureT-loop
-μ-loop h₀ i v n k₀ o₀ x₀ h k o x = k
+μ-loop h₀ i v n more₀ at₀ rest₀ h more at rest = more
 
 --@ loop-holds c = (refl, @pre, refl)
 loop-holds : tie.Need-loop-holds Inv-loop μ-loop
@@ -26,11 +26,11 @@ cast-h c = search needs
 slice-write-h : tie.Need-slice-write-h Inv-loop μ-loop
 slice-write-h c = search needs
 
-add-o : tie.Need-add-o Inv-loop μ-loop
-add-o c = search needs
+add-at : tie.Need-add-at Inv-loop μ-loop
+add-at c = search needs
 
-sub-k : tie.Need-sub-k Inv-loop μ-loop
-sub-k c = search needs
+sub-more : tie.Need-sub-more Inv-loop μ-loop
+sub-more c = search needs
 
 --@ loop-less c = falls-down _ (@loop-test .taken)
 loop-less : tie.Need-loop-less Inv-loop μ-loop
@@ -57,8 +57,8 @@ put-bytes-spec =
     loop-holds
     cast-h
     slice-write-h
-    add-o
-    sub-k
+    add-at
+    sub-more
     loop-less
     loop-again
     same-length

@@ -12,17 +12,17 @@ use Rattle.native_ms.proofs.params.power_of_two.Statement.{statement}
 use Rattle.native_ms.proofs.params.power_of_two.Tie as tie
 
 abbrev Inv-loop : tie.InvT-loop
-Inv-loop x k₀ v₀ k v = (v ≡ 2 ^ k) × (anyBelow k (λ j. eqb x (2 ^ j)) ≡ powerOfTwo x)
+Inv-loop number more₀ power₀ more power = (power ≡ 2 ^ more) × (anyBelow more (λ j. eqb number (2 ^ j)) ≡ powerOfTwo number)
 
 abbrev μ-loop : tie.MeasureT-loop
-μ-loop x k₀ v₀ k v = k
+μ-loop number more₀ power₀ more power = more
 
 loop-holds : tie.Need-loop-holds Inv-loop μ-loop
 unfolding powerOfTwo
 loop-holds c = (refl, refl)
 
-sub-k : tie.Need-sub-k Inv-loop μ-loop
-sub-k c = omega arith
+sub-more : tie.Need-sub-more Inv-loop μ-loop
+sub-more c = omega arith
 
 returns : tie.Need-returns Inv-loop μ-loop
 returns c = sym (sym (c .before .before .loop .inv .1) ∙ power-hit _ _ _ (c .before .loop-test .taken) (c .before .before .loop .inv .0) (c .if1 .taken))
@@ -38,4 +38,4 @@ returns-2 c = sym (any-none _ _ (c .loop-test .left)) ∙ c .before .loop .inv .
 
 pub power-of-two-spec : {M : Type 1} → statement M
 power-of-two-spec =
-    tie.close (tie.spec Inv-loop μ-loop loop-holds sub-k returns loop-less loop-again returns-2)
+    tie.close (tie.spec Inv-loop μ-loop loop-holds sub-more returns loop-less loop-again returns-2)

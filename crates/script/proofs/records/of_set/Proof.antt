@@ -19,11 +19,11 @@ loop-holds c = search needs
 record-requires : tie.Need-record-requires Inv-loop μ-loop
 record-requires c κs = search needs
 
-mul-r : tie.Need-mul-r Inv-loop μ-loop
-mul-r c = search needs
+mul-records : tie.Need-mul-records Inv-loop μ-loop
+mul-records c = search needs
 
-array-set-from-r : tie.Need-array-set-from-r Inv-loop μ-loop
-array-set-from-r c = search needs
+array-set-from-records : tie.Need-array-set-from-records Inv-loop μ-loop
+array-set-from-records c = search needs
 
 add-bin : tie.Need-add-bin Inv-loop μ-loop
 add-bin c = search needs
@@ -46,8 +46,8 @@ of-set-spec =
     no-list-requires
     loop-holds
     record-requires
-    mul-r
-    array-set-from-r
+    mul-records
+    array-set-from-records
     add-bin
     loop-less
     loop-again

@@ -11,10 +11,10 @@ use Rattle.words.proofs.bytes.fill.Statement.{statement}
 use Rattle.words.proofs.bytes.fill.Tie as tie
 
 abbrev Inv-loop : tie.InvT-loop
-Inv-loop h₀ i n k₀ o₀ h k o = (length h ≡ length h₀) × (o + k ≤ length h₀) × (overwrite o (replicate k 0) h ≡ overwrite i (replicate n 0) h₀)
+Inv-loop h₀ i n more₀ at₀ h more at = (length h ≡ length h₀) × (at + more ≤ length h₀) × (overwrite at (replicate more 0) h ≡ overwrite i (replicate n 0) h₀)
 
 abbrev μ-loop : tie.MeasureT-loop
-μ-loop h₀ i n k₀ o₀ h k o = k
+μ-loop h₀ i n more₀ at₀ h more at = more
 
 --@ loop-holds c = (refl, @pre, refl)
 loop-holds : tie.Need-loop-holds Inv-loop μ-loop
@@ -23,11 +23,11 @@ loop-holds c = (refl, (c .pre), refl)
 slice-write-h : tie.Need-slice-write-h Inv-loop μ-loop
 slice-write-h c = search needs
 
-add-o : tie.Need-add-o Inv-loop μ-loop
-add-o c = search needs
+add-at : tie.Need-add-at Inv-loop μ-loop
+add-at c = search needs
 
-sub-k : tie.Need-sub-k Inv-loop μ-loop
-sub-k c = search needs
+sub-more : tie.Need-sub-more Inv-loop μ-loop
+sub-more c = search needs
 
 --@ loop-less c = falls-down _ (@loop-test .taken)
 loop-less : tie.Need-loop-less Inv-loop μ-loop
@@ -53,8 +53,8 @@ fill-spec =
     μ-loop
     loop-holds
     slice-write-h
-    add-o
-    sub-k
+    add-at
+    sub-more
     loop-less
     loop-again
     same-length

@@ -8,20 +8,20 @@ use Rattle.words.proofs.bytes.read.Statement.{statement}
 use Rattle.words.proofs.bytes.read.Tie as tie
 
 abbrev Inv-loop : tie.InvT-loop
-Inv-loop h i n k₀ v₀ k v = ReadSoFar n k h i v
+Inv-loop h i n more₀ value₀ more value = ReadSoFar n more h i value
 
 abbrev μ-loop : tie.MeasureT-loop
-μ-loop h i n k₀ v₀ k v = k
+μ-loop h i n more₀ value₀ more value = more
 
 loop-holds : tie.Need-loop-holds Inv-loop μ-loop
 loop-holds c = read-start _ _ _
 
-sub-k : tie.Need-sub-k Inv-loop μ-loop
-sub-k c = search needs
+sub-more : tie.Need-sub-more Inv-loop μ-loop
+sub-more c = search needs
 
---@ mul-v c = omega (arith, read-room _ _ _ _ _ (@loop .inv) (@loop-test .taken) (@pre .1))
-mul-v : tie.Need-mul-v Inv-loop μ-loop
-mul-v c = omega (arith, read-room _ _ _ _ _ (c .before .loop .inv) (c .loop-test .taken) (c .before .before .before .pre .1))
+--@ mul-value c = omega (arith, read-room _ _ _ _ _ (@loop .inv) (@loop-test .taken) (@pre .1))
+mul-value : tie.Need-mul-value Inv-loop μ-loop
+mul-value c = omega (arith, read-room _ _ _ _ _ (c .before .loop .inv) (c .loop-test .taken) (c .before .before .before .pre .1))
 
 --@ add-wide c = omega (arith, @loop .inv .left, @pre .0)
 add-wide : tie.Need-add-wide Inv-loop μ-loop
@@ -34,17 +34,17 @@ shared-slice-read-wide c = omega (arith, c .before .before .loop .inv .left, c .
 wide-requires : tie.Need-wide-requires Inv-loop μ-loop
 wide-requires c κs = search needs
 
---@ add-v c = omega (arith, read-room _ _ _ _ _ (@loop .inv) (@loop-test .taken) (@pre .1), @wide .ensures, @shared-slice-known2 .given (@args .i + (@loop .k - 1)))
-add-v : tie.Need-add-v Inv-loop μ-loop
-add-v c = omega (arith, read-room _ _ _ _ _ (c .before .before .before .loop .inv) (c .before .before .loop-test .taken) (c .before .before .before .before .before .pre .1), c .wide .ensures, c .before .shared-slice-known2 .given (c .before .before .before .before .before .args .i + (c .before .before .before .loop .k - 1)))
+--@ add-value c = omega (arith, read-room _ _ _ _ _ (@loop .inv) (@loop-test .taken) (@pre .1), @wide .ensures, @shared-slice-known2 .given (@args .i + (@loop .more - 1)))
+add-value : tie.Need-add-value Inv-loop μ-loop
+add-value c = omega (arith, read-room _ _ _ _ _ (c .before .before .before .loop .inv) (c .before .before .loop-test .taken) (c .before .before .before .before .before .pre .1), c .wide .ensures, c .before .shared-slice-known2 .given (c .before .before .before .before .before .args .i + (c .before .before .before .loop .more - 1)))
 
 --@ loop-less c = falls-down _ (@loop-test .taken)
 loop-less : tie.Need-loop-less Inv-loop μ-loop
 loop-less c = falls-down _ (c .before .before .loop-test .taken)
 
---@ loop-again c = read-round _ _ _ _ _ (@loop .inv) _ (@loop-test .taken) (@wide .ensures) (omega (arith, @wide .ensures, @shared-slice-known2 .given (@args .i + (@loop .k - 1))))
+--@ loop-again c = read-round _ _ _ _ _ (@loop .inv) _ (@loop-test .taken) (@wide .ensures) (omega (arith, @wide .ensures, @shared-slice-known2 .given (@args .i + (@loop .more - 1))))
 loop-again : tie.Need-loop-again Inv-loop μ-loop
-loop-again c = read-round _ _ _ _ _ (c .before .before .before .loop .inv) _ (c .before .before .loop-test .taken) (c .wide .ensures) (omega (arith, c .wide .ensures, c .before .shared-slice-known2 .given (c .before .before .before .before .before .args .i + (c .before .before .before .loop .k - 1))))
+loop-again c = read-round _ _ _ _ _ (c .before .before .before .loop .inv) _ (c .before .before .loop-test .taken) (c .wide .ensures) (omega (arith, c .wide .ensures, c .before .shared-slice-known2 .given (c .before .before .before .before .before .args .i + (c .before .before .before .loop .more - 1))))
 
 --@ returns c = read-end _ _ _ _ _ (@loop .inv) (@loop-test .left)
 returns : tie.Need-returns Inv-loop μ-loop
@@ -57,12 +57,12 @@ read-spec =
     Inv-loop
     μ-loop
     loop-holds
-    sub-k
-    mul-v
+    sub-more
+    mul-value
     add-wide
     shared-slice-read-wide
     wide-requires
-    add-v
+    add-value
     loop-less
     loop-again
     returns)

@@ -22,16 +22,16 @@ same-length : tie.Need-same-length
 same-length c = search needs
 
 returns : tie.Need-returns
-returns c = let a = c .before .before .before .args in sym (putIn-in (a .o) (a .k) (a .i) (a .v) (a .w .now) (c .before .before .if1 .taken))
+returns c = let a = c .before .before .before .args in sym (putIn-in (a .from) (a .count) (a .i) (a .v) (a .w .now) (c .before .before .if1 .taken))
 
 returns-2 : tie.Need-returns-2
-returns-2 c = let a = c .before .before .before .args in sym (putIn-past (a .o) (a .k) (a .i) (a .v) (a .w .now) (omega arith))
+returns-2 c = let a = c .before .before .before .args in sym (putIn-past (a .from) (a .count) (a .i) (a .v) (a .w .now) (omega arith))
 
 returns-3 : tie.Need-returns-3
-returns-3 c = let a = c .before .before .args in sym (putIn-past (a .o) (a .k) (a .i) (a .v) (a .w .now) (omega arith))
+returns-3 c = let a = c .before .before .args in sym (putIn-past (a .from) (a .count) (a .i) (a .v) (a .w .now) (omega arith))
 
 returns-4 : tie.Need-returns-4
-returns-4 c = let a = c .before .args in sym (putIn-out (a .o) (a .k) (a .i) (a .v) (a .w .now) (c .if1 .left))
+returns-4 c = let a = c .before .args in sym (putIn-out (a .from) (a .count) (a .i) (a .v) (a .w .now) (c .if1 .left))
 
 pub put-spec : {M : Type 1} → statement M
 put-spec =

@@ -19,16 +19,16 @@ shared-slice-read-result : tie.Need-shared-slice-read-result
 shared-slice-read-result c = search needs
 
 returns : tie.Need-returns
-returns c = let a = c .before .before .before .before .args in sym (getD-part (a .o) (a .k) (a .i) (a .w .now) (c .before .before .before .if1 .taken))
+returns c = let a = c .before .before .before .before .args in sym (getD-part (a .from) (a .count) (a .i) (a .w .now) (c .before .before .before .if1 .taken))
 
 returns-2 : tie.Need-returns-2
-returns-2 c = let a = c .before .before .before .args in sym (getD-part-past (a .o) (a .k) (a .i) (a .w .now) (omega arith))
+returns-2 c = let a = c .before .before .before .args in sym (getD-part-past (a .from) (a .count) (a .i) (a .w .now) (omega arith))
 
 returns-3 : tie.Need-returns-3
-returns-3 c = let a = c .before .before .args in sym (getD-part-past (a .o) (a .k) (a .i) (a .w .now) (omega arith))
+returns-3 c = let a = c .before .before .args in sym (getD-part-past (a .from) (a .count) (a .i) (a .w .now) (omega arith))
 
 returns-4 : tie.Need-returns-4
-returns-4 c = let a = c .before .args in sym (getD-part-out (a .o) (a .k) (a .i) (a .w .now) (c .if1 .left))
+returns-4 c = let a = c .before .args in sym (getD-part-out (a .from) (a .count) (a .i) (a .w .now) (c .if1 .left))
 
 pub word-spec : {M : Type 1} → statement M
 word-spec =

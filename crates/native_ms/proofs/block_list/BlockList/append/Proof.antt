@@ -49,7 +49,7 @@ use Rattle.model.proofs.Params.Laws as P′
 use Rattle.native_ms.specs.declared.block_list.BlockList.{BlockList}
 use Rattle.native_ms.specs.declared.block_list.AppendedRecords.{AppendedRecords}
 use Rattle.native_ms.specs.Moved.{moved}
-use Rattle.native_ms.specs.Records.{heldBoth, appendOn}
+use Rattle.native_ms.specs.Records.{besideBoth, appendOn}
 use Rattle.native_ms.proofs.Records.{only-val, R, rVal, pVal}
 use Rattle.native_ms.proofs.block_list.BlockList as T
 use Rattle.native_ms.proofs.block_list.BlockList.Laws as T′
@@ -168,7 +168,7 @@ module _ {M : Type 1} (𝓤 : URA M) (H : Heap 𝓤) (A : Atoms 𝓤) (W : Given
       owned ! R (Is R) (LL.makes T.the-type T′.the-plain 𝓤 H A) h _ was $ fjoin ! $ done !
 
   abbrev Said : AppendedRecords → List ℕ → Type 0
-  Said r zs = heldBoth (r .list) (r .other) (moved (r .blocks) (view zs)) ≡ appendOn p l m h k (view ys)
+  Said r zs = besideBoth (r .list) (r .other) (moved (r .blocks) (view zs)) ≡ appendOn p l m h k (view ys)
 
   abbrev Left : AppendedRecords → List ℕ → List (Item 𝓤)
   Left r zs =

@@ -52,7 +52,7 @@ use Rattle.model.proofs.Address as N
 use Rattle.model.proofs.Address.Laws as N′
 use Rattle.native_ms.specs.declared.block_list.BlockList.{BlockList}
 use Rattle.native_ms.specs.declared.block_list.PoppedRecord.{PoppedRecord}
-use Rattle.native_ms.specs.Records.{heldPopped, popOn}
+use Rattle.native_ms.specs.Records.{besidePopped, popOn}
 use Rattle.native_ms.proofs.Records.{valOf, only-val, R, rVal, pVal}
 use Rattle.native_ms.proofs.block_list.BlockList as T
 use Rattle.native_ms.proofs.block_list.BlockList.Laws as T′
@@ -143,7 +143,7 @@ module _ {M : Type 1} (𝓤 : URA M) (H : Heap 𝓤) (A : Atoms 𝓤) (W : Given
       owned ! R (Is R) (LL.makes T.the-type T′.the-plain 𝓤 H A) h _ was $ fjoin ! $ done !
 
   abbrev Said : PoppedRecord → List ℕ → Type 0
-  Said r zs = heldPopped (r .list) (popped (r .at .0) (view zs)) ≡ popOn p l h (view ys)
+  Said r zs = besidePopped (r .list) (popped (r .at .0) (view zs)) ≡ popOn p l h (view ys)
 
   abbrev Left : PoppedRecord → List ℕ → List (Item 𝓤)
   Left r zs = ‵ (fobs γ (R .coded .code (r .list))) ∷ ‵ (fbor κ (Body (mem R) b o γ)) ∷ ‵ (flft κ q) ∷ Tok

@@ -5,7 +5,7 @@ use mathlib.Core.Path.{_≡_, refl, _∙_}
 use borrow.Author.Tests.{not-true, not-false}
 use Rattle.model.specs.Tables.{view}
 use Rattle.native_ms.specs.SoundWalk.{passFrom}
-use Rattle.native_ms.proofs.SoundTests.{stands-off, closed-here, closed-off, pass-closed, pass-long, pass-bad, pass-step, pass-at}
+use Rattle.native_ms.proofs.SoundTests.{stands-off, last-here, last-off, pass-last, pass-long, pass-bad, pass-step, pass-at}
 use native.Mathlib.Omega.{arith}
 
 abbrev Inv-loop : tie.InvT-loop
@@ -61,13 +61,13 @@ loop-again c = pass-step _ _ _ _ _ _ (c .before .before .before .before .before 
 last-requires : tie.Need-last-requires Inv-loop μ-loop
 last-requires c κs = (omega (arith, c .before .before .before .before .before .before .pre .0 .lent .words), c .before .before .before .before .before .before .pre .1)
 
---@ returns-4 c = pass-closed _ _ _ _ _ _ _ (@if1 .left) (closed-off _ _ _ _ (@last .ensures) (@if5 .taken)) ∙ @loop .inv ∙ pass-at _ _ _ _ _ (@first .ensures)
+--@ returns-4 c = pass-last _ _ _ _ _ _ _ (@if1 .left) (last-off _ _ _ _ (@last .ensures) (@if5 .taken)) ∙ @loop .inv ∙ pass-at _ _ _ _ _ (@first .ensures)
 returns-4 : tie.Need-returns-4 Inv-loop μ-loop
-returns-4 c = pass-closed _ _ _ _ _ _ _ (c .before .before .before .before .if1 .left) (closed-off _ _ _ _ (c .before .before .before .last .ensures) (c .if5 .taken)) ∙ c .before .before .before .before .before .before .loop .inv ∙ pass-at _ _ _ _ _ (c .before .before .before .before .before .before .before .first .ensures)
+returns-4 c = pass-last _ _ _ _ _ _ _ (c .before .before .before .before .if1 .left) (last-off _ _ _ _ (c .before .before .before .last .ensures) (c .if5 .taken)) ∙ c .before .before .before .before .before .before .loop .inv ∙ pass-at _ _ _ _ _ (c .before .before .before .before .before .before .before .first .ensures)
 
---@ returns-5 c = pass-closed _ _ _ _ _ _ _ (@if1 .left) (closed-here _ _ _ _ (@last .ensures) (@if5 .left)) ∙ @loop .inv ∙ pass-at _ _ _ _ _ (@first .ensures)
+--@ returns-5 c = pass-last _ _ _ _ _ _ _ (@if1 .left) (last-here _ _ _ _ (@last .ensures) (@if5 .left)) ∙ @loop .inv ∙ pass-at _ _ _ _ _ (@first .ensures)
 returns-5 : tie.Need-returns-5 Inv-loop μ-loop
-returns-5 c = pass-closed _ _ _ _ _ _ _ (c .before .before .before .before .if1 .left) (closed-here _ _ _ _ (c .before .before .before .last .ensures) (c .if5 .left)) ∙ c .before .before .before .before .before .before .loop .inv ∙ pass-at _ _ _ _ _ (c .before .before .before .before .before .before .before .first .ensures)
+returns-5 c = pass-last _ _ _ _ _ _ _ (c .before .before .before .before .if1 .left) (last-here _ _ _ _ (c .before .before .before .last .ensures) (c .if5 .left)) ∙ c .before .before .before .before .before .before .loop .inv ∙ pass-at _ _ _ _ _ (c .before .before .before .before .before .before .before .first .ensures)
 
 pub pass-spec : {M : Type 1} → statement M
 pass-spec =

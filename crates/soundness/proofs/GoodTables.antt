@@ -19,7 +19,7 @@ use Rattle.soundness.proofs.Lists.{Same}
 use Rattle.soundness.proofs.SoundLists.{Fit, Good}
 
 -- tables of the right lengths that are good, with the lists that they hold
-pub record Held (p : Params) (ms : List ℕ) (w : Words) (st : List ℕ) : Type 0 where
+pub record GoodTables (p : Params) (ms : List ℕ) (w : Words) (st : List ℕ) : Type 0 where
   pub lists : ℕ → List ℕ
   pub good : Good p (tablesOf w st ms) lists
   pub sized : Sized (p .blocks) w
