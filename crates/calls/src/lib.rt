@@ -11,6 +11,7 @@ use model::Params;
 use model::Refusal;
 use model::ReleaseAnswer;
 use model::Said;
+use native_ms::allocator::Request;
 use native_ms::free_list_allocator;
 use native_ms::global;
 ghost use mathlib.Core.Path.{_≡_};
@@ -176,18 +177,15 @@ pub fn perform(
             align,
             offset,
             offer,
-        } => alloc_said(free_list_allocator::alloc(
-            p,
-            words,
-            states,
-            marks,
-            heap,
-            holder,
-            size,
-            align,
-            offset,
-            offer,
-        )),
+        } => {
+            let request = Request {
+                size,
+                align,
+                offset,
+                offer,
+            };
+            alloc_said(free_list_allocator::alloc(p, words, states, marks, heap, holder, request))
+        }
         Ask::Prepare => simple_said(global::prepare(p, words, states, marks, heap)),
         Ask::Mark { place, block } => mark_said(global::mark(
             p,

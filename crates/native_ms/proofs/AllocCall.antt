@@ -38,7 +38,8 @@ use Rattle.native_ms.specs.Ending.{stepped, shown, Does, servedBy, Ready
 use Rattle.native_ms.specs.Places.{Known, Offered}
 use Rattle.native_ms.proofs.Tests.{opened, step-refused, step-passed}
 use Rattle.native_ms.proofs.SpaceCalls.{bound-low, bound-high}
-use Rattle.native_ms.proofs.Heads.{sound-low}
+use Rattle.native_ms.specs.SoundLent.{Lengths}
+use Rattle.native_ms.proofs.Heads.{sound-low, sound-cells}
 
 -- ---- the offer
 
@@ -124,6 +125,11 @@ offered-low p t b e = ltb-true (b .0) (p .blocks) (and-left (ltb (b .0) (p .bloc
 
 -- ---- the call on sound tables
 
+pub call-lengths : (p : Params) (w st ms h : List ℕ) → lentTests p (lend w st ms h) ≡ Test.Passed → Lengths p w st
+call-lengths p w st ms h e =
+    let o = opened p w st ms h e in
+    record { good = o .parts .good; words = o .parts .words; states = o .parts .states }
+
 module _ (p : Params) (w st ms h : List ℕ) (holder size align offset : ℕ) (offer : Offer) {k : Checked}
     (ek : (m : List ℕ) → k ≡ binAfter (callTests p (tablesOf (view w) st m) (alloc holder size align offset offer)) (binOf p (raised p size align))) where
   abbrev T : Tables
@@ -150,10 +156,14 @@ module _ (p : Params) (w st ms h : List ℕ) (holder size align offset : ℕ) (o
           holder-from = bound-low (view w) holder (a .bound);
           holder-to = bound-high (view w) holder (a .bound);
           bin-low = omega (arith, passing .1, chosen p (raised p size align) (omega (arith, fits-raised p size align (a .small), B .bytes-high)) .to);
-          align-from = omega (arith, r .align-from, B .min-low);
-          align-to = omega (arith, r .align-to, B .max-high);
-          offset-low = r .offset-low;
+          shift =
+              record {
+                align-from = omega (arith, r .align-from, B .min-low);
+                align-to = omega (arith, r .align-to, B .max-high);
+                offset-low = r .offset-low;
+              };
           heads = sound-low p B T (sized-view (p .blocks) w (o .parts .words) .free) (o .sane);
+          cells = sound-cells p B T (o .sane);
         }
 
     pub call-known : lentTests p (lend w st ms h) ≡ Test.Passed → Known p (length w) (length ms) (length h)

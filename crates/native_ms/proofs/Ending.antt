@@ -23,7 +23,7 @@ use Rattle.model.specs.BlockList.{popped, push}
 use Rattle.model.specs.Block.{Unmarked, linkAll, initChain, initBlock}
 use Rattle.model.specs.Sound.{linkOk}
 use Rattle.model.specs.Events.{Event, initialised, eventHeap, eventsHeap, isSweep, sweeps}
-use Rattle.model.specs.FreeListAllocator.{Found, andThen, Search, inFound, findFreeBlockWith, recycleLocalBlocks, acquireAbandoned, acquireFresh, findBlock}
+use Rattle.model.specs.FreeListAllocator.{Found, found, andThen, Search, inFound, findFreeBlockWith, recycleLocalBlocks, acquireAbandoned, acquireFresh, findBlock}
 use Rattle.model.specs.Calls.{answered, refused, says, takes, takePlan, takeCell, finish, Step}
 use Rattle.laws.proofs.Base.{filter-append}
 use Rattle.laws.proofs.Params.{good-bounds}
@@ -33,7 +33,9 @@ use Rattle.native_ms.specs.declared.block.Taken.the-variants.{BadLink, C
 use Rattle.native_ms.specs.Closing.{Seen, seen, closed, Searched}
 use Rattle.native_ms.proofs.TakeCell.{took-bad, took-cell}
 use Rattle.native_ms.proofs.Heads.{Low, find-low}
-use Rattle.native_ms.specs.Ending.{Ended, ended, closedSearch, acquireGlobal, Freshened, Stepped, stepped, servedBy}
+use Rattle.native_ms.specs.Ending.{Ended, ended, closedSearch, acquireGlobal, Freshened, Stepped, stepped, shown, servedBy}
+use Rattle.native_ms.specs.Places.{HasFree}
+use Rattle.native_ms.proofs.Search.{skim-found}
 
 -- ---- events one after the other
 
@@ -201,9 +203,41 @@ module _ (p : Params) (align offset : ℕ) (h : List ℕ) (s : Search) {v n : �
         let en : n ≡ sweeps (s .events) = ap (λ (x : Ended). x .swept) e ∙ zero-add (sweeps (s .events)) in
         rw (er, en) (sym (at-cell ∙ ap stepOf (took-cell p (tablesOf t₁ st₁ ms) (s .events) h₁ b align offset fresh (ap (λ (x : Taken). took x t₂ h₂) (sym q) ∙ ek))))
 
+-- ---- the short way
+
+module _ (p : Params) (b align offset : ℕ) (t : Words) (h : List ℕ) {k : Taken} {t₂ : Words} {h₂ : List ℕ} (ek : took k t₂ h₂ ≡ takeFree p b t h) where
+  pub head-bad : k ≡ BadLink → (st ms : List ℕ)
+      → stepped (refused Refusal.BadLink) (tablesOf t₂ st ms) h₂ ≡ shown (takeCell p (tablesOf t st ms) [] h b align offset false)
+  unfolding stepOf
+  head-bad q st ms =
+      sym (ap stepOf (took-bad p (tablesOf t st ms) [] h b align offset false (ap (λ (x : Taken). took x t₂ h₂) (sym q) ∙ ek)))
+
+  pub head-cell : {a : Address} {size r : ℕ} → k ≡ Cell a size → r ≡ alignAllocation (a .0) align offset → (st ms : List ℕ)
+      → stepped (answered (r ∷ size ∷ flag false ∷ 0 ∷ [])) (tablesOf t₂ st ms) h₂ ≡ shown (takeCell p (tablesOf t st ms) [] h b align offset false)
+  unfolding stepOf sweeps filter
+  head-cell q er st ms =
+      rw er (sym (ap stepOf (took-cell p (tablesOf t st ms) [] h b align offset false (ap (λ (x : Taken). took x t₂ h₂) (sym q) ∙ ek))))
+
+-- the search ends at the head of the available list, which has a free cell
+module _ (p : Params) (holder bin : ℕ) (offer : Offer) (t : Words) (st ms h : List ℕ) {o l b : ℕ} (eo : o ≡ localSets holder) (el : l ≡ available o bin) (f : HasFree p t l b) (some : 0 < p .blocks) where
+  at : ℕ
+  at = getD (t .first) l 0
+
+  head-found : findBlock p holder bin offer (tablesOf t st ms) ≡ inFound (found at t) (tablesOf t st ms)
+  unfolding findBlock at
+  head-found =
+      rw (← eo, ← el, ← skim-found p l (consumed o bin) t refl (f .some) (f .here) refl (p .blocks) some (f .cell), ne-eqb (getD (t .first) l 0) 0 (f .some))
+
+  pub serve-head : (align offset : ℕ) {k : Stepped} → k ≡ shown (takeCell p (tablesOf t st ms) [] h b align offset false)
+      → k ≡ servedBy p align offset h (findBlock p holder bin offer (tablesOf t st ms))
+  unfolding endOf stepOf eventsHeap at
+  serve-head align offset e =
+      e ∙ sym (ap (servedBy p align offset h) head-found ∙ served-end p align offset h (inFound (found at t) (tablesOf t st ms))
+      ∙ rw (ne-eqb (getD (t .first) l 0) 0 (f .some), ← f .here))
+
 -- ---- the cell taken is low: free heads stay so in a search
 
-cell-at : (p : Params) (b : ℕ) (t : Words) (h : List ℕ) {k : Taken} {t₂ : Words} {h₂ : List ℕ} {a : Address} {sz : ℕ} → took k t₂ h₂ ≡ takeFree p b t h → k ≡ Cell a sz → a .0 ≡ getD (t .free) b 0
+pub cell-at : (p : Params) (b : ℕ) (t : Words) (h : List ℕ) {k : Taken} {t₂ : Words} {h₂ : List ℕ} {a : Address} {sz : ℕ} → took k t₂ h₂ ≡ takeFree p b t h → k ≡ Cell a sz → a .0 ≡ getD (t .free) b 0
 unfolding takeFree
 cell-at p b t h {k} {t₂} {h₂} {a} {sz} ek q = go (linkOk p t b (load p h cell)) ek
   where

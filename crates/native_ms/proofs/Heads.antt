@@ -5,9 +5,9 @@ use mathlib.Core.Path.{_≡_, refl, sym, subst}
 use mathlib.Core.Bool.{Bool, true, false, _&&_}
 use mathlib.Core.Logic.{_⊎_, inl, inr, ⊎-elim}
 use mathlib.Core.List.{List, [], _∷_, headD}
-use native.Mathlib.Nat.{div-zero, div-mul-le-self, mul-le-mul-right, suc-mul, not-suc-le-zero}
+use native.Mathlib.Nat.{mod-lt, div-zero, div-mul-le-self, mul-le-mul-right, suc-mul, not-suc-le-zero}
 use native.Mathlib.Omega.{arith}
-use lib.Dec.{eqb, ltb, leb}
+use lib.Dec.{eqb, ltb, leb, lit<}
 use lib.ListN.{length, getD, set, List·getD-eq-default}
 use borrow.Author.Tests.{eqb-true, ltb-true, ltb-false, leb-true}
 use Rattle.model.specs.declared.Params.{Params}
@@ -20,8 +20,10 @@ use Rattle.model.specs.SizeClasses.{cellBytes}
 use Rattle.model.specs.BlockList.{push, pop}
 use Rattle.model.specs.Block.{Unallocated, cellCount, isCell, cellsDown, initChain, initBlock, sweepChain, sweptWords}
 use Rattle.model.specs.FreeListAllocator.{Found, acquireFresh, findBlock}
-use Rattle.model.specs.Sound.{stateOf, stateKnown, blockClear, onListNamed, sizeOk, linkOk, tlsOk, blockSound, linked, unboundEmpty, inGcEmpty, phaseKnown, flagsKnown, releasedFew, releasedSome, releasedEmpty, sound}
-use Rattle.laws.proofs.Below.{and-left, and-right, or-cases, and-four, allBelow-at, test}
+use Rattle.model.specs.Sound.{stateOf, stateKnown, blockClear, listNamed, binNamed, onListNamed, sizeOk, linkOk, tlsOk, blockSound, linked, unboundEmpty, inGcEmpty, phaseKnown, flagsKnown, releasedFew, releasedSome, releasedEmpty, sound}
+use Rattle.laws.proofs.Classes.{cellBytes-least}
+use Rattle.native_ms.specs.Places.{HeadCell}
+use Rattle.laws.proofs.Below.{and-left, and-right, or-cases, and-four, and-five, allBelow-at, test}
 use Rattle.laws.proofs.Params.{Bounds, start-out, start-end}
 use Rattle.laws.proofs.Cells.{Free, in-cellsDown}
 use Rattle.laws.proofs.Frame.{links-refl, push-links, pop-links}
@@ -122,6 +124,42 @@ module _ (p : Params) (g : Bounds p) where
           (first-of-seven (allBelow (p .blocks) (blockSound p t)) (allBelow lists (linked p t)) (unboundEmpty (t .words)) (inGcEmpty (t .words)) (phaseKnown (t .words) && flagsKnown (t .words)) (releasedFew (t .words) && releasedSome (t .words)) (releasedEmpty (t .words)) e)
           b (ltb-true b (p .blocks) q))
       go (inr q) = omega (arith, List·getD-eq-default (t .words .free) 0 {n = b} (omega (arith, ltb-false b (p .blocks) q)))
+
+  -- ---- a free head of sound tables is a cell
+
+  sized : (w : Words) (b : ℕ) → sizeOk p w b ≡ true → 8 ≤ getD (w .size) b 0
+  unfolding sizeOk binNamed
+  sized w b e =
+      rw (eqb-true (getD (w .size) b 0) (cellBytes p (listNamed w b % 49)) (and-right (leb 1 (listNamed w b % 49)) _ e))
+      (cellBytes-least p {bin = listNamed w b % 49} (mod-lt (listNamed w b) (lit< tt)))
+
+  some-link : (w : Words) (b a : ℕ) → linkOk p w b a ≡ true → (a ≡ 0 → ⊥) → isCell p b (getD (w .size) b 0) a ≡ true
+  unfolding linkOk
+  some-link w b a e nz = ⊎-elim (λ z. absurd (nz (eqb-true a 0 z))) (λ y. y) (or-cases (eqb a 0) (isCell p b (getD (w .size) b 0) a) e)
+
+  clear-none : (w : Words) (b : ℕ) → blockClear w b ≡ true → getD (w .free) b 0 ≡ 0
+  unfolding blockClear
+  clear-none w b e =
+      eqb-true (getD (w .free) b 0) 0 (third-of-six (eqb (getD (w .next) b 0) 0) (eqb (getD (w .prev) b 0) 0) (eqb (getD (w .free) b 0) 0) (eqb (getD (w .size) b 0) 0) (eqb (getD (w .list) b 0) 0) (eqb (getD (w .tls) b 0) 0) e)
+
+  block-head : (t : Tables) (b : ℕ) → blockSound p t b ≡ true → (getD (t .words .free) b 0 ≡ 0 → ⊥) → HeadCell p (t .words) b
+  unfolding blockSound
+  block-head t b e nz = go (eqb (stateOf t b) Unallocated) e
+    where
+      go : (q : Bool) → (if q then blockClear (t .words) b else (stateKnown t b && onListNamed p (t .words) b && sizeOk p (t .words) b
+          && linkOk p (t .words) b (getD (t .words .free) b 0) && tlsOk (t .words) b)) ≡ true → HeadCell p (t .words) b
+      go true c = absurd (nz (clear-none (t .words) b c))
+      go false c =
+          let f = and-five (stateKnown t b) (onListNamed p (t .words) b) (sizeOk p (t .words) b)
+          (linkOk p (t .words) b (getD (t .words .free) b 0)) (tlsOk (t .words) b) c in
+          record { cell = some-link (t .words) b (getD (t .words .free) b 0) (f .3) nz; word = sized (t .words) b (f .2) }
+
+  pub sound-cells : (t : Tables) → sound p t ≡ true → (b : ℕ) → b < p .blocks → (getD (t .words .free) b 0 ≡ 0 → ⊥) → HeadCell p (t .words) b
+  unfolding sound
+  sound-cells t e b l =
+      block-head t b (allBelow-at (p .blocks) (blockSound p t)
+      (first-of-seven (allBelow (p .blocks) (blockSound p t)) (allBelow lists (linked p t)) (unboundEmpty (t .words)) (inGcEmpty (t .words)) (phaseKnown (t .words) && flagsKnown (t .words)) (releasedFew (t .words) && releasedSome (t .words)) (releasedEmpty (t .words)) e)
+      b l)
 
   swept-low : (ms : List ℕ) (b : ℕ) (t : Words) → Low t → Low (sweptWords p ms b t)
   unfolding sweptWords setFree sweepChain

@@ -8,6 +8,7 @@ pub mod SoundTests
 pub mod Records
 pub mod Lower
 pub mod Chains
+pub mod ShortWay
 pub mod Offsets
 pub mod Span
 pub mod Window

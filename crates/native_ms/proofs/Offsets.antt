@@ -4,7 +4,7 @@ use Prim.Native.Nat.{ℕ, suc, _+_, _-_, _*_, _/_, _%_, _^_, _≤_, _<_}
 use mathlib.Core.Path.{_≡_, refl, sym, ap, _∙_}
 use mathlib.Core.Bool.{Bool, true, false, _||_}
 use mathlib.Core.List.{List, _∷_, headD}
-use native.Mathlib.Nat.{mul-le-mul-right, suc-mul, add-mul, div-mul-le-self, mul-mod-left}
+use native.Mathlib.Nat.{mul-le-mul-right, suc-mul, add-mul, div-mul-le-self, mul-mod-left, add-mul-mod-self-left}
 use native.Mathlib.Omega.{arith}
 use native.Mathlib.Decide.{decLt}
 use lib.Bits.{bitAnd, and-mask}
@@ -199,6 +199,20 @@ pub running-end : (p : Params) (ms : List ℕ) (s at n first count last₀ : ℕ
 running-end p ms s at n first count last₀ h₀ k o g last h r le kept b =
     let e : k ≡ n = omega (arith, r .done) in
     rw e at (r .on kept b)
+
+-- cells of eight words: their bits lie alike in their bytes
+pub eight-words : {s : ℕ} → s ≡ 64 → s / 8 ≡ 8
+eight-words e = omega (arith, e)
+
+pub alike : (at k o g first : ℕ) {s : ℕ} → s ≡ 64 → o ≡ at + k * s → 8 * g + at ≡ o + 8 * first → g % 8 ≡ first % 8
+alike at k o g first {s} e here bit =
+    let d : k * s ≡ k * 64 = ap (λ (x : ℕ). k * x) e in
+    let q : g ≡ first + 8 * k = omega (arith, d, here, bit) in
+    ap (λ (x : ℕ). x % 8) q ∙ add-mul-mod-self-left first 8 k
+
+pub stepped-on : {p : Params} {ms : List ℕ} {s at n first count last₀ : ℕ} {h₀ : List ℕ} {k o last : ℕ} {h : List ℕ} (g : ℕ) → s ≡ 64
+    → Running p ms s at n first count last₀ h₀ k o (g + s / 8) last h → Running p ms s at n first count last₀ h₀ k o (g + 8) last h
+stepped-on g e r = rw (eight-words e) at r
 
 -- the same with no bits: by what is kept
 

@@ -1,9 +1,12 @@
 -- The raised size as the code answers it: what it is where a block holds it, and else that it is too big. And the shifted
 -- address: what it is in the ranges of a request, and else that it is off.
-use Prim.Native.Nat.{ℕ, _^_, _<_, _≤_}
-use mathlib.Core.Path.{_≡_}
-use mathlib.Core.Bool.{true}
-use borrow.Author.Tests.{le-leb, lt-leb, lt-ltb, le-ltb}
+use Prim.Native.Nat.{ℕ, _%_, _^_, _<_, _≤_}
+use mathlib.Core.Path.{_≡_, refl, sym, _∙_}
+use mathlib.Core.Bool.{Bool, true, false}
+use mathlib.Core.Logic.{_⊎_, inl, inr}
+use native.Mathlib.Omega.{arith}
+use lib.Dec.{eqb}
+use borrow.Author.Tests.{le-leb, lt-leb, lt-ltb, le-ltb, eq-eqb, ne-eqb, eqb-true}
 use Rattle.model.specs.declared.Address.{Address}
 use Rattle.model.specs.declared.Params.{Params}
 use Rattle.model.specs.SizeClasses.{raised, alignAllocation}
@@ -45,3 +48,27 @@ module _ (region align offset : ℕ) where
         pub shifted-at : {r : Address} → offset ≤ 65536 → r .0 ≡ alignAllocation region align offset → At r ≡ shiftedTo region align offset
         unfolding shiftedTo
         shifted-at h e = rw (le-leb 1 align a, le-leb align 64 b, lt-ltb region (2 ^ 47) c, le-leb offset 65536 h, ← e)
+
+-- ---- whether MIN divides
+
+module _ (x m : ℕ) where
+  pub divides-words : (m ≡ 4) ⊎ (m ≡ 8) → x % 8 ≡ 0 → true ≡ eqb (x % m) 0
+  divides-words (inl e) z = rw e (sym (eq-eqb (x % 4) 0 (omega arith)))
+  divides-words (inr e) z = rw e (sym (eq-eqb (x % 8) 0 z))
+
+  pub divides-eight : (x % 8 ≡ 0 → ⊥) → m ≡ 8 → false ≡ eqb (x % m) 0
+  divides-eight n e = rw e (sym (ne-eqb (x % 8) 0 n))
+
+  pub divides-four : (m ≡ 4) ⊎ (m ≡ 8) → (m ≡ 8 → ⊥) → eqb (x % 4) 0 ≡ eqb (x % m) 0
+  divides-four (inl e) n = rw e
+  divides-four (inr e) n = absurd (n e)
+
+-- what the answer says
+pub divides-no : {q : Bool} {y : ℕ} → q ≡ eqb y 0 → q ≡ false → y ≡ 0 → ⊥
+divides-no {y = y} e n z =
+    let f : _≡_ {A = Bool} true false = sym (eq-eqb y 0 z) ∙ sym e ∙ n in
+    let g : _≡_ {A = ℕ} 0 1 = cc in
+    omega arith
+
+pub divides-yes : {q : Bool} {y : ℕ} → q ≡ eqb y 0 → q ≡ true → y ≡ 0
+divides-yes {y = y} e t = eqb-true y 0 (sym e ∙ t)

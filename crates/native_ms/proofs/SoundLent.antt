@@ -7,11 +7,12 @@ use native.Mathlib.Nat.{mul-comm, mul-le-mul-right, lt-suc-self, le-step}
 use native.Mathlib.Numerals.{add-one}
 use native.Mathlib.Omega.{arith}
 use lib.Bits.{bitOr, or-add-and, and-le-l, and-le-r}
-use lib.Dec.{eqb, ltb}
+use lib.Count.{trailingZeros}
+use lib.Dec.{eqb, ltb, leb}
 use lib.ListN.{length, getD, set}
 use lib.Seq.{getD-set-same, getD-set-other}
 use borrow.Author.Count.{below-more}
-use borrow.Author.Tests.{eqb-true, eq-eqb, ne-eqb, le-ltb}
+use borrow.Author.Tests.{eqb-true, eq-eqb, ne-eqb, le-ltb, leb-true}
 use Rattle.model.specs.declared.Params.{Params}
 use Rattle.model.specs.Base.{allBelow}
 use Rattle.model.specs.Params.{goodParams, powerOfTwo, isStart, blockAt, start, listOf}
@@ -113,6 +114,16 @@ first-word w l h =
     let d : l ≡ 0 + l = omega arith in
     ap (λ (x : ℕ). getD w x 0) d ∙ sym (getD-part 0 1470 l w h)
 
+pub phase-word : (w : List ℕ) → getD w 2940 0 ≡ view w .phase
+unfolding view
+phase-word w = refl
+
+pub bound-word : (w : List ℕ) (holder : ℕ) → 1 ≤ holder → holder ≤ 8 → getD w (2940 + holder) 0 ≡ getD (view w .bound) (holder - 1) 0
+unfolding view
+bound-word w holder l m =
+    let d : 2940 + holder ≡ 2941 + (holder - 1) = omega arith in
+    ap (λ (x : ℕ). getD w x 0) d ∙ sym (getD-part 2941 8 (holder - 1) w (omega arith))
+
 -- a table of firsts, set by set
 module _ (w : List ℕ) where
   abbrev pub setIs : List ℕ → ℕ → Type 0
@@ -169,14 +180,14 @@ module _ (w : List ℕ) where
 
 -- ---- the block size
 
-sizes : ℕ → Bool
-sizes x = ltb x 4096 || eqb x 4096 || eqb x 8192 || eqb x 16384 || eqb x 32768 || eqb x 65536
+logged : ℕ → Bool
+logged x = eqb x (2 ^ trailingZeros 64 x) && leb (trailingZeros 64 x) 16
 
-pub size-last : (x : ℕ) → powerOfTwo x ≡ true → 4096 ≤ x → (x ≡ 4096 → ⊥) → (x ≡ 8192 → ⊥) → (x ≡ 16384 → ⊥) → (x ≡ 32768 → ⊥) → x ≡ 65536
-unfolding sizes allBelow
-size-last x e l a b c d =
-    let s : sizes x ≡ eqb x 65536 = rw (le-ltb x 4096 l, ne-eqb x 4096 a, ne-eqb x 8192 b, ne-eqb x 16384 c, ne-eqb x 32768 d) in
-    eqb-true x 65536 (sym s ∙ each-power sizes refl e)
+pub power-log : (x : ℕ) → powerOfTwo x ≡ true → (x ≡ 2 ^ trailingZeros 64 x) × (trailingZeros 64 x ≤ 16)
+unfolding logged allBelow trailingZeros
+power-log x e =
+    let t = each-power logged refl e in
+    (eqb-true _ _ (and-left _ _ t), leb-true _ _ (and-right (eqb x (2 ^ trailingZeros 64 x)) _ t))
 
 -- ---- the block that starts at an address
 

@@ -42,6 +42,14 @@ and-yes : (a : Bool) {b : Bool} → b ≡ true → (a && b) ≡ a
 and-yes true e = e
 and-yes false e = refl
 
+and-never : (x : Bool) → false ≡ (x && false)
+and-never true = refl
+and-never false = refl
+
+and-always : (x : Bool) → x ≡ (x && true)
+and-always true = refl
+and-always false = refl
+
 -- ---- isCell and linkOk
 
 module _ (p : Params) (b s a : ℕ) {v : ℕ} (ev : v ≡ start p b) where
@@ -58,23 +66,21 @@ module _ (p : Params) (b s a : ℕ) {v : ℕ} (ev : v ≡ start p b) where
     cell-before h = rw (lt-ltb 0 s pos, ← ev, lt-leb v a h)
 
     module _ (h : v ≤ a) where
-      pub cell-inside : ((a - v) % s ≡ 0 → ⊥) → false ≡ isCell p b s a
+      pub cell-large : p .bytes < s → false ≡ isCell p b s a
       unfolding isCell
-      cell-inside n = rw (lt-ltb 0 s pos, ← ev, le-leb v a h, ne-eqb ((a - v) % s) 0 n)
+      cell-large k =
+          rw (lt-ltb 0 s pos, ← ev, le-leb v a h, lt-leb ((a - v) + s) (p .bytes) (omega arith)) (and-never (eqb ((a - v) % s) 0))
 
-      module _ (whole : (a - v) % s ≡ 0) where
-        pub cell-large : p .bytes < s → false ≡ isCell p b s a
+      module _ (k : s ≤ p .bytes) where
+        pub cell-past : p .bytes - s < a - v → false ≡ isCell p b s a
         unfolding isCell
-        cell-large k =
-            rw (lt-ltb 0 s pos, ← ev, le-leb v a h, eq-eqb ((a - v) % s) 0 whole, lt-leb ((a - v) + s) (p .bytes) (omega arith))
+        cell-past l =
+            rw (lt-ltb 0 s pos, ← ev, le-leb v a h, lt-leb ((a - v) + s) (p .bytes) (omega arith)) (and-never (eqb ((a - v) % s) 0))
 
-        pub cell-here : s ≤ p .bytes → leb (a - v) (p .bytes - s) ≡ isCell p b s a
+        pub cell-here : a - v ≤ p .bytes - s → eqb ((a - v) % s) 0 ≡ isCell p b s a
         unfolding isCell
-        cell-here k =
-            rw (lt-ltb 0 s pos, ← ev, le-leb v a h, eq-eqb ((a - v) % s) 0 whole)
-            (same-test (leb (a - v) (p .bytes - s)) (leb ((a - v) + s) (p .bytes))
-            (λ t. le-leb ((a - v) + s) (p .bytes) (omega (arith, leb-true (a - v) (p .bytes - s) t)))
-            (λ t. le-leb (a - v) (p .bytes - s) (omega (arith, leb-true ((a - v) + s) (p .bytes) t))))
+        cell-here l =
+            rw (lt-ltb 0 s pos, ← ev, le-leb v a h, le-leb ((a - v) + s) (p .bytes) (omega arith)) (and-always (eqb ((a - v) % s) 0))
 
 module _ (p : Params) (b s a : ℕ) where
   pub link-none : a ≡ 0 → true ≡ (eqb a 0 || isCell p b s a)

@@ -1,25 +1,26 @@
 -- What the tests of a call say: refused at one of them, or open to what the call does. A public call is its first tests and its
 -- step on sound tables; that step is its own tests and its plan. Plain values alone stand here. Assumes nothing.
-use Prim.Native.Nat.{ℕ, _+_, _*_, _/_, _≤_}
+use Prim.Native.Nat.{ℕ, _+_, _-_, _*_, _/_, _≤_}
 use mathlib.Core.Path.{_≡_, refl, sym, ap, _∙_}
 use mathlib.Core.Bool.{Bool, true, false, not, _&&_, _||_}
 use mathlib.Core.List.{List}
 use native.Mathlib.Omega.{arith}
-use lib.Dec.{eqb}
-use lib.ListN.{length}
-use borrow.Author.Tests.{eq-eqb, ne-eqb, eqb-true}
+use lib.Dec.{eqb, leb}
+use lib.ListN.{length, getD}
+use borrow.Author.Tests.{eq-eqb, ne-eqb, eqb-true, leb-true}
 use Rattle.model.specs.declared.Params.{Params}
 use Rattle.model.specs.declared.Refusal.{Refusal}
-use Rattle.model.specs.declared.Refusal.the-variants.{BadSetup, BadTables, WrongPhase}
+use Rattle.model.specs.declared.Refusal.the-variants.{BadSetup, BadTables, WrongPhase, BadHolder}
 use Rattle.model.specs.declared.Tested.{Tested}
 use Rattle.model.specs.declared.Tested.the-variants.{Passed, Refused}
 use Rattle.model.specs.Params.{goodParams, fits, wordCount, heapBytes, headWords}
 use Rattle.model.specs.Tables.{Words, Tables, tablesOf, view, flat}
 use Rattle.model.specs.Events.{eventsHeap}
+use Rattle.model.specs.Global.{isHolder, isBound}
 use Rattle.model.specs.Sound.{sound}
-use Rattle.model.specs.Calls.{Reply, refused, Call, refusedIf, andThen, phaseTest, callTests, planPassed, ifPassed, planSound, plan, finish, carried, soundStep, step, call}
+use Rattle.model.specs.Calls.{Reply, refused, Call, refusedIf, andThen, phaseTest, boundTests, callTests, planPassed, ifPassed, planSound, plan, finish, carried, soundStep, step, call}
 use Rattle.model.specs.Promise.{lend, Promised}
-use Rattle.laws.proofs.Below.{or-left, or-right, or-neither, and-five}
+use Rattle.laws.proofs.Below.{or-left, or-right, or-neither, and-left, and-right, and-five}
 use Rattle.laws.proofs.Base.{if-true, if-false}
 use Rattle.laws.proofs.Tables.{words-flat, flat-view}
 use Rattle.laws.proofs.Tests.{clash}
@@ -165,3 +166,30 @@ module _ (p : Params) (t : Tables) (h : List ℕ) (c : Call) {r : Tested} (e : r
   pub step-passed : r ≡ Passed → shown (carried p h (planPassed p t c)) ≡ shown (soundStep p t h c)
   unfolding soundStep planSound ifPassed
   step-passed z = rw (sym e ∙ z)
+
+-- ---- the holder of an alloc
+
+module _ (w : Words) (holder : ℕ) {f : ℕ} (ef : f ≡ w .phase) where
+  pub bound-phase : (f ≡ 0 → ⊥) → Refused WrongPhase ≡ boundTests w holder
+  unfolding boundTests phaseTest andThen
+  bound-phase n = rw (← ef, ne-eqb f 0 n)
+
+  module _ (z : f ≡ 0) {q : Bool} (eq : q ≡ isHolder holder) where
+    pub bound-number : q ≡ false → Refused BadHolder ≡ boundTests w holder
+    unfolding boundTests phaseTest andThen isBound
+    bound-number n = rw (← ef, eq-eqb f 0 z, ← eq, n)
+
+    module _ (y : q ≡ true) {b : ℕ} (eb : b ≡ getD (w .bound) (holder - 1) 0) where
+      pub bound-not : (b ≡ 1 → ⊥) → Refused BadHolder ≡ boundTests w holder
+      unfolding boundTests phaseTest andThen isBound
+      bound-not n = rw (← ef, eq-eqb f 0 z, ← eq, y, ← eb, ne-eqb b 1 n)
+
+      pub bound-passed : b ≡ 1 → Passed ≡ boundTests w holder
+      unfolding boundTests phaseTest andThen isBound
+      bound-passed n = rw (← ef, eq-eqb f 0 z, ← eq, y, ← eb, eq-eqb b 1 n)
+
+pub holder-range : (holder : ℕ) {q : Bool} → q ≡ isHolder holder → q ≡ true → (1 ≤ holder) × (holder ≤ 8)
+unfolding isHolder
+holder-range holder e y =
+    let t : (leb 1 holder && leb holder 8) ≡ true = sym e ∙ y in
+    (leb-true 1 holder (and-left _ _ t), leb-true holder 8 (and-right (leb 1 holder) _ t))

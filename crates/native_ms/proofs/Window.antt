@@ -17,7 +17,7 @@ use borrow.Author.Tests.{eqb-false}
 use Rattle.model.specs.Memory.{bitOf}
 use Rattle.laws.proofs.Base.{bool-cases, not-both}
 use Rattle.native_ms.specs.Bits.{bitAt, anyBit}
-use Rattle.native_ms.proofs.Span.{bit-some, bits-none}
+use Rattle.native_ms.proofs.Span.{bit-some, bits-none, byte-some, bytes-none}
 
 -- ---- the n low bits of a number
 
@@ -123,3 +123,30 @@ module _ (ms : List ℕ) (g : ℕ) {x : ℕ} (e : x ≡ getD ms (g / 8) 0 + 256 
             ⊎-elim (λ y. absurd (not-both (anyBit ms g n) (bit-some ms g n k l y) none))
             (λ y. omega (arith, eqb-false (digit (getD ms ((g + k) / 8) 0) ((g + k) % 8)) 1 y))
             (bool-cases (eqb (digit (getD ms ((g + k) / 8) 0) ((g + k) % 8)) 1))
+
+-- ---- eight bits
+
+-- those of two bytes, with what is shifted out known
+module _ (ms : List ℕ) (g q : ℕ) (eq : g % 8 ≡ q) {a b : ℕ} (ea : a ≡ getD ms (g / 8) 0) (eb : b ≡ getD ms (g / 8 + 1) 0) (byte : getD ms (g / 8) 0 < 256) where
+  pub window-none : bitAnd ((a + b * 256) / 2 ^ q) 255 ≡ 0 → false ≡ anyBit ms g 8
+  window-none z = few-none ms g {x = a + b * 256} (omega (arith, ea, eb)) byte 8 (omega arith) (rw eq z)
+
+  pub window-some : (bitAnd ((a + b * 256) / 2 ^ q) 255 ≡ 0 → ⊥) → true ≡ anyBit ms g 8
+  window-some z = few-some ms g {x = a + b * 256} (omega (arith, ea, eb)) byte 8 (omega arith) (λ y. z (rw eq at y))
+
+-- those of one
+module _ (ms : List ℕ) (g : ℕ) (whole : g % 8 ≡ 0) where
+  starts : g ≡ 8 * (g / 8)
+  starts = omega (arith, whole)
+
+  first : g / 8 + 0 ≡ g / 8
+  first = omega arith
+
+  pub whole-none : getD ms (g / 8) 0 ≡ 0 → false ≡ anyBit ms g 8
+  whole-none z =
+      sym (ap (λ (x : ℕ). anyBit ms x 8) starts
+      ∙ bytes-none ms (g / 8) 1 (λ k l. let e : g / 8 + k ≡ g / 8 = omega (arith, l) in ap (λ (x : ℕ). getD ms x 0) e ∙ z))
+
+  pub whole-some : getD ms (g / 8) 0 < 256 → (getD ms (g / 8) 0 ≡ 0 → ⊥) → true ≡ anyBit ms g 8
+  whole-some byte z =
+      sym (ap (λ (x : ℕ). anyBit ms x 8) starts ∙ byte-some ms (g / 8) 1 0 (omega arith) (rw first byte) (λ y. z (rw first at y)))

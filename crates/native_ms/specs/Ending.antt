@@ -15,6 +15,7 @@ use Rattle.model.specs.BlockList.{push}
 use Rattle.model.specs.Block.{Unmarked, linkAll, initChain, initBlock}
 use Rattle.model.specs.Events.{eventsHeap, sweeps}
 use Rattle.model.specs.FreeListAllocator.{Found, Search, acquireAbandoned, acquireFresh, inFound}
+use Rattle.native_ms.specs.Places.{HeadCell}
 use Rattle.model.specs.Calls.{Reply, Call, Step, takePlan, carried, soundStep}
 
 -- a whole search as the code sees its end
@@ -65,14 +66,19 @@ Does p t h c r t₁ h₁ = stepped r t₁ h₁ ≡ shown (soundStep p t h c)
 unfoldable pub servedBy : Params → ℕ → ℕ → List ℕ → Search → Stepped
 servedBy p align offset h s = shown (carried p h (takePlan p align offset s))
 
--- What the serving of a request leans on: its numbers are in their ranges, and no free head is so high that its shift would
--- not fit a word
+-- an align and an offset by which an address can be shifted
+pub record Shiftable (align offset : ℕ) : Type 0 where
+  pub align-from : 0 < align
+  pub align-to : align ≤ 64
+  pub offset-low : offset ≤ 65536
+
+-- What the serving of a request leans on: its numbers are in their ranges, no free head is so high that its shift would not fit a
+-- word, and those of blocks are cells
 pub record Ready (p : Params) (t : Words) (holder bin align offset : ℕ) : Type 0 where
   pub good : goodParams p ≡ true
   pub holder-from : 1 ≤ holder
   pub holder-to : holder ≤ 8
   pub bin-low : bin < bins
-  pub align-from : 0 < align
-  pub align-to : align ≤ 64
-  pub offset-low : offset ≤ 65536
+  pub shift : Shiftable align offset
   pub heads : (b : ℕ) → getD (t .free) b 0 < 2 ^ 47
+  pub cells : (b : ℕ) → b < p .blocks → (getD (t .free) b 0 ≡ 0 → ⊥) → HeadCell p t b

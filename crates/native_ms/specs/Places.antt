@@ -7,8 +7,10 @@ use Rattle.model.specs.declared.Params.{Params}
 use Rattle.model.specs.declared.Block.{Block}
 use Rattle.model.specs.declared.Offer.{Offer}
 use Rattle.model.specs.declared.Offer.the-variants.{Fresh}
-use Rattle.model.specs.Params.{goodParams, wordCount, heapBytes, biased}
-use Rattle.model.specs.Block.{cellsDown}
+use lib.ListN.{getD}
+use Rattle.model.specs.Params.{goodParams, wordCount, heapBytes, blockAt, biased}
+use Rattle.model.specs.Tables.{Words}
+use Rattle.model.specs.Block.{isCell, cellsDown}
 use Rattle.native_ms.specs.Block.{Linked}
 use Rattle.native_ms.specs.Bits.{anyBit}
 
@@ -31,6 +33,22 @@ pub record Standing (p : Params) (words heap b : ℕ) : Type 0 where
   pub count : words ≡ wordCount p
   pub whole : heap ≡ heapBytes p
   pub block : b < p .blocks
+
+-- the block b is at the head of the list l, and has a free cell
+pub record HasFree (p : Params) (t : Words) (l b : ℕ) : Type 0 where
+  pub some : getD (t .first) l 0 ≡ 0 → ⊥
+  pub here : b ≡ blockAt p (getD (t .first) l 0)
+  pub cell : getD (t .free) b 0 ≡ 0 → ⊥
+
+-- the free head of the block b is one of its whole cells, of a word or more
+pub record HeadCell (p : Params) (t : Words) (b : ℕ) : Type 0 where
+  pub cell : isCell p b (getD (t .size) b 0) (getD (t .free) b 0) ≡ true
+  pub word : 8 ≤ getD (t .size) b 0
+
+-- and it lies in words and a heap of the lengths that belong to good parameters
+pub record Takeable (p : Params) (t : Words) (words heap b : ℕ) : Type 0 where
+  pub stands : Standing p words heap b
+  pub head : HeadCell p t b
 
 -- a block that is offered is one
 pub record Offered (p : Params) (offer : Offer) : Type 0 where

@@ -1,14 +1,24 @@
 // Requests: what may be asked for, the size raised by the align, and the shift of an address.
 use crate::params;
 use model::Address;
+use model::Offer;
 use model::Params;
 ghost use mathlib.Core.Path.{_≡_};
 ghost use mathlib.Core.Bool.{true};
-ghost use Prim.Native.Nat.{_^_, _<_, _≤_};
+ghost use Prim.Native.Nat.{_%_, _^_, _<_, _≤_};
+ghost use lib.Dec.{eqb};
 ghost use Rattle.model.specs.Params.{goodParams};
 ghost use Rattle.model.specs.SizeClasses.{alignAllocation};
 ghost use Rattle.model.specs.Calls.{goodRequest};
 ghost use Rattle.native_ms.specs.Raised.{raisedTo, shiftedTo};
+
+// What an alloc asks for.
+pub struct Request {
+    pub size: usize,
+    pub align: usize,
+    pub offset: usize,
+    pub offer: Offer,
+}
 
 // A size raised by `get_maximum_aligned_size`, if a block can hold it. A sum past 2^64 is no size.
 pub enum Raised {
@@ -68,21 +78,33 @@ pub fn shift_address(region: Address, align: usize, offset: usize) -> Shifted
     Shifted::At(align_allocation(region, align, offset))
 }
 
+// Whether MIN, 4 or 8, divides x: most sizes are of whole words, and no division is made.
+fn min_divides(p: Params, x: usize) -> bool
+    requires { ⌜ goodParams p ≡ true ⌝ }
+    ensures { λ r. ⌜ r ≡ eqb (x % p .min) 0 ⌝ }
+{
+    if x % 8 == 0 {
+        return true;
+    }
+    if p.min == 8 {
+        return false;
+    }
+    x % 4 == 0
+}
+
 // Whether size, align and offset may be asked for.
 pub(crate) fn good_request(p: Params, size: usize, align: usize, offset: usize) -> bool
     requires { ⌜ goodParams p ≡ true ⌝ }
     ensures { λ r. ⌜ r ≡ goodRequest p size align offset ⌝ }
 {
-    let min = p.min;
-    let max = p.max;
-    if size % min != 0 {
+    if !min_divides(p, size) {
         return false;
     }
-    if offset % min != 0 {
+    if !min_divides(p, offset) {
         return false;
     }
     if 65536 < offset {
         return false;
     }
-    params::power_between(align, min, max)
+    params::power_between(align, p.min, p.max)
 }

@@ -1,5 +1,6 @@
 // A block: its cells, the two sweeps and the choice between them, init, the taking of a cell, release. Named after the
 // Rust's block.rs, with `init_block` and `block_alloc` of free_list_allocator.rs.
+mod cells;
 mod chain;
 mod known;
 mod marks;
@@ -20,7 +21,7 @@ ghost use Rattle.model.specs.Params.{goodParams, wordCount, lowerOk, biased};
 ghost use Rattle.model.specs.Tables.{view};
 ghost use Rattle.model.specs.Block.{simple, cellCount, cellsDown, isCell};
 ghost use Rattle.native_ms.specs.Block.{keptBy, Room, Linked, SweptBy, Swept, Initialised, Cleared, took, takeFree};
-ghost use Rattle.native_ms.specs.Places.{Known, WholeWords, Standing, Sweepable};
+ghost use Rattle.native_ms.specs.Places.{Known, WholeWords, Standing, Sweepable, Takeable};
 
 // State bytes.
 pub(crate) const UNALLOCATED: u8 = 0;
@@ -214,7 +215,7 @@ pub(crate) fn clear_block(w: &mut [usize], st: &mut [u8], b: Block)
     states::set_state(st, i, UNALLOCATED);
 }
 
-// A whole cell of `size` bytes of the block b stands at a.
+// A whole cell of `size` bytes of the block b stands at a. The division is last and a short one, of numbers that are small by then.
 pub(crate) fn is_cell(p: Params, b: Block, size: usize, a: Address) -> bool
     requires { ⌜ goodParams p ≡ true ⌝ }
     ensures { λ r. ⌜ r ≡ isCell p (b .0) size (a .0) ⌝ }
@@ -229,13 +230,14 @@ pub(crate) fn is_cell(p: Params, b: Block, size: usize, a: Address) -> bool
     if at < from {
         return false;
     }
-    if (at - from) % size != 0 {
-        return false;
-    }
     if bytes < size {
         return false;
     }
-    at - from <= bytes - size
+    let inside = at - from;
+    if bytes - size < inside {
+        return false;
+    }
+    (inside as u32) % (size as u32) == 0
 }
 
 // A link of the block b, whose cells have `size` bytes: 0 or a whole cell of it.
@@ -267,5 +269,27 @@ pub(crate) fn block_alloc(p: Params, w: &mut [usize], h: &mut [u8], b: Block) ->
     Taken::Cell {
         at: Address(cell),
         size: s,
+    }
+}
+
+// The same of a block whose free head is known to be a cell of it: no place is tested again.
+pub(crate) fn take_head(p: Params, w: &mut [usize], h: &mut [u8], b: Block) -> Taken
+    requires { ⌜ Takeable p (view (now w)) (length (now w)) (length (now h)) (b .0) ⌝ }
+    ensures { λ r. ⌜ took r (view (now (w .exit))) (now (h .exit)) ≡ takeFree p (b .0) (view (now (w .entry))) (now (h .entry)) ⌝ }
+{
+    let blocks = p.blocks;
+    let cell = known::free(w, blocks, b);
+    let size = known::size(w, blocks, b);
+    let at = cell - p.base;
+    let next = cells::word_at(h, at);
+    let ok = link_ok(p, b, size, Address(next));
+    if !ok {
+        return Taken::BadLink;
+    }
+    known::set_free(w, blocks, b, next);
+    cells::clear(h, at, size);
+    Taken::Cell {
+        at: Address(cell),
+        size,
     }
 }

@@ -3,11 +3,13 @@
 use crate::address;
 use crate::allocator;
 use crate::allocator::Raised;
+use crate::allocator::Request;
 use crate::block;
 use crate::global;
 use crate::params;
 use crate::size_class;
 use crate::sound;
+use crate::sound::known;
 use model::Address;
 use model::Block;
 use model::Offer;
@@ -20,13 +22,15 @@ ghost use mathlib.Core.Path.{_≡_};
 ghost use mathlib.Core.Bool.{true, _&&_};
 ghost use mathlib.Core.List.{List};
 ghost use Prim.Native.Nat.{ℕ, _<_, _≤_, _^_};
-ghost use Rattle.model.specs.Params.{goodParams, fits, minusLower};
+ghost use lib.ListN.{length};
+ghost use Rattle.model.specs.Params.{goodParams, headWords, fits, minusLower};
 ghost use Rattle.model.specs.Tables.{Words, view, tablesOf};
 ghost use Rattle.model.specs.SizeClasses.{binOf, raised};
 ghost use Rattle.model.specs.Global.{isHolder, hasReleased};
 ghost use Rattle.model.specs.Calls.{alloc, goodOffer, goodObject, mayLeave, mayRelease, phaseTest, bindTests, leaveTests, boundTests, requestTests, markTests, releaseTests, sharedTests, callTests};
 ghost use Rattle.model.specs.Promise.{lend};
 ghost use Rattle.native_ms.specs.Space.{inBlock};
+ghost use Rattle.native_ms.specs.SoundLent.{Lengths};
 ghost use Rattle.native_ms.specs.Checked.{lentTests, binAfter};
 
 // The bin to serve a request from, or its refusal.
@@ -123,33 +127,36 @@ pub(crate) fn check_leave(w: &[usize], holder: usize) -> Tested
     Tested::Passed
 }
 
+// The same where the words are known to be there.
 pub(crate) fn check_bound(w: &[usize], holder: usize) -> Tested
+    requires { ⌜ headWords ≤ length (now w) ⌝ }
     ensures { λ r. ⌜ r ≡ boundTests (view (now (w .entry))) holder ⌝ }
 {
-    match check_phase(w, global::RUNNING) {
-        Tested::Refused(r) => Tested::Refused(r),
-        Tested::Passed => {
-            if !global::is_bound(w, holder) {
-                return Tested::Refused(Refusal::BadHolder);
-            }
-            Tested::Passed
-        }
+    if known::phase(w) != global::RUNNING {
+        return Tested::Refused(Refusal::WrongPhase);
     }
+    if !global::is_holder(holder) {
+        return Tested::Refused(Refusal::BadHolder);
+    }
+    if known::bound(w, holder) != 1 {
+        return Tested::Refused(Refusal::BadHolder);
+    }
+    Tested::Passed
 }
 
 // ---- alloc
 
 // Whether the offer, if any, is a block that is not in use.
 fn good_offer(p: Params, st: &[u8], offer: Offer) -> bool
+    requires { ⌜ length (now st) ≡ p .blocks ⌝ }
     ensures { λ r. ⌜ ((w : Words) (m : List ℕ) → r ≡ goodOffer p (tablesOf w (now (st .entry)) m) offer) ⌝ }
 {
     match offer {
         Offer::Nothing => true,
         Offer::Fresh(b) => {
-            let i = b.0;
-            if i < p.blocks {
-                let s = states::state(st, i);
-                return s == block::UNALLOCATED;
+            if b.0 < p.blocks {
+                let state = known::state(st, b);
+                return state == block::UNALLOCATED;
             }
             false
         }
@@ -157,27 +164,21 @@ fn good_offer(p: Params, st: &[u8], offer: Offer) -> bool
 }
 
 // The tests of what is asked for.
-fn check_request(
-    p: Params,
-    st: &[u8],
-    size: usize,
-    align: usize,
-    offset: usize,
-    offer: Offer,
-) -> Checked
-    requires { ⌜ goodParams p ≡ true ⌝ }
-    ensures { λ r. ⌜ ((w : Words) (m : List ℕ) → r ≡ binAfter (requestTests p (tablesOf w (now (st .entry)) m) size align offset offer) (binOf p (raised p size align))) ⌝ }
+fn check_request(p: Params, st: &[u8], request: Request) -> Checked
+    requires { ⌜ (goodParams p ≡ true) × (length (now st) ≡ p .blocks) ⌝ }
+    ensures { λ r. ⌜ ((w : Words) (m : List ℕ) → r ≡ binAfter (requestTests p (tablesOf w (now (st .entry)) m) (request .size) (request .align) (request .offset) (request .offer)) (binOf p (raised p (request .size) (request .align)))) ⌝ }
 {
-    if !allocator::good_request(p, size, align, offset) {
+    if !allocator::good_request(p, request.size, request.align, request.offset) {
         return Checked::Refused(Refusal::BadRequest);
     }
-    match allocator::get_maximum_aligned_size(p, size, align) {
+    match allocator::get_maximum_aligned_size(p, request.size, request.align) {
         Raised::TooBig => Checked::Refused(Refusal::TooBig),
-        Raised::Fits(s) => {
+        Raised::Fits(size) => {
+            let offer = request.offer;
             if !good_offer(p, st, offer) {
                 return Checked::Refused(Refusal::BadOffer);
             }
-            Checked::Bin(size_class::mi_bin_from_size(s))
+            Checked::Bin(size_class::mi_bin_from_size(size))
         }
     }
 }
@@ -187,17 +188,14 @@ pub(crate) fn check_alloc(
     w: &[usize],
     st: &[u8],
     holder: usize,
-    size: usize,
-    align: usize,
-    offset: usize,
-    offer: Offer,
+    request: Request,
 ) -> Checked
-    requires { ⌜ goodParams p ≡ true ⌝ }
-    ensures { λ r. ⌜ ((m : List ℕ) → r ≡ binAfter (callTests p (tablesOf (view (now (w .entry))) (now (st .entry)) m) (alloc holder size align offset offer)) (binOf p (raised p size align))) ⌝ }
+    requires { ⌜ Lengths p (now w) (now st) ⌝ }
+    ensures { λ r. ⌜ ((m : List ℕ) → r ≡ binAfter (callTests p (tablesOf (view (now (w .entry))) (now (st .entry)) m) (alloc holder (request .size) (request .align) (request .offset) (request .offer))) (binOf p (raised p (request .size) (request .align)))) ⌝ }
 {
     match check_bound(w, holder) {
         Tested::Refused(r) => Checked::Refused(r),
-        Tested::Passed => check_request(p, st, size, align, offset, offer),
+        Tested::Passed => check_request(p, st, request),
     }
 }
 

@@ -3,12 +3,15 @@
 // need.
 use crate::address;
 use crate::allocator;
+use crate::allocator::Request;
 use crate::block;
 use crate::block::Taken;
 use crate::block_list;
 use crate::checks;
 use crate::checks::Checked;
 use crate::size_class;
+use crate::sound::known;
+use crate::sound::lists;
 use model::ABANDONED;
 use model::Address;
 use model::AllocAnswer;
@@ -20,23 +23,24 @@ use model::Tested;
 use words::states;
 use words::tables;
 ghost use mathlib.Core.Path.{_≡_};
-ghost use mathlib.Core.Bool.{true};
-ghost use Prim.Native.Nat.{_<_, _≤_};
+ghost use mathlib.Core.Bool.{true, false};
+ghost use mathlib.Core.List.{List, []};
+ghost use Prim.Native.Nat.{ℕ, _<_, _≤_};
 ghost use lib.ListN.{length};
 ghost use Rattle.model.specs.Base.{flag};
-ghost use Rattle.model.specs.Params.{goodParams};
+ghost use Rattle.model.specs.Params.{goodParams, wordCount, lists, blockAt};
 ghost use Rattle.model.specs.declared.Tested.the-variants.{Passed};
 ghost use Rattle.model.specs.Tables.{view, tablesOf};
 ghost use Rattle.model.specs.BlockList.{popped};
 ghost use Rattle.model.specs.FreeListAllocator.{findFreeBlockWith, recycleLocalBlocks, acquireAbandoned, findBlock};
-ghost use Rattle.model.specs.Calls.{alloc};
+ghost use Rattle.model.specs.Calls.{alloc, takeCell};
 ghost use Rattle.model.specs.Answers.{allocReply};
 ghost use Rattle.native_ms.specs.Closing.{Filed, seen, closed, Searched};
 ghost use Rattle.model.specs.Promise.{lend, Promised};
 ghost use Rattle.native_ms.specs.Abandoned.{nextOf, popAbandoned, TakenOver};
-ghost use Rattle.native_ms.specs.Ending.{ended, closedSearch, acquireGlobal, Freshened, stepped, servedBy, Ready, Does};
+ghost use Rattle.native_ms.specs.Ending.{ended, closedSearch, acquireGlobal, Freshened, stepped, shown, servedBy, Ready, Shiftable, Does};
 ghost use Rattle.native_ms.specs.Checked.{lentTests};
-ghost use Rattle.native_ms.specs.Places.{Known, Standing, Offered};
+ghost use Rattle.native_ms.specs.Places.{Known, Standing, Offered, HasFree, Takeable};
 
 // What a search gives: the start of a block with a free cell, 0 for none, and how many blocks were swept.
 pub(crate) struct Found {
@@ -52,6 +56,15 @@ pub(crate) struct Search {
     pub fresh: bool,
 }
 
+// What an alloc that passed its tests looks for.
+pub(crate) struct Wanted {
+    pub holder: usize,
+    pub bin: usize,
+    pub align: usize,
+    pub offset: usize,
+    pub offer: Offer,
+}
+
 // The next abandoned block of a bin, 0 for none, and whether it waits for a sweep.
 pub(crate) struct Abandoned {
     pub at: Address,
@@ -63,21 +76,21 @@ pub(crate) fn find_free_block_with(p: Params, w: &mut [usize], avail: usize, ful
     requires { ⌜ (goodParams p ≡ true) × (avail < 1470) × (full < 1470) ⌝ }
     ensures { λ r. ⌜ popped (r .0) (view (now (w .exit))) ≡ findFreeBlockWith (p .blocks) p avail full (view (now (w .entry))) ⌝ }
 {
-    let mut k = p.blocks;
-    while 0 < k {
-        let f = tables::first(w, avail);
-        if f == 0 {
+    let mut left = p.blocks;
+    while 0 < left {
+        let first = tables::first(w, avail);
+        if first == 0 {
             return Address(0);
         }
-        let b = address::block_at(p, Address(f));
-        let i = b.0;
-        let cell = tables::free(w, i);
+        let b = address::block_at(p, Address(first));
+        let number = b.0;
+        let cell = tables::free(w, number);
         if cell != 0 {
-            return Address(f);
+            return Address(first);
         }
         block_list::pop(p, w, avail);
         block_list::push(p, w, full, b);
-        k = k - 1;
+        left = left - 1;
     }
     Address(0)
 }
@@ -87,8 +100,8 @@ fn file_block(p: Params, w: &mut [usize], avail: usize, full: usize, b: Block) -
     requires { ⌜ (goodParams p ≡ true) × (avail < 1470) × (full < 1470) ⌝ }
     ensures { λ r. ⌜ Filed p avail full (b .0) (view (now (w .entry))) r (view (now (w .exit))) ⌝ }
 {
-    let i = b.0;
-    let cell = tables::free(w, i);
+    let number = b.0;
+    let cell = tables::free(w, number);
     if cell == 0 {
         block_list::push(p, w, full, b);
         return false;
@@ -112,29 +125,29 @@ pub(crate) fn recycle_local_blocks(
     let from = address::unswept(owner, bin);
     let avail = address::available(owner, bin);
     let full = address::consumed(owner, bin);
-    let mut k = p.blocks;
-    let mut n: usize = 0;
-    while 0 < k {
-        let f = block_list::pop(p, w, from);
-        let v = f.0;
-        if v == 0 {
+    let mut left = p.blocks;
+    let mut swept: usize = 0;
+    while 0 < left {
+        let at = block_list::pop(p, w, from);
+        let start = at.0;
+        if start == 0 {
             return Found {
                 at: Address(0),
-                swept: n,
+                swept,
             };
         }
-        let b = address::block_at(p, f);
+        let b = address::block_at(p, at);
         block::sweep(p, w, m, h, b);
-        n = n + 1;
+        swept = swept + 1;
         let free = file_block(p, w, avail, full, b);
         if free {
-            return Found { at: f, swept: n };
+            return Found { at, swept };
         }
-        k = k - 1;
+        left = left - 1;
     }
     Found {
         at: Address(0),
-        swept: n,
+        swept,
     }
 }
 
@@ -144,19 +157,16 @@ fn pop_abandoned(p: Params, w: &mut [usize], bin: usize) -> Abandoned
     requires { ⌜ (goodParams p ≡ true) × (bin < 49) ⌝ }
     ensures { λ r. ⌜ nextOf (r .at .0) (r .unswept) (view (now (w .exit))) ≡ popAbandoned p bin (view (now (w .entry))) ⌝ }
 {
-    let first = address::available(ABANDONED, bin);
-    let second = address::unswept(ABANDONED, bin);
-    let f = block_list::pop(p, w, first);
-    let v = f.0;
-    if v != 0 {
-        return Abandoned {
-            at: f,
-            unswept: false,
-        };
+    let avail = address::available(ABANDONED, bin);
+    let waiting = address::unswept(ABANDONED, bin);
+    let at = block_list::pop(p, w, avail);
+    let start = at.0;
+    if start != 0 {
+        return Abandoned { at, unswept: false };
     }
-    let g = block_list::pop(p, w, second);
+    let second = block_list::pop(p, w, waiting);
     Abandoned {
-        at: g,
+        at: second,
         unswept: true,
     }
 }
@@ -169,18 +179,19 @@ fn take_over(
     h: &mut [u8],
     holder: usize,
     bin: usize,
-    b: Block,
-    unswept: bool,
+    next: Abandoned,
 ) -> bool
     requires { ⌜ (Known p (length (now w)) (length (now m)) (length (now h))) × (1 ≤ holder) × (holder ≤ 8) × (bin < 49) ⌝ }
-    ensures { λ r. ⌜ TakenOver p (now (m .entry)) holder bin (b .0) unswept (view (now (w .entry))) (now (h .entry)) r (view (now (w .exit))) (now (h .exit)) ⌝ }
+    ensures { λ r. ⌜ TakenOver p (now (m .entry)) holder bin (blockAt p (next .at .0)) (next .unswept) (view (now (w .entry))) (now (h .entry)) r (view (now (w .exit))) (now (h .exit)) ⌝ }
 {
-    let i = b.0;
+    let at = next.at;
+    let b = address::block_at(p, at);
+    let number = b.0;
     let owner = address::local_sets(holder);
     let avail = address::available(owner, bin);
     let full = address::consumed(owner, bin);
-    tables::set_tls(w, i, holder);
-    if unswept {
+    tables::set_tls(w, number, holder);
+    if next.unswept {
         block::sweep(p, w, m, h, b);
         return file_block(p, w, avail, full, b);
     }
@@ -210,30 +221,28 @@ pub(crate) fn acquire_abandoned(
     requires { ⌜ (Known p (length (now w)) (length (now m)) (length (now h))) × (1 ≤ holder) × (holder ≤ 8) × (bin < 49) × (before ≤ 1024) ⌝ }
     ensures { λ r. ⌜ seen (r .at .0) (r .swept) (view (now (w .exit))) (now (h .exit)) ≡ closed p before (now (h .entry)) (acquireAbandoned (p .blocks) p (now (m .entry)) holder bin (view (now (w .entry)))) ⌝ }
 {
-    let mut k = p.blocks;
-    let mut n = before;
-    while 0 < k {
-        let f = pop_abandoned(p, w, bin);
-        let at = f.at;
-        let unswept = f.unswept;
-        let v = at.0;
-        if v == 0 {
+    let mut left = p.blocks;
+    let mut swept = before;
+    while 0 < left {
+        let next = pop_abandoned(p, w, bin);
+        let at = next.at;
+        let start = at.0;
+        if start == 0 {
             return Found {
                 at: Address(0),
-                swept: n,
+                swept,
             };
         }
-        let b = address::block_at(p, at);
-        let free = take_over(p, w, m, h, holder, bin, b, unswept);
-        n = n + one_if(unswept);
+        let free = take_over(p, w, m, h, holder, bin, next);
+        swept = swept + one_if(next.unswept);
         if free {
-            return Found { at, swept: n };
+            return Found { at, swept };
         }
-        k = k - 1;
+        left = left - 1;
     }
     Found {
         at: Address(0),
-        swept: n,
+        swept,
     }
 }
 
@@ -250,13 +259,13 @@ fn acquire_fresh(
     requires { ⌜ (Standing p (length (now w)) (length (now h)) (b .0)) × (1 ≤ holder) × (holder ≤ 8) × (bin < 49) ⌝ }
     ensures { λ _. ⌜ Freshened p holder bin (b .0) (view (now (w .entry))) (now (st .entry)) (now (h .entry)) (view (now (w .exit))) (now (st .exit)) (now (h .exit)) ⌝ }
 {
-    let i = b.0;
+    let number = b.0;
     let owner = address::local_sets(holder);
     let avail = address::available(owner, bin);
-    let s = size_class::class_bytes(bin);
+    let size = size_class::class_bytes(bin);
     block_list::push(p, w, avail, b);
-    block::init_block(p, w, h, b, s, holder);
-    states::set_state(st, i, block::UNMARKED);
+    block::init_block(p, w, h, b, size, holder);
+    states::set_state(st, number, block::UNMARKED);
 }
 
 // A block from outside the holder's lists: an abandoned one, or the offer. `before` blocks were swept already.
@@ -266,19 +275,20 @@ pub(crate) fn acquire_global_block(
     st: &mut [u8],
     m: &[u8],
     h: &mut [u8],
-    holder: usize,
-    bin: usize,
-    offer: Offer,
+    wanted: Wanted,
     before: usize,
 ) -> Search
-    requires { ⌜ (Known p (length (now w)) (length (now m)) (length (now h))) × (1 ≤ holder) × (holder ≤ 8) × (bin < 49) × (before ≤ 1024) × Offered p offer ⌝ }
-    ensures { λ r. ⌜ ended (r .at .0) (r .swept) (r .fresh) (tablesOf (view (now (w .exit))) (now (st .exit)) (now (m .entry))) (now (h .exit)) ≡ closedSearch p before (now (h .entry)) (acquireGlobal p holder bin offer (tablesOf (view (now (w .entry))) (now (st .entry)) (now (m .entry)))) ⌝ }
+    requires { ⌜ (Known p (length (now w)) (length (now m)) (length (now h))) × (1 ≤ wanted .holder) × (wanted .holder ≤ 8) × (wanted .bin < 49) × (before ≤ 1024) × Offered p (wanted .offer) ⌝ }
+    ensures { λ r. ⌜ ended (r .at .0) (r .swept) (r .fresh) (tablesOf (view (now (w .exit))) (now (st .exit)) (now (m .entry))) (now (h .exit)) ≡ closedSearch p before (now (h .entry)) (acquireGlobal p (wanted .holder) (wanted .bin) (wanted .offer) (tablesOf (view (now (w .entry))) (now (st .entry)) (now (m .entry)))) ⌝ }
 {
-    let f = acquire_abandoned(p, w, m, h, holder, bin, before);
-    let at = f.at;
-    let swept = f.swept;
-    let v = at.0;
-    if v != 0 {
+    let holder = wanted.holder;
+    let bin = wanted.bin;
+    let offer = wanted.offer;
+    let found = acquire_abandoned(p, w, m, h, holder, bin, before);
+    let at = found.at;
+    let swept = found.swept;
+    let start = at.0;
+    if start != 0 {
         return Search {
             at,
             swept,
@@ -293,9 +303,9 @@ pub(crate) fn acquire_global_block(
         },
         Offer::Fresh(b) => {
             acquire_fresh(p, w, st, h, holder, bin, b);
-            let start = address::start(p, b);
+            let offered = address::start(p, b);
             Search {
-                at: start,
+                at: offered,
                 swept,
                 fresh: true,
             }
@@ -310,74 +320,143 @@ pub(crate) fn find_block(
     st: &mut [u8],
     m: &[u8],
     h: &mut [u8],
-    holder: usize,
-    bin: usize,
-    offer: Offer,
+    wanted: Wanted,
 ) -> Search
-    requires { ⌜ (Known p (length (now w)) (length (now m)) (length (now h))) × (1 ≤ holder) × (holder ≤ 8) × (bin < 49) × Offered p offer ⌝ }
-    ensures { λ r. ⌜ ended (r .at .0) (r .swept) (r .fresh) (tablesOf (view (now (w .exit))) (now (st .exit)) (now (m .entry))) (now (h .exit)) ≡ closedSearch p 0 (now (h .entry)) (findBlock p holder bin offer (tablesOf (view (now (w .entry))) (now (st .entry)) (now (m .entry)))) ⌝ }
+    requires { ⌜ (Known p (length (now w)) (length (now m)) (length (now h))) × (1 ≤ wanted .holder) × (wanted .holder ≤ 8) × (wanted .bin < 49) × Offered p (wanted .offer) ⌝ }
+    ensures { λ r. ⌜ ended (r .at .0) (r .swept) (r .fresh) (tablesOf (view (now (w .exit))) (now (st .exit)) (now (m .entry))) (now (h .exit)) ≡ closedSearch p 0 (now (h .entry)) (findBlock p (wanted .holder) (wanted .bin) (wanted .offer) (tablesOf (view (now (w .entry))) (now (st .entry)) (now (m .entry)))) ⌝ }
 {
-    let owner = address::local_sets(holder);
+    let bin = wanted.bin;
+    let owner = address::local_sets(wanted.holder);
     let avail = address::available(owner, bin);
     let full = address::consumed(owner, bin);
-    let a = find_free_block_with(p, w, avail, full);
-    let v = a.0;
-    if v != 0 {
+    let skimmed = find_free_block_with(p, w, avail, full);
+    let start = skimmed.0;
+    if start != 0 {
         return Search {
-            at: a,
+            at: skimmed,
             swept: 0,
             fresh: false,
         };
     }
-    let r = recycle_local_blocks(p, w, m, h, owner, bin);
-    let at = r.at;
-    let swept = r.swept;
-    let x = at.0;
-    if x != 0 {
+    let recycled = recycle_local_blocks(p, w, m, h, owner, bin);
+    let at = recycled.at;
+    let swept = recycled.swept;
+    let second = at.0;
+    if second != 0 {
         return Search {
             at,
             swept,
             fresh: false,
         };
     }
-    acquire_global_block(p, w, st, m, h, holder, bin, offer, swept)
+    acquire_global_block(p, w, st, m, h, wanted, swept)
 }
 
 // Finds a block of the bin and takes a cell of it.
-fn serve(
+fn serve_searched(
     p: Params,
     w: &mut [usize],
     st: &mut [u8],
     m: &[u8],
     h: &mut [u8],
-    holder: usize,
-    bin: usize,
-    align: usize,
-    offset: usize,
-    offer: Offer,
+    wanted: Wanted,
 ) -> AllocAnswer
-    requires { ⌜ (Ready p (view (now w)) holder bin align offset) × (Known p (length (now w)) (length (now m)) (length (now h))) × Offered p offer ⌝ }
-    ensures { λ r. ⌜ stepped (allocReply r) (tablesOf (view (now (w .exit))) (now (st .exit)) (now (m .entry))) (now (h .exit)) ≡ servedBy p align offset (now (h .entry)) (findBlock p holder bin offer (tablesOf (view (now (w .entry))) (now (st .entry)) (now (m .entry)))) ⌝ }
+    requires { ⌜ (Ready p (view (now w)) (wanted .holder) (wanted .bin) (wanted .align) (wanted .offset)) × (Known p (length (now w)) (length (now m)) (length (now h))) × Offered p (wanted .offer) ⌝ }
+    ensures { λ r. ⌜ stepped (allocReply r) (tablesOf (view (now (w .exit))) (now (st .exit)) (now (m .entry))) (now (h .exit)) ≡ servedBy p (wanted .align) (wanted .offset) (now (h .entry)) (findBlock p (wanted .holder) (wanted .bin) (wanted .offer) (tablesOf (view (now (w .entry))) (now (st .entry)) (now (m .entry)))) ⌝ }
 {
-    let s = find_block(p, w, st, m, h, holder, bin, offer);
-    let at = s.at;
-    let v = at.0;
-    if v == 0 {
+    let search = find_block(p, w, st, m, h, wanted);
+    let at = search.at;
+    let start = at.0;
+    if start == 0 {
         return AllocAnswer::Refused(Refusal::Exhausted);
     }
     let b = address::block_at(p, at);
     match block::block_alloc(p, w, h, b) {
         Taken::BadLink => AllocAnswer::Refused(Refusal::BadLink),
         Taken::Cell { at: cell, size } => {
+            let address = allocator::align_allocation(cell, wanted.align, wanted.offset);
+            AllocAnswer::Served {
+                address,
+                cell_size: size,
+                offer_used: search.fresh,
+                swept: search.swept,
+            }
+        }
+    }
+}
+
+// ---- the short way
+
+// The block at the head of a list, if it has a free cell; else a number past the last block. Its number is found by a shift.
+fn free_head(p: Params, w: &[usize], list: usize) -> Block
+    requires { ⌜ (goodParams p ≡ true) × (length (now w) ≡ wordCount p) × (list < lists) ⌝ }
+    ensures { λ r. ⌜ (r .0 < p .blocks → HasFree p (view (now (w .entry))) list (r .0)) ⌝ }
+{
+    let base = p.base;
+    let blocks = p.blocks;
+    let first = known::first(w, list);
+    let start = first.0;
+    if start < base {
+        return Block(blocks);
+    }
+    let log = lists::log_of(p);
+    let number = (start - base) >> log;
+    if blocks <= number {
+        return Block(blocks);
+    }
+    let cell = known::free(w, blocks, Block(number));
+    if cell.0 == 0 {
+        return Block(blocks);
+    }
+    Block(number)
+}
+
+// Takes a cell of the block b, whose free head is a cell.
+fn serve_head(
+    p: Params,
+    w: &mut [usize],
+    h: &mut [u8],
+    b: Block,
+    align: usize,
+    offset: usize,
+) -> AllocAnswer
+    requires { ⌜ (Takeable p (view (now w)) (length (now w)) (length (now h)) (b .0)) × Shiftable align offset ⌝ }
+    ensures { λ r. ⌜ ((st ms : List ℕ) → stepped (allocReply r) (tablesOf (view (now (w .exit))) st ms) (now (h .exit)) ≡ shown (takeCell p (tablesOf (view (now (w .entry))) st ms) [] (now (h .entry)) (b .0) align offset false)) ⌝ }
+{
+    match block::take_head(p, w, h, b) {
+        Taken::BadLink => AllocAnswer::Refused(Refusal::BadLink),
+        Taken::Cell { at: cell, size } => {
             let address = allocator::align_allocation(cell, align, offset);
             AllocAnswer::Served {
                 address,
                 cell_size: size,
-                offer_used: s.fresh,
-                swept: s.swept,
+                offer_used: false,
+                swept: 0,
             }
         }
     }
+}
+
+// A cell of the block at the head of the holder's available list, where it has one: most allocs end here, and nothing is
+// searched. Else the whole search.
+fn serve(
+    p: Params,
+    w: &mut [usize],
+    st: &mut [u8],
+    m: &[u8],
+    h: &mut [u8],
+    wanted: Wanted,
+) -> AllocAnswer
+    requires { ⌜ (Ready p (view (now w)) (wanted .holder) (wanted .bin) (wanted .align) (wanted .offset)) × (Known p (length (now w)) (length (now m)) (length (now h))) × Offered p (wanted .offer) ⌝ }
+    ensures { λ r. ⌜ stepped (allocReply r) (tablesOf (view (now (w .exit))) (now (st .exit)) (now (m .entry))) (now (h .exit)) ≡ servedBy p (wanted .align) (wanted .offset) (now (h .entry)) (findBlock p (wanted .holder) (wanted .bin) (wanted .offer) (tablesOf (view (now (w .entry))) (now (st .entry)) (now (m .entry)))) ⌝ }
+{
+    let owner = address::local_sets(wanted.holder);
+    let list = address::available(owner, wanted.bin);
+    let b = free_head(p, w, list);
+    if b.0 < p.blocks {
+        return serve_head(p, w, h, b, wanted.align, wanted.offset);
+    }
+    serve_searched(p, w, st, m, h, wanted)
 }
 
 // A cell for a holder, on tables that are sound.
@@ -388,17 +467,24 @@ pub(crate) fn do_alloc(
     m: &[u8],
     h: &mut [u8],
     holder: usize,
-    size: usize,
-    align: usize,
-    offset: usize,
-    offer: Offer,
+    request: Request,
 ) -> AllocAnswer
     requires { ⌜ lentTests p (lend (now w) (now st) (now m) (now h)) ≡ Passed ⌝ }
-    ensures { λ r. ⌜ Does p (tablesOf (view (now (w .entry))) (now (st .entry)) (now (m .entry))) (now (h .entry)) (alloc holder size align offset offer) (allocReply r) (tablesOf (view (now (w .exit))) (now (st .exit)) (now (m .entry))) (now (h .exit)) ⌝ }
+    ensures { λ r. ⌜ Does p (tablesOf (view (now (w .entry))) (now (st .entry)) (now (m .entry))) (now (h .entry)) (alloc holder (request .size) (request .align) (request .offset) (request .offer)) (allocReply r) (tablesOf (view (now (w .exit))) (now (st .exit)) (now (m .entry))) (now (h .exit)) ⌝ }
 {
-    match checks::check_alloc(p, w, st, holder, size, align, offset, offer) {
+    match checks::check_alloc(p, w, st, holder, request) {
         Checked::Refused(r) => AllocAnswer::Refused(r),
-        Checked::Bin(bin) => serve(p, w, st, m, h, holder, bin, align, offset, offer),
+        Checked::Bin(bin) => {
+            let offer = request.offer;
+            let wanted = Wanted {
+                holder,
+                bin,
+                align: request.align,
+                offset: request.offset,
+                offer,
+            };
+            serve(p, w, st, m, h, wanted)
+        }
     }
 }
 
@@ -410,26 +496,12 @@ pub fn alloc(
     marks: &[u8],
     heap: &mut [u8],
     holder: usize,
-    size: usize,
-    align: usize,
-    offset: usize,
-    offer: Offer,
+    request: Request,
 ) -> AllocAnswer
-    ensures { λ r. ⌜ Promised p (lend (now (words .entry)) (now (states .entry)) (now (marks .entry)) (now (heap .entry))) (alloc holder size align offset offer) (allocReply r) (lend (now (words .exit)) (now (states .exit)) (now (marks .entry)) (now (heap .exit))) ⌝ }
+    ensures { λ r. ⌜ Promised p (lend (now (words .entry)) (now (states .entry)) (now (marks .entry)) (now (heap .entry))) (alloc holder (request .size) (request .align) (request .offset) (request .offer)) (allocReply r) (lend (now (words .exit)) (now (states .exit)) (now (marks .entry)) (now (heap .exit))) ⌝ }
 {
     match checks::check_lent(p, words, states, marks, heap) {
         Tested::Refused(r) => AllocAnswer::Refused(r),
-        Tested::Passed => do_alloc(
-            p,
-            words,
-            states,
-            marks,
-            heap,
-            holder,
-            size,
-            align,
-            offset,
-            offer,
-        ),
+        Tested::Passed => do_alloc(p, words, states, marks, heap, holder, request),
     }
 }

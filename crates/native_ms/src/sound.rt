@@ -2,8 +2,8 @@
 // the phase, the holders and the released marks. The lengths were tested before, so that a word of a block or a list is read
 // with no test of its index (`known`).
 mod blocks;
-mod known;
-mod lists;
+pub(crate) mod known;
+pub(crate) mod lists;
 mod parts;
 
 use model::CLASS_WORDS;

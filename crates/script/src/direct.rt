@@ -14,6 +14,7 @@ use model::Offer;
 use model::PagesAnswer;
 use model::Params;
 use model::SETS;
+use native_ms::allocator::Request;
 use native_ms::free_list_allocator;
 use native_ms::global;
 
@@ -40,7 +41,13 @@ fn alloc(
     v: &[usize; numbers::MOST_WORDS],
     offer: Offer,
 ) -> Reply {
-    match free_list_allocator::alloc(p, w, st, marks, heap, v[0], v[1], v[2], v[3], offer) {
+    let request = Request {
+        size: v[1],
+        align: v[2],
+        offset: v[3],
+        offer,
+    };
+    match free_list_allocator::alloc(p, w, st, marks, heap, v[0], request) {
         AllocAnswer::Refused(r) => Reply::Refused(r),
         AllocAnswer::Served {
             address,

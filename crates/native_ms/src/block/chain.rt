@@ -3,8 +3,9 @@ use crate::block::marks;
 use crate::memory;
 use model::Address;
 use model::Params;
+ghost use mathlib.Core.Path.{_≡_};
 ghost use mathlib.Core.Bool.{Bool, false};
-ghost use Prim.Native.Nat.{ℕ, _+_, _*_, _/_, _≤_, _<_};
+ghost use Prim.Native.Nat.{ℕ, _+_, _*_, _/_, _%_, _≤_, _<_};
 ghost use lib.ListN.{length};
 ghost use Rattle.model.specs.Block.{cellsDown};
 ghost use Rattle.native_ms.specs.Block.{keptBy, Linked};
@@ -96,6 +97,73 @@ pub(crate) fn link_few(
     last
 }
 
+// The same of cells of eight words, where the bits of a cell are those of one byte.
+pub(crate) fn link_bytes(
+    p: Params,
+    m: &[u8],
+    h: &mut [u8],
+    at: usize,
+    s: usize,
+    n: usize,
+    first: usize,
+    head: usize,
+) -> usize
+    requires { ⌜ (Inside p (length (now m)) (length (now h)) at s n first) × (s ≡ 64) × (first % 8 ≡ 0) ⌝ }
+    ensures { λ r. ⌜ ((kept : ℕ → Bool) → ByBits p (now (m .entry)) kept s at (at + n * s) first (s / 8) → Extends p kept s at n head (now (h .entry)) r (now (h .exit))) ⌝ }
+{
+    let mut k: usize = 0;
+    let mut next = at;
+    let mut bit = first;
+    let mut last = head;
+    while k < n {
+        let offset = next;
+        let g = bit;
+        next = next + s;
+        bit = bit + 8;
+        k = k + 1;
+        let kept = marks::any_whole(m, g);
+        if !kept {
+            memory::put_word(h, offset, last);
+            last = p.base + offset;
+        }
+    }
+    last
+}
+
+// The same where they lie across two bytes, each time in the same way: what is shifted out is known before the loop.
+pub(crate) fn link_windows(
+    p: Params,
+    m: &[u8],
+    h: &mut [u8],
+    at: usize,
+    s: usize,
+    n: usize,
+    first: usize,
+    head: usize,
+) -> usize
+    requires { ⌜ (Inside p (length (now m)) (length (now h)) at s n first) × (s ≡ 64) × (0 < first % 8) ⌝ }
+    ensures { λ r. ⌜ ((kept : ℕ → Bool) → ByBits p (now (m .entry)) kept s at (at + n * s) first (s / 8) → Extends p kept s at n head (now (h .entry)) r (now (h .exit))) ⌝ }
+{
+    let shift = first % 8;
+    let mut k: usize = 0;
+    let mut next = at;
+    let mut bit = first;
+    let mut last = head;
+    while k < n {
+        let offset = next;
+        let g = bit;
+        next = next + s;
+        bit = bit + 8;
+        k = k + 1;
+        let kept = marks::any_window(m, g, shift);
+        if !kept {
+            memory::put_word(h, offset, last);
+            last = p.base + offset;
+        }
+    }
+    last
+}
+
 // The same of larger cells.
 pub(crate) fn link_many(
     p: Params,
@@ -146,6 +214,12 @@ pub(crate) fn link_inner(
 {
     if s == 8 {
         return link_by_bit(p, m, h, at, s, n, first, head);
+    }
+    if s == 64 {
+        if first % 8 == 0 {
+            return link_bytes(p, m, h, at, s, n, first, head);
+        }
+        return link_windows(p, m, h, at, s, n, first, head);
     }
     if s <= 64 {
         return link_few(p, m, h, at, s, n, first, head);

@@ -44,6 +44,32 @@ pub(crate) fn any_few(m: &[u8], g: usize, n: usize) -> bool
     true
 }
 
+// Whether one of the eight bits from g on is set, which are those of a byte.
+pub(crate) fn any_whole(m: &[u8], g: usize) -> bool
+    requires { ⌜ (g / 8 < length (now m)) × (g % 8 ≡ 0) ⌝ }
+    ensures { λ r. ⌜ r ≡ anyBit (now (m .entry)) g 8 ⌝ }
+{
+    let i = g / 8;
+    if m[i] == 0 {
+        return false;
+    }
+    true
+}
+
+// Whether one of the eight bits from g on is set, which lie in two bytes, `shift` bits up.
+pub(crate) fn any_window(m: &[u8], g: usize, shift: usize) -> bool
+    requires { ⌜ (g / 8 + 1 < length (now m)) × (g % 8 ≡ shift) ⌝ }
+    ensures { λ r. ⌜ r ≡ anyBit (now (m .entry)) g 8 ⌝ }
+{
+    let i = g / 8;
+    let pair = wide(m[i]) + wide(m[i + 1]) * 256;
+    let seen = (pair >> shift) & 255;
+    if seen == 0 {
+        return false;
+    }
+    true
+}
+
 // Whether one of the bits from g on is set, up to the next byte.
 fn any_head(m: &[u8], g: usize) -> bool
     requires { ⌜ g / 8 < length (now m) ⌝ }

@@ -7,11 +7,11 @@ use model::HEAD_WORDS;
 use model::LISTS;
 use model::SETS;
 ghost use mathlib.Core.Path.{_≡_};
-ghost use Prim.Native.Nat.{_+_, _*_, _<_, _≤_};
+ghost use Prim.Native.Nat.{_+_, _-_, _*_, _<_, _≤_};
 ghost use lib.Dec.{eqb};
 ghost use lib.ListN.{length, getD};
 ghost use Rattle.model.specs.Base.{allBelow};
-ghost use Rattle.model.specs.Params.{lists, headWords, blockTables};
+ghost use Rattle.model.specs.Params.{lists, headWords, blockTables, holders};
 ghost use Rattle.model.specs.Tables.{view, blocksIn, blockTable};
 ghost use Rattle.native_ms.specs.SoundLent.{zeroAt, Firsts};
 
@@ -79,6 +79,21 @@ pub(crate) fn last(words: &[usize], list: usize) -> Address
 {
     let word = words[LISTS + list];
     Address(word)
+}
+
+pub(crate) fn phase(words: &[usize]) -> usize
+    requires { ⌜ headWords ≤ length (now words) ⌝ }
+    ensures { λ r. ⌜ r ≡ view (now (words .entry)) .phase ⌝ }
+{
+    words[2 * LISTS]
+}
+
+// Of a holder, 1 to 8: the word behind the phase's for the first one.
+pub(crate) fn bound(words: &[usize], holder: usize) -> usize
+    requires { ⌜ (headWords ≤ length (now words)) × (1 ≤ holder) × (holder ≤ holders) ⌝ }
+    ensures { λ r. ⌜ r ≡ getD (view (now (words .entry)) .bound) (holder - 1) 0 ⌝ }
+{
+    words[2 * LISTS + holder]
 }
 
 pub(crate) fn state(states: &[u8], b: Block) -> u8

@@ -23,20 +23,8 @@ pub(crate) fn log_of(p: Params) -> usize
     requires { ⌜ goodParams p ≡ true ⌝ }
     ensures { λ r. ⌜ (p .bytes ≡ 2 ^ r) × (r ≤ 16) ⌝ }
 {
-    let bytes = p.bytes;
-    if bytes == 4096 {
-        return 12;
-    }
-    if bytes == 8192 {
-        return 13;
-    }
-    if bytes == 16384 {
-        return 14;
-    }
-    if bytes == 32768 {
-        return 15;
-    }
-    16
+    let zeros = usize::trailing_zeros(p.bytes);
+    zeros as usize
 }
 
 // The block that starts at an address; a number past the last block if none does. A shift, and a product in place of a remainder.

@@ -40,43 +40,39 @@ same-length-2 c = c .before .before .before .before .before .before .before .loo
 returns : tie.Need-returns Inv-loop μ-loop
 returns c = acquire-none _ _ _ _ _ _ _ _ (c .before .before .before .before .pop-abandoned .ensures) (c .before .before .before .before .before .before .loop-test .taken) (c .if1 .taken) ∙ c .before .before .before .before .before .before .before .loop .inv .3
 
---@ block-at-requires c κs = @pre .0 .good
-block-at-requires : tie.Need-block-at-requires Inv-loop μ-loop
-block-at-requires c κs = c .before .before .before .before .before .before .before .before .before .before .before .pre .0 .good
-
 --@ take-over-requires c κs = (known-on _ (@pre .0) (@pop-abandoned .kept .1 .0 ∙ @loop .inv .0) (@loop .inv .1), @pre .1, @pre .2, @pre .3)
 take-over-requires : tie.Need-take-over-requires Inv-loop μ-loop
-take-over-requires c κs = (known-on _ (c .before .before .before .before .before .before .before .before .before .before .before .before .before .before .pre .0) (c .before .before .before .before .before .before .before .pop-abandoned .kept .1 .0 ∙ c .before .before .before .before .before .before .before .before .before .before .loop .inv .0) (c .before .before .before .before .before .before .before .before .before .before .loop .inv .1), c .before .before .before .before .before .before .before .before .before .before .before .before .before .before .pre .1, c .before .before .before .before .before .before .before .before .before .before .before .before .before .before .pre .2, c .before .before .before .before .before .before .before .before .before .before .before .before .before .before .pre .3)
+take-over-requires c κs = (known-on _ (c .before .before .before .before .before .before .before .before .before .before .before .before .before .pre .0) (c .before .before .before .before .before .before .pop-abandoned .kept .1 .0 ∙ c .before .before .before .before .before .before .before .before .before .loop .inv .0) (c .before .before .before .before .before .before .before .before .before .loop .inv .1), c .before .before .before .before .before .before .before .before .before .before .before .before .before .pre .1, c .before .before .before .before .before .before .before .before .before .before .before .before .before .pre .2, c .before .before .before .before .before .before .before .before .before .before .before .before .before .pre .3)
 
 one-if-requires : tie.Need-one-if-requires Inv-loop μ-loop
 one-if-requires c κs = tt
 
---@ add-n c = omega (arith, @loop .inv .2, @pre .4, good-bounds (@args .p) (@pre .0 .good) .blocks-high, flag-low _ (@one-if .ensures))
-add-n : tie.Need-add-n Inv-loop μ-loop
-add-n c = omega (arith, c .before .before .before .before .before .before .before .before .before .before .before .before .before .before .before .before .loop .inv .2, c .before .before .before .before .before .before .before .before .before .before .before .before .before .before .before .before .before .before .before .before .pre .4, good-bounds (c .before .before .before .before .before .before .before .before .before .before .before .before .before .before .before .before .before .before .before .before .args .p) (c .before .before .before .before .before .before .before .before .before .before .before .before .before .before .before .before .before .before .before .before .pre .0 .good) .blocks-high, flag-low _ (c .one-if .ensures))
+--@ add-swept c = omega (arith, @loop .inv .2, @pre .4, good-bounds (@args .p) (@pre .0 .good) .blocks-high, flag-low _ (@one-if .ensures))
+add-swept : tie.Need-add-swept Inv-loop μ-loop
+add-swept c = omega (arith, c .before .before .before .before .before .before .before .before .before .before .before .before .before .before .before .loop .inv .2, c .before .before .before .before .before .before .before .before .before .before .before .before .before .before .before .before .before .before .before .pre .4, good-bounds (c .before .before .before .before .before .before .before .before .before .before .before .before .before .before .before .before .before .before .before .args .p) (c .before .before .before .before .before .before .before .before .before .before .before .before .before .before .before .before .before .before .before .pre .0 .good) .blocks-high, flag-low _ (c .one-if .ensures))
 
 --@ same-length-3 c = @take-over .kept .1 .0 ∙ @pop-abandoned .kept .1 .0 ∙ @loop .inv .0
 same-length-3 : tie.Need-same-length-3 Inv-loop μ-loop
-same-length-3 c = c .before .before .before .before .before .before .take-over .kept .1 .0 ∙ c .before .before .before .before .before .before .before .before .before .before .before .before .before .before .pop-abandoned .kept .1 .0 ∙ c .before .before .before .before .before .before .before .before .before .before .before .before .before .before .before .before .before .loop .inv .0
+same-length-3 c = c .before .before .before .before .before .before .take-over .kept .1 .0 ∙ c .before .before .before .before .before .before .before .before .before .before .before .before .before .pop-abandoned .kept .1 .0 ∙ c .before .before .before .before .before .before .before .before .before .before .before .before .before .before .before .before .loop .inv .0
 
 --@ same-length-4 c = @take-over .kept .1 .1 .1 .0 ∙ @loop .inv .1
 same-length-4 : tie.Need-same-length-4 Inv-loop μ-loop
-same-length-4 c = c .before .before .before .before .before .before .take-over .kept .1 .1 .1 .0 ∙ c .before .before .before .before .before .before .before .before .before .before .before .before .before .before .before .before .before .loop .inv .1
+same-length-4 c = c .before .before .before .before .before .before .take-over .kept .1 .1 .1 .0 ∙ c .before .before .before .before .before .before .before .before .before .before .before .before .before .before .before .before .loop .inv .1
 
---@ returns-2 c = acquire-found _ _ _ _ _ _ _ (@if1 .left) (@block-at .ensures) _ _ (@pop-abandoned .ensures) (@take-over .ensures) (@one-if .ensures) (@loop-test .taken) (@if2 .taken) ∙ @loop .inv .3
+--@ returns-2 c = acquire-found _ _ _ _ _ _ _ (@if1 .left) refl _ _ (@pop-abandoned .ensures) (@take-over .ensures) (@one-if .ensures) (@loop-test .taken) (@if2 .taken) ∙ @loop .inv .3
 returns-2 : tie.Need-returns-2 Inv-loop μ-loop
-returns-2 c = acquire-found _ _ _ _ _ _ _ (c .before .before .before .before .before .before .before .before .before .before .if1 .left) (c .before .before .before .before .before .before .before .before .before .block-at .ensures) _ _ (c .before .before .before .before .before .before .before .before .before .before .before .before .before .before .pop-abandoned .ensures) (c .before .before .before .before .before .before .take-over .ensures) (c .before .one-if .ensures) (c .before .before .before .before .before .before .before .before .before .before .before .before .before .before .before .before .loop-test .taken) (c .if2 .taken) ∙ c .before .before .before .before .before .before .before .before .before .before .before .before .before .before .before .before .before .loop .inv .3
+returns-2 c = acquire-found _ _ _ _ _ _ _ (c .before .before .before .before .before .before .before .before .before .if1 .left) refl _ _ (c .before .before .before .before .before .before .before .before .before .before .before .before .before .pop-abandoned .ensures) (c .before .before .before .before .before .before .take-over .ensures) (c .before .one-if .ensures) (c .before .before .before .before .before .before .before .before .before .before .before .before .before .before .before .loop-test .taken) (c .if2 .taken) ∙ c .before .before .before .before .before .before .before .before .before .before .before .before .before .before .before .before .loop .inv .3
 
-sub-k : tie.Need-sub-k Inv-loop μ-loop
-sub-k c = search needs
+sub-left : tie.Need-sub-left Inv-loop μ-loop
+sub-left c = search needs
 
 --@ loop-less c = falls-down _ (@loop-test .taken)
 loop-less : tie.Need-loop-less Inv-loop μ-loop
-loop-less c = falls-down _ (c .before .before .before .before .before .before .before .before .before .before .before .before .before .before .before .before .loop-test .taken)
+loop-less c = falls-down _ (c .before .before .before .before .before .before .before .before .before .before .before .before .before .before .before .loop-test .taken)
 
---@ loop-again c = (@take-over .kept .1 .0 ∙ @pop-abandoned .kept .1 .0 ∙ @loop .inv .0, @take-over .kept .1 .1 .1 .0 ∙ @loop .inv .1, omega (arith, @loop .inv .2, @loop-test .taken, flag-low _ (@one-if .ensures)), acquire-step _ _ _ _ _ _ _ (@if1 .left) (@block-at .ensures) _ _ (@pop-abandoned .ensures) (@take-over .ensures) (@one-if .ensures) (@loop-test .taken) (@if2 .left) ∙ @loop .inv .3)
+--@ loop-again c = (@take-over .kept .1 .0 ∙ @pop-abandoned .kept .1 .0 ∙ @loop .inv .0, @take-over .kept .1 .1 .1 .0 ∙ @loop .inv .1, omega (arith, @loop .inv .2, @loop-test .taken, flag-low _ (@one-if .ensures)), acquire-step _ _ _ _ _ _ _ (@if1 .left) refl _ _ (@pop-abandoned .ensures) (@take-over .ensures) (@one-if .ensures) (@loop-test .taken) (@if2 .left) ∙ @loop .inv .3)
 loop-again : tie.Need-loop-again Inv-loop μ-loop
-loop-again c = (c .before .before .before .before .before .before .take-over .kept .1 .0 ∙ c .before .before .before .before .before .before .before .before .before .before .before .before .before .before .pop-abandoned .kept .1 .0 ∙ c .before .before .before .before .before .before .before .before .before .before .before .before .before .before .before .before .before .loop .inv .0, c .before .before .before .before .before .before .take-over .kept .1 .1 .1 .0 ∙ c .before .before .before .before .before .before .before .before .before .before .before .before .before .before .before .before .before .loop .inv .1, omega (arith, c .before .before .before .before .before .before .before .before .before .before .before .before .before .before .before .before .before .loop .inv .2, c .before .before .before .before .before .before .before .before .before .before .before .before .before .before .before .before .loop-test .taken, flag-low _ (c .before .one-if .ensures)), acquire-step _ _ _ _ _ _ _ (c .before .before .before .before .before .before .before .before .before .before .if1 .left) (c .before .before .before .before .before .before .before .before .before .block-at .ensures) _ _ (c .before .before .before .before .before .before .before .before .before .before .before .before .before .before .pop-abandoned .ensures) (c .before .before .before .before .before .before .take-over .ensures) (c .before .one-if .ensures) (c .before .before .before .before .before .before .before .before .before .before .before .before .before .before .before .before .loop-test .taken) (c .if2 .left) ∙ c .before .before .before .before .before .before .before .before .before .before .before .before .before .before .before .before .before .loop .inv .3)
+loop-again c = (c .before .before .before .before .before .before .take-over .kept .1 .0 ∙ c .before .before .before .before .before .before .before .before .before .before .before .before .before .pop-abandoned .kept .1 .0 ∙ c .before .before .before .before .before .before .before .before .before .before .before .before .before .before .before .before .loop .inv .0, c .before .before .before .before .before .before .take-over .kept .1 .1 .1 .0 ∙ c .before .before .before .before .before .before .before .before .before .before .before .before .before .before .before .before .loop .inv .1, omega (arith, c .before .before .before .before .before .before .before .before .before .before .before .before .before .before .before .before .loop .inv .2, c .before .before .before .before .before .before .before .before .before .before .before .before .before .before .before .loop-test .taken, flag-low _ (c .before .one-if .ensures)), acquire-step _ _ _ _ _ _ _ (c .before .before .before .before .before .before .before .before .before .if1 .left) refl _ _ (c .before .before .before .before .before .before .before .before .before .before .before .before .before .pop-abandoned .ensures) (c .before .before .before .before .before .before .take-over .ensures) (c .before .one-if .ensures) (c .before .before .before .before .before .before .before .before .before .before .before .before .before .before .before .loop-test .taken) (c .if2 .left) ∙ c .before .before .before .before .before .before .before .before .before .before .before .before .before .before .before .before .loop .inv .3)
 
 --@ same-length-5 c = @loop .inv .0
 same-length-5 : tie.Need-same-length-5 Inv-loop μ-loop
@@ -101,14 +97,13 @@ acquire-abandoned-spec =
     same-length
     same-length-2
     returns
-    block-at-requires
     take-over-requires
     one-if-requires
-    add-n
+    add-swept
     same-length-3
     same-length-4
     returns-2
-    sub-k
+    sub-left
     loop-less
     loop-again
     same-length-5

@@ -1,14 +1,13 @@
 -- `free_list_allocator::do_alloc` steps as `soundStep` does, refused or not. Assumes nothing.
 use Rattle.model.specs.Answers.{allocReply}
-use Rattle.native_ms.proofs.Tests.{open-good}
-use Rattle.native_ms.proofs.AllocCall.{call-refused, call-ready, call-known, call-offered, call-served}
+use Rattle.native_ms.proofs.AllocCall.{call-lengths, call-refused, call-ready, call-known, call-offered, call-served}
 use borrow.Author.Needs.{needs}
 use Rattle.native_ms.proofs.free_list_allocator.do_alloc.Statement.{statement}
 use Rattle.native_ms.proofs.free_list_allocator.do_alloc.Tie as tie
 
---@ check-alloc-requires c κs = open-good (@args .p) _ _ _ _ (@pre)
+--@ check-alloc-requires c κs = call-lengths (@args .p) _ _ _ _ (@pre)
 check-alloc-requires : tie.Need-check-alloc-requires
-check-alloc-requires c κs = open-good (c .before .before .before .before .before .before .args .p) _ _ _ _ ((c .before .before .before .before .before .before .pre))
+check-alloc-requires c κs = call-lengths (c .before .before .before .before .before .before .args .p) _ _ _ _ ((c .before .before .before .before .before .before .pre))
 
 enum-known-r : tie.Need-enum-known-r
 enum-known-r c = search needs

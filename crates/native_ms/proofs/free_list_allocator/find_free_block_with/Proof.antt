@@ -53,8 +53,8 @@ pop-requires c κs = (c .before .before .before .before .before .before .before 
 push-requires : tie.Need-push-requires Inv-loop μ-loop
 push-requires c κs = (c .before .before .before .before .before .before .before .before .before .before .before .before .before .before .before .pre .0, c .before .before .before .before .before .before .before .before .before .before .before .before .before .before .before .pre .2)
 
-sub-k : tie.Need-sub-k Inv-loop μ-loop
-sub-k c = search needs
+sub-left : tie.Need-sub-left Inv-loop μ-loop
+sub-left c = search needs
 
 --@ loop-less c = falls-down _ (@loop-test .taken)
 loop-less : tie.Need-loop-less Inv-loop μ-loop
@@ -88,7 +88,7 @@ find-free-block-with-spec =
     returns-2
     pop-requires
     push-requires
-    sub-k
+    sub-left
     loop-less
     loop-again
     same-length-3

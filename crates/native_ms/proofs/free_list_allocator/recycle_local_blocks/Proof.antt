@@ -60,9 +60,9 @@ block-at-requires c κs = c .before .before .before .before .before .before .bef
 sweep-requires : tie.Need-sweep-requires Inv-loop μ-loop
 sweep-requires c κs = known-on _ (c .before .before .before .before .before .before .before .before .before .before .before .before .before .before .before .before .pre .0) (c .before .before .before .before .before .before .pop .kept .1 .0 ∙ c .before .before .before .before .before .before .before .before .before .loop .inv .0) (c .before .before .before .before .before .before .before .before .before .loop .inv .1)
 
---@ add-n c = omega (arith, @loop .inv .2, good-bounds (@args .p) (@pre .0 .good) .blocks-high)
-add-n : tie.Need-add-n Inv-loop μ-loop
-add-n c = omega (arith, c .before .before .before .before .before .before .before .before .before .before .before .before .before .before .loop .inv .2, good-bounds (c .before .before .before .before .before .before .before .before .before .before .before .before .before .before .before .before .before .before .before .before .before .args .p) (c .before .before .before .before .before .before .before .before .before .before .before .before .before .before .before .before .before .before .before .before .before .pre .0 .good) .blocks-high)
+--@ add-swept c = omega (arith, @loop .inv .2, good-bounds (@args .p) (@pre .0 .good) .blocks-high)
+add-swept : tie.Need-add-swept Inv-loop μ-loop
+add-swept c = omega (arith, c .before .before .before .before .before .before .before .before .before .before .before .before .before .before .loop .inv .2, good-bounds (c .before .before .before .before .before .before .before .before .before .before .before .before .before .before .before .before .before .before .before .before .before .args .p) (c .before .before .before .before .before .before .before .before .before .before .before .before .before .before .before .before .before .before .before .before .before .pre .0 .good) .blocks-high)
 
 --@ file-block-requires c κs = (@pre .0 .good, @available .ensures .low, @consumed .ensures .low)
 file-block-requires : tie.Need-file-block-requires Inv-loop μ-loop
@@ -80,8 +80,8 @@ same-length-4 c = c .before .before .before .before .before .before .before .bef
 returns-2 : tie.Need-returns-2 Inv-loop μ-loop
 returns-2 c = record { same = recycle-found _ _ _ _ _ _ _ (c .before .before .before .before .before .before .before .before .before .before .before .before .before .before .before .before .before .before .before .before .before .before .unswept .ensures .same) (c .before .before .before .before .before .before .before .before .before .before .before .before .before .before .before .before .pop .ensures) (c .before .before .before .before .before .before .before .before .before .before .before .before .before .if1 .left) (c .before .before .before .before .before .before .before .before .before .before .before .before .block-at .ensures) (c .before .before .before .before .before .before .before .before .before .sweep .ensures) (c .before .before .before .before .before .before .before .before .before .before .before .before .before .before .before .before .before .before .before .before .before .available .ensures .same) (c .before .before .before .before .before .before .before .before .before .before .before .before .before .before .before .before .before .before .before .before .consumed .ensures .same) (c .before .before .before .file-block .ensures) _ (c .before .before .before .before .before .before .before .before .before .before .before .before .before .before .before .before .before .before .loop-test .taken) (c .if2 .taken) ∙ c .before .before .before .before .before .before .before .before .before .before .before .before .before .before .before .before .before .before .before .loop .inv .3; few = omega (arith, c .before .before .before .before .before .before .before .before .before .before .before .before .before .before .before .before .before .before .before .loop .inv .2, c .before .before .before .before .before .before .before .before .before .before .before .before .before .before .before .before .before .before .loop-test .taken) }
 
-sub-k : tie.Need-sub-k Inv-loop μ-loop
-sub-k c = search needs
+sub-left : tie.Need-sub-left Inv-loop μ-loop
+sub-left c = search needs
 
 --@ loop-less c = falls-down _ (@loop-test .taken)
 loop-less : tie.Need-loop-less Inv-loop μ-loop
@@ -119,12 +119,12 @@ recycle-local-blocks-spec =
     returns
     block-at-requires
     sweep-requires
-    add-n
+    add-swept
     file-block-requires
     same-length-3
     same-length-4
     returns-2
-    sub-k
+    sub-left
     loop-less
     loop-again
     same-length-5

@@ -1,17 +1,30 @@
--- `free_list_allocator::serve` ends as the machine does once its search is made: no block, a bad link, or a cell. One law for each.
--- The cell is low enough to be shifted, since free heads stay low in a search.
-use mathlib.Core.Path.{_∙_}
-use Rattle.model.specs.Answers.{allocReply}
-use Rattle.native_ms.proofs.Ending.{serve-none, serve-bad, serve-cell, cell-low}
-use Rattle.model.specs.FreeListAllocator.{findBlock}
-use Rattle.model.specs.Tables.{tablesOf, view}
+-- `free_list_allocator::serve` ends as the machine does: at the head block where it has a free cell, which is what the search would
+-- find; else by the search.
+use native.Mathlib.Omega.{arith}
+use Rattle.model.specs.Tables.{view}
+use Rattle.laws.proofs.Params.{good-bounds}
 use borrow.Author.Needs.{needs}
+use Rattle.native_ms.proofs.Search.{sets-low}
+use Rattle.native_ms.proofs.Ending.{serve-head}
+use Rattle.native_ms.proofs.ShortWay.{head-takeable}
 use Rattle.native_ms.proofs.free_list_allocator.serve.Statement.{statement}
 use Rattle.native_ms.proofs.free_list_allocator.serve.Tie as tie
 
---@ find-block-requires c κs = (@pre .1, @pre .0 .holder-from, @pre .0 .holder-to, @pre .0 .bin-low, @pre .2)
-find-block-requires : tie.Need-find-block-requires
-find-block-requires c κs = (c .before .before .before .before .before .before .before .pre .1, c .before .before .before .before .before .before .before .pre .0 .holder-from, c .before .before .before .before .before .before .before .pre .0 .holder-to, c .before .before .before .before .before .before .before .pre .0 .bin-low, c .before .before .before .before .before .before .before .pre .2)
+--@ local-sets-requires c κs = (@pre .0 .holder-from, @pre .0 .holder-to)
+local-sets-requires : tie.Need-local-sets-requires
+local-sets-requires c κs = (c .before .before .before .before .pre .0 .holder-from, c .before .before .before .before .pre .0 .holder-to)
+
+--@ available-requires c κs = (sets-low _ (@pre .0 .holder-to) (@local-sets .ensures), @pre .0 .bin-low)
+available-requires : tie.Need-available-requires
+available-requires c κs = (sets-low _ (c .before .before .before .before .before .pre .0 .holder-to) (c .local-sets .ensures), c .before .before .before .before .before .pre .0 .bin-low)
+
+--@ free-head-requires c κs = (@pre .0 .good, @pre .1 .count, @available .ensures .low)
+free-head-requires : tie.Need-free-head-requires
+free-head-requires c κs = (c .before .before .before .before .before .before .before .pre .0 .good, c .before .before .before .before .before .before .before .pre .1 .count, c .before .available .ensures .low)
+
+--@ serve-head-requires c κs = (head-takeable _ _ (@pre .1) (@pre .0 .cells) (@free-head .ensures) (@if1 .taken), @pre .0 .shift)
+serve-head-requires : tie.Need-serve-head-requires
+serve-head-requires c κs = (head-takeable _ _ (c .before .before .before .before .before .before .before .before .before .before .before .before .before .pre .1) (c .before .before .before .before .before .before .before .before .before .before .before .before .before .pre .0 .cells) (c .before .before .before .before .before .free-head .ensures) (c .before .before .if1 .taken), c .before .before .before .before .before .before .before .before .before .before .before .before .before .pre .0 .shift)
 
 same-length : tie.Need-same-length
 same-length c = search needs
@@ -19,31 +32,16 @@ same-length c = search needs
 same-length-2 : tie.Need-same-length-2
 same-length-2 c = search needs
 
+--@ returns c = serve-head (@args .p) (@args .wanted .holder) (@args .wanted .bin) (@args .wanted .offer) (view (@args .w .now)) (@args .st .now) (@args .m .now) (@args .h .now) (@local-sets .ensures) (@available .ensures .same) (@free-head .ensures (@if1 .taken)) (omega (arith, good-bounds (@args .p) (@pre .0 .good) .blocks-low)) (@args .wanted .align) (@args .wanted .offset) (@serve-head .ensures _ _)
+returns : tie.Need-returns
+returns c = serve-head (c .before .before .before .before .before .before .before .before .before .before .before .before .before .before .before .before .before .before .args .p) (c .before .before .before .before .before .before .before .before .before .before .before .before .before .before .before .before .before .before .args .wanted .holder) (c .before .before .before .before .before .before .before .before .before .before .before .before .before .before .before .before .before .before .args .wanted .bin) (c .before .before .before .before .before .before .before .before .before .before .before .before .before .before .before .before .before .before .args .wanted .offer) (view (c .before .before .before .before .before .before .before .before .before .before .before .before .before .before .before .before .before .before .args .w .now)) (c .before .before .before .before .before .before .before .before .before .before .before .before .before .before .before .before .before .before .args .st .now) (c .before .before .before .before .before .before .before .before .before .before .before .before .before .before .before .before .before .before .args .m .now) (c .before .before .before .before .before .before .before .before .before .before .before .before .before .before .before .before .before .before .args .h .now) (c .before .before .before .before .before .before .before .before .before .before .before .before .before .local-sets .ensures) (c .before .before .before .before .before .before .before .before .before .before .before .before .available .ensures .same) (c .before .before .before .before .before .before .before .before .before .before .free-head .ensures (c .before .before .before .before .before .before .before .if1 .taken)) (omega (arith, good-bounds (c .before .before .before .before .before .before .before .before .before .before .before .before .before .before .before .before .before .before .args .p) (c .before .before .before .before .before .before .before .before .before .before .before .before .before .before .before .before .before .before .pre .0 .good) .blocks-low)) (c .before .before .before .before .before .before .before .before .before .before .before .before .before .before .before .before .before .before .args .wanted .align) (c .before .before .before .before .before .before .before .before .before .before .before .before .before .before .before .before .before .before .args .wanted .offset) (c .before .before .before .before .serve-head .ensures _ _)
+
+--@ serve-searched-requires c κs = (@pre .0, @pre .1, @pre .2)
+serve-searched-requires : tie.Need-serve-searched-requires
+serve-searched-requires c κs = (c .before .before .before .before .before .before .before .before .before .before .before .before .before .before .pre .0, c .before .before .before .before .before .before .before .before .before .before .before .before .before .before .pre .1, c .before .before .before .before .before .before .before .before .before .before .before .before .before .before .pre .2)
+
 same-length-3 : tie.Need-same-length-3
 same-length-3 c = search needs
-
---@ returns c = serve-none (@args .p) (@args .align) (@args .offset) (@args .h .now) (findBlock (@args .p) (@args .holder) (@args .bin) (@args .offer) (tablesOf (view (@args .w .now)) (@args .st .now) (@args .m .now))) (@find-block .ensures) (@if1 .taken)
-returns : tie.Need-returns
-unfolding allocReply
-returns c = serve-none (c .before .before .before .before .before .before .before .before .before .before .before .before .before .before .before .before .args .p) (c .before .before .before .before .before .before .before .before .before .before .before .before .before .before .before .before .args .align) (c .before .before .before .before .before .before .before .before .before .before .before .before .before .before .before .before .args .offset) (c .before .before .before .before .before .before .before .before .before .before .before .before .before .before .before .before .args .h .now) (findBlock (c .before .before .before .before .before .before .before .before .before .before .before .before .before .before .before .before .args .p) (c .before .before .before .before .before .before .before .before .before .before .before .before .before .before .before .before .args .holder) (c .before .before .before .before .before .before .before .before .before .before .before .before .before .before .before .before .args .bin) (c .before .before .before .before .before .before .before .before .before .before .before .before .before .before .before .before .args .offer) (tablesOf (view (c .before .before .before .before .before .before .before .before .before .before .before .before .before .before .before .before .args .w .now)) (c .before .before .before .before .before .before .before .before .before .before .before .before .before .before .before .before .args .st .now) (c .before .before .before .before .before .before .before .before .before .before .before .before .before .before .before .before .args .m .now))) (c .before .before .before .before .before .before .before .before .find-block .ensures) (c .if1 .taken)
-
---@ block-at-requires c κs = @pre .0 .good
-block-at-requires : tie.Need-block-at-requires
-block-at-requires c κs = c .before .before .before .before .before .before .before .before .before .before .before .before .before .before .before .before .pre .0 .good
-
---@ block-alloc-requires c κs = (@pre .0 .good, @find-block .kept .1 .0 ∙ @pre .1 .count)
-block-alloc-requires : tie.Need-block-alloc-requires
-block-alloc-requires c κs = (c .before .before .before .before .before .before .before .before .before .before .before .before .before .before .before .before .before .before .before .pre .0 .good, c .before .before .before .before .before .before .before .before .before .before .before .find-block .kept .1 .0 ∙ c .before .before .before .before .before .before .before .before .before .before .before .before .before .before .before .before .before .before .before .pre .1 .count)
-
-enum-told : tie.Need-enum-told
-enum-told c = search needs
-
-enum-known-cell : tie.Need-enum-known-cell
-enum-known-cell c = search needs
-
---@ align-allocation-requires c κs = (@pre .0 .align-from, @pre .0 .align-to, cell-low (@args .p) (@args .holder) (@args .bin) (@args .offer) (view (@args .w .now)) (@args .st .now) (@args .h .now) _ (@pre .0 .good) (@pre .0 .heads) (@find-block .ensures) (@block-alloc .ensures) (@cell .given .1), @pre .0 .offset-low)
-align-allocation-requires : tie.Need-align-allocation-requires
-align-allocation-requires c κs = (c .before .before .before .before .before .before .before .before .before .before .before .before .before .before .before .before .before .before .before .before .before .before .before .before .before .before .before .pre .0 .align-from, c .before .before .before .before .before .before .before .before .before .before .before .before .before .before .before .before .before .before .before .before .before .before .before .before .before .before .before .pre .0 .align-to, cell-low (c .before .before .before .before .before .before .before .before .before .before .before .before .before .before .before .before .before .before .before .before .before .before .before .before .before .before .before .args .p) (c .before .before .before .before .before .before .before .before .before .before .before .before .before .before .before .before .before .before .before .before .before .before .before .before .before .before .before .args .holder) (c .before .before .before .before .before .before .before .before .before .before .before .before .before .before .before .before .before .before .before .before .before .before .before .before .before .before .before .args .bin) (c .before .before .before .before .before .before .before .before .before .before .before .before .before .before .before .before .before .before .before .before .before .before .before .before .before .before .before .args .offer) (view (c .before .before .before .before .before .before .before .before .before .before .before .before .before .before .before .before .before .before .before .before .before .before .before .before .before .before .before .args .w .now)) (c .before .before .before .before .before .before .before .before .before .before .before .before .before .before .before .before .before .before .before .before .before .before .before .before .before .before .before .args .st .now) (c .before .before .before .before .before .before .before .before .before .before .before .before .before .before .before .before .before .before .before .before .before .before .before .before .before .before .before .args .h .now) _ (c .before .before .before .before .before .before .before .before .before .before .before .before .before .before .before .before .before .before .before .before .before .before .before .before .before .before .before .pre .0 .good) (c .before .before .before .before .before .before .before .before .before .before .before .before .before .before .before .before .before .before .before .before .before .before .before .before .before .before .before .pre .0 .heads) (c .before .before .before .before .before .before .before .before .before .before .before .before .before .before .before .before .before .before .before .find-block .ensures) (c .before .before .before .before .before .before .before .block-alloc .ensures) (c .before .cell .given .1), c .before .before .before .before .before .before .before .before .before .before .before .before .before .before .before .before .before .before .before .before .before .before .before .before .before .before .before .pre .0 .offset-low)
 
 same-length-4 : tie.Need-same-length-4
 same-length-4 c = search needs
@@ -51,47 +49,23 @@ same-length-4 c = search needs
 same-length-5 : tie.Need-same-length-5
 same-length-5 c = search needs
 
-same-length-6 : tie.Need-same-length-6
-same-length-6 c = search needs
-
---@ returns-2 c = serve-bad (@args .p) (@args .align) (@args .offset) (@args .h .now) (findBlock (@args .p) (@args .holder) (@args .bin) (@args .offer) (tablesOf (view (@args .w .now)) (@args .st .now) (@args .m .now))) (@find-block .ensures) (@if1 .left) (@block-at .ensures) (@block-alloc .ensures) (@enum-told .given .1)
+--@ returns-2 c = @serve-searched .ensures
 returns-2 : tie.Need-returns-2
-unfolding allocReply
-returns-2 c = serve-bad (c .before .before .before .before .before .before .before .before .before .before .before .before .before .before .before .before .before .before .before .before .before .before .before .before .before .before .args .p) (c .before .before .before .before .before .before .before .before .before .before .before .before .before .before .before .before .before .before .before .before .before .before .before .before .before .before .args .align) (c .before .before .before .before .before .before .before .before .before .before .before .before .before .before .before .before .before .before .before .before .before .before .before .before .before .before .args .offset) (c .before .before .before .before .before .before .before .before .before .before .before .before .before .before .before .before .before .before .before .before .before .before .before .before .before .before .args .h .now) (findBlock (c .before .before .before .before .before .before .before .before .before .before .before .before .before .before .before .before .before .before .before .before .before .before .before .before .before .before .args .p) (c .before .before .before .before .before .before .before .before .before .before .before .before .before .before .before .before .before .before .before .before .before .before .before .before .before .before .args .holder) (c .before .before .before .before .before .before .before .before .before .before .before .before .before .before .before .before .before .before .before .before .before .before .before .before .before .before .args .bin) (c .before .before .before .before .before .before .before .before .before .before .before .before .before .before .before .before .before .before .before .before .before .before .before .before .before .before .args .offer) (tablesOf (view (c .before .before .before .before .before .before .before .before .before .before .before .before .before .before .before .before .before .before .before .before .before .before .before .before .before .before .args .w .now)) (c .before .before .before .before .before .before .before .before .before .before .before .before .before .before .before .before .before .before .before .before .before .before .before .before .before .before .args .st .now) (c .before .before .before .before .before .before .before .before .before .before .before .before .before .before .before .before .before .before .before .before .before .before .before .before .before .before .args .m .now))) (c .before .before .before .before .before .before .before .before .before .before .before .before .before .before .before .before .before .before .find-block .ensures) (c .before .before .before .before .before .before .before .before .before .before .if1 .left) (c .before .before .before .before .before .before .before .before .before .block-at .ensures) (c .before .before .before .before .before .before .block-alloc .ensures) (c .enum-told .given .1)
-
-same-length-7 : tie.Need-same-length-7
-same-length-7 c = search needs
-
-same-length-8 : tie.Need-same-length-8
-same-length-8 c = search needs
-
-same-length-9 : tie.Need-same-length-9
-same-length-9 c = search needs
-
---@ returns-3 c = serve-cell (@args .p) (@args .align) (@args .offset) (@args .h .now) (findBlock (@args .p) (@args .holder) (@args .bin) (@args .offer) (tablesOf (view (@args .w .now)) (@args .st .now) (@args .m .now))) (@find-block .ensures) (@if1 .left) (@block-at .ensures) (@block-alloc .ensures) (@cell .given .1) (@align-allocation .ensures)
-returns-3 : tie.Need-returns-3
-unfolding allocReply
-returns-3 c = serve-cell (c .before .before .before .before .before .before .before .before .before .before .before .before .before .before .before .before .before .before .before .before .before .before .before .before .before .before .before .before .args .p) (c .before .before .before .before .before .before .before .before .before .before .before .before .before .before .before .before .before .before .before .before .before .before .before .before .before .before .before .before .args .align) (c .before .before .before .before .before .before .before .before .before .before .before .before .before .before .before .before .before .before .before .before .before .before .before .before .before .before .before .before .args .offset) (c .before .before .before .before .before .before .before .before .before .before .before .before .before .before .before .before .before .before .before .before .before .before .before .before .before .before .before .before .args .h .now) (findBlock (c .before .before .before .before .before .before .before .before .before .before .before .before .before .before .before .before .before .before .before .before .before .before .before .before .before .before .before .before .args .p) (c .before .before .before .before .before .before .before .before .before .before .before .before .before .before .before .before .before .before .before .before .before .before .before .before .before .before .before .before .args .holder) (c .before .before .before .before .before .before .before .before .before .before .before .before .before .before .before .before .before .before .before .before .before .before .before .before .before .before .before .before .args .bin) (c .before .before .before .before .before .before .before .before .before .before .before .before .before .before .before .before .before .before .before .before .before .before .before .before .before .before .before .before .args .offer) (tablesOf (view (c .before .before .before .before .before .before .before .before .before .before .before .before .before .before .before .before .before .before .before .before .before .before .before .before .before .before .before .before .args .w .now)) (c .before .before .before .before .before .before .before .before .before .before .before .before .before .before .before .before .before .before .before .before .before .before .before .before .before .before .before .before .args .st .now) (c .before .before .before .before .before .before .before .before .before .before .before .before .before .before .before .before .before .before .before .before .before .before .before .before .before .before .before .before .args .m .now))) (c .before .before .before .before .before .before .before .before .before .before .before .before .before .before .before .before .before .before .before .before .find-block .ensures) (c .before .before .before .before .before .before .before .before .before .before .before .before .if1 .left) (c .before .before .before .before .before .before .before .before .before .before .before .block-at .ensures) (c .before .before .before .before .before .before .before .before .block-alloc .ensures) (c .before .before .cell .given .1) (c .align-allocation .ensures)
+returns-2 c = c .before .before .before .before .before .before .serve-searched .ensures
 
 pub serve-spec : {M : Type 1} → statement M
 serve-spec =
     tie.close
     (tie.spec
-    find-block-requires
+    local-sets-requires
+    available-requires
+    free-head-requires
+    serve-head-requires
     same-length
     same-length-2
-    same-length-3
     returns
-    block-at-requires
-    block-alloc-requires
-    enum-told
-    enum-known-cell
-    align-allocation-requires
+    serve-searched-requires
+    same-length-3
     same-length-4
     same-length-5
-    same-length-6
-    returns-2
-    same-length-7
-    same-length-8
-    same-length-9
-    returns-3)
+    returns-2)
