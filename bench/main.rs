@@ -88,6 +88,45 @@ fn history(log: usize, unified: bool, lower: isize) {
     }
 }
 
+/// Document 01's sizes up to the block as rows; with a cell of nine words, if an office's.
+fn own_rows(log: usize, office: bool) -> Vec<Row> {
+    let mut to: Vec<usize> = (1..9).collect();
+    if office {
+        to.push(9);
+    }
+    for octave in 1.. {
+        to.extend([5, 6, 7, 8].map(|k| k << octave).into_iter().filter(|words| 8 * words <= 1 << log));
+        if 8 * *to.last().unwrap() == 1 << log {
+            break;
+        }
+    }
+    let from = |k: usize| if k == 0 { 1 } else { to[k - 1] + 1 };
+    (0..to.len()).map(|k| Row { from: from(k), to: to[k], cell: to[k] }).collect()
+}
+
+/// What the test of the rows takes, which each call makes: beside it the parameters' own test, which it has in it.
+fn rows(bench: &mut Bench) {
+    table(&["the test of a class table over that of parameters without rows", "goal", "ratio", "with rows", "without"]);
+    for (what, log, office) in [
+        ("no rows, blocks of 4,096", 12, None),
+        ("document 01's 32 rows, blocks of 4,096", 12, Some(false)),
+        ("an office's 33 rows, blocks of 4,096", 12, Some(true)),
+        ("document 01's 48 rows, blocks of 65,536", 16, Some(false)),
+    ] {
+        let space = || World::new(log, 1, true, 0);
+        let given = office.map_or(vec![], |office| own_rows(log, office));
+        let with = |w: &World| {
+            let mut p = w.port.p;
+            p.count = given.len();
+            p.rows[..given.len()].copy_from_slice(&given);
+            p
+        };
+        let p = with(&space());
+        let port: Piece = times!(|_w, _| unsafe { port_classes(black_box(&p)) });
+        line(what, "", bench.pair(&space, what, ANY, &|_| (), port, times!(|w, _| unsafe { port_classes(black_box(&w.port.p)) })));
+    }
+}
+
 fn check(bench: &mut Bench) {
     table(&["the check of the tables over a bare scalar read of them", "goal", "ratio", "check", "read"]);
     let cases = [(4, 1, true, "1.0"), (64, 1, true, "1.0"), (64, 8, true, ""), (1024, 1, false, "1.0"),
@@ -263,6 +302,7 @@ fn main() {
     let bench = &mut Bench::new(dumps);
     println!("Ratios of {}; in brackets, or in the last two columns, {} of one.", bench.unit(), bench.unit());
     check(bench);
+    rows(bench);
     init(bench);
     sweeps(bench);
     reading(bench);

@@ -2,6 +2,15 @@
 //! test what is lent.
 use crate::world::Port;
 
+/// A row of a class table, in words.
+#[repr(C)]
+#[derive(Clone, Copy)]
+pub struct Row {
+    pub from: usize,
+    pub to: usize,
+    pub cell: usize,
+}
+
 #[repr(C)]
 #[derive(Clone, Copy)]
 pub struct Params {
@@ -13,7 +22,11 @@ pub struct Params {
     pub offsets: bool,
     pub unified: bool,
     pub lower: i64,
+    pub rows: [Row; 48],
+    pub count: usize,
 }
+
+pub const NO_ROWS: [Row; 48] = [Row { from: 0, to: 0, cell: 0 }; 48];
 
 type P = *const Params;
 type W = *mut usize;
@@ -24,6 +37,7 @@ pub type Call = unsafe extern "C" fn(P, W, N, B, N, B, N, B, N, N, N, N) -> N;
 
 // A slice is its place and its length.
 extern "C" {
+    pub fn port_classes(p: P) -> N;
     fn port_check(p: P, w: W, wn: N, st: B, stn: N, m: B, mn: N, h: B, hn: N) -> bool;
     fn port_init(p: P, w: W, wn: N, st: B, stn: N, h: B, hn: N, b: N, s: N);
     fn port_sweep(p: P, w: W, wn: N, m: B, mn: N, h: B, hn: N, b: N);

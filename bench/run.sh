@@ -53,7 +53,7 @@ for name in port bare; do
         cp -R "$port/crates/$crate/src" "$out/$name/$crate/src"
     done
     find "$out/$name" -name '*.rt' -exec sed -i 's/^fn /pub(crate) fn /' {} +
-    sed -i 's/^pub struct Params/#[repr(C)]\n&/' "$out/$name/model/src/lib.rt"
+    sed -i -e 's/^pub struct Params/#[repr(C)]\n&/' -e 's/^pub struct Row /#[repr(C)]\n&/' "$out/$name/model/src/lib.rt"
     sed "s/fn port_/fn ${name}_/" "$here/port.txt" >"$out/$name/native_ms/src/bench_port.rt"
     echo 'pub mod bench_port;' >>"$out/$name/native_ms/src/lib.rt"
 done

@@ -55,7 +55,7 @@ impl World {
             lent::Params { base: BASE, log_block_bytes, blocks, min, max, use_offset: false, unified, lower_bound: lower };
         lent::lend(setup, false);
         let rust = if log == 12 { ms12::machine::bench(&setup) } else { ms16::machine::bench(&setup) };
-        let p = Params { base: BASE, bytes, blocks, min, max, offsets: false, unified, lower: lower as i64 };
+        let p = Params { base: BASE, bytes, blocks, min, max, offsets: false, unified, lower: lower as i64, rows: NO_ROWS, count: 0 };
         let port = Port {
             p,
             words: vec![0; 2958 + 6 * blocks],

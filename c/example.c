@@ -1,4 +1,4 @@
-/* A host to start from: an arena, two holders, a collection, and a listing of what is free.
+/* A host to start from: an arena, two holders, a collection, and a listing of what is free; then an office's class table.
  * Build and run: c/build.sh */
 #include <stdio.h>
 #include <stdlib.h>
@@ -34,6 +34,8 @@ static void open_space(struct native_ms_space *s)
     s->offsets = 1;
     s->unified = 0;
     s->lower = 0;
+    s->rows = NULL;
+    s->row_count = 0;
     s->words = room(NATIVE_MS_WORDS_LEN(s->blocks));
     s->states = room(NATIVE_MS_STATES_LEN(s->blocks));
     s->marks = room(NATIVE_MS_MARKS_LEN(s->bytes, s->blocks));
@@ -121,6 +123,47 @@ static void list_free(struct native_ms_space *s)
     }
 }
 
+/* Checks the rows of a space. */
+static void check(struct native_ms_space *s, const char *which)
+{
+    must("check", native_ms_check_classes(s->base, s->bytes, s->blocks, s->min, s->max, s->offsets, s->unified, s->lower, s->rows,
+                                          NATIVE_MS_ROWS_LEN(s->row_count), s->answer, NATIVE_MS_ANSWER_LEN));
+    static const char *const kinds[] = {"accepted", "bad count", "bad row"};
+    printf("%s: %s", which, kinds[answered(s, NATIVE_MS_CHECK_KIND)]);
+    if (answered(s, NATIVE_MS_CHECK_KIND) != NATIVE_MS_CHECK_ACCEPTED)
+        printf(" %llu", (unsigned long long)answered(s, NATIVE_MS_CHECK_NUMBER));
+    printf("\n");
+}
+
+/* An office stores entries of 72 bytes: nine words. Its table gives them a cell of their own; document 01's classes give 80 bytes. */
+static void office(void)
+{
+    struct native_ms_space space;
+    struct native_ms_space *s = &space;
+    uint8_t rows[NATIVE_MS_ROWS_LEN(4)];
+    open_space(s);
+    must("bind", native_ms_bind(NATIVE_MS_LENT(s), 1));
+    take(s, 1, 72, 8);
+
+    s->rows = rows;
+    s->row_count = 4;
+    native_ms_put_row(rows, 1, 1, 8, 8);
+    native_ms_put_row(rows, 2, 9, 9, 9);
+    native_ms_put_row(rows, 3, 11, 64, 64);
+    native_ms_put_row(rows, 4, 65, 512, 511);
+    check(s, "ten words have no row");
+    size_t r = native_ms_prepare(NATIVE_MS_LENT(s));
+    printf("prepare with these rows: %zu %s\n", r, native_ms_refusal(r));
+    native_ms_put_row(rows, 3, 10, 64, 64);
+    check(s, "row 4 has too small a cell");
+    native_ms_put_row(rows, 4, 65, 512, 512);
+    check(s, "the office's rows");
+    must("set-up", native_ms_set_up(NATIVE_MS_LENT(s)));
+    must("bind", native_ms_bind(NATIVE_MS_LENT(s), 1));
+    take(s, 1, 72, 8);
+    close_space(s);
+}
+
 int main(void)
 {
     struct native_ms_space space;
@@ -154,5 +197,6 @@ int main(void)
     printf("holder 2 took over: block %llu\n", (unsigned long long)((third - s->base) / s->bytes));
     list_free(s);
     close_space(s);
+    office();
     return 0;
 }

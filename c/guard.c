@@ -1,7 +1,8 @@
 /* Damaged input from C: random calls on slices that lie between guard pages, so that a byte read or written outside a slice ends
  * the program. Slices are sound, damaged, or of a wrong length; parameters are now and then off.
- * After each call: bytes beside a slice are as before; a wrong length or flag is 1; a refusal but 8 and 9 changed nothing, and
- * none wrote the answer; an answer's last words are 0.
+ * Half of the spaces have rows, which are damaged for single calls.
+ * After each call: bytes beside a slice are as before, and so are the rows; a wrong length or flag is 1; a refusal but 8 and 9 changed
+ * nothing, and none wrote the answer; an answer's last words are 0.
  * Use: guard CALLS SEED */
 #include <stdio.h>
 #include <stdlib.h>
@@ -10,7 +11,8 @@
 #include <unistd.h>
 #include "native_ms.h"
 
-enum { WORDS, STATES, MARKS, HEAP, ANSWER, SLICES };
+enum { WORDS, STATES, MARKS, HEAP, ROWS, ANSWER, SLICES };
+enum { CHECK = 8 }; /* the call that is only lent rows and answer */
 enum { MOST_BLOCKS = 64, MOST_BYTES = 8192, MOST_HEAP = 64 * 8192, OFF_BY = 16 };
 
 static uint64_t state;
@@ -97,6 +99,17 @@ static int beside_same(const struct slice *s)
 static struct native_ms_space good, given;
 static size_t right[SLICES];
 
+/* Rows that are accepted: so many, one behind the other, the last up to the block. */
+static void put_rows(size_t count, size_t block_words)
+{
+    size_t from = 1;
+    for (size_t n = 1; n <= count; n++) {
+        size_t to = n == count ? block_words : from + below(8);
+        native_ms_put_row(slices[ROWS].at, n, from, to, one_in(2) ? to : to + below(block_words - to + 1));
+        from = to + 1;
+    }
+}
+
 static void choose_params(void)
 {
     static const size_t offers[] = {1, 2, 3, 4, 7, 16, 64};
@@ -112,10 +125,13 @@ static void choose_params(void)
     right[STATES] = NATIVE_MS_STATES_LEN(good.blocks);
     right[MARKS] = NATIVE_MS_MARKS_LEN(good.bytes, good.blocks);
     right[HEAP] = NATIVE_MS_HEAP_LEN(good.bytes, good.blocks);
+    size_t rows = one_in(2) ? 0 : one_in(4) ? NATIVE_MS_MOST_ROWS : 1 + below(6);
+    right[ROWS] = NATIVE_MS_ROWS_LEN(rows);
     right[ANSWER] = NATIVE_MS_ANSWER_LEN;
     int at_end = one_in(2);
     for (int i = 0; i < SLICES; i++)
         place(&slices[i], right[i], at_end);
+    put_rows(rows, good.bytes / 8);
 }
 
 /* One parameter off; whether it is off for sure. */
@@ -171,7 +187,7 @@ static size_t pick_offer(void)
 #define LENT \
     given.base, given.bytes, given.blocks, given.min, given.max, given.offsets, given.unified, given.lower, \
     slices[WORDS].at, slices[WORDS].len, slices[STATES].at, slices[STATES].len, slices[MARKS].at, slices[MARKS].len, \
-    slices[HEAP].at, slices[HEAP].len, slices[ANSWER].at, slices[ANSWER].len
+    slices[HEAP].at, slices[HEAP].len, slices[ROWS].at, slices[ROWS].len, slices[ANSWER].at, slices[ANSWER].len
 
 /* The holder that the next bind binds, for certain: after each set-up 1, 2 and 3. */
 static size_t to_bind;
@@ -181,6 +197,10 @@ static size_t make(int which, size_t *values)
 {
     *values = 0;
     switch (which) {
+    case CHECK:
+        *values = 2;
+        return native_ms_check_classes(given.base, given.bytes, given.blocks, given.min, given.max, given.offsets, given.unified,
+                                       given.lower, slices[ROWS].at, slices[ROWS].len, slices[ANSWER].at, slices[ANSWER].len);
     case 0: return native_ms_set_up(LENT);
     case 1: return native_ms_bind(LENT, to_bind > 0 ? to_bind-- : a_holder());
     case 2: *values = 1; return native_ms_destroy(LENT, a_holder());
@@ -228,14 +248,14 @@ static void damage_link(void)
         slices[HEAP].at[cell - good.base + (uint64_t)i] = (uint8_t)(link >> 8 * i);
 }
 
-static uint64_t tally[12];
+static uint64_t tally[13];
 
 static void one_call(int which, int off)
 {
     size_t values;
     remember();
     size_t r = make(which, &values);
-    if (r > 10)
+    if (r > 12 || r == 11)
         fail("a number that is none");
     tally[r]++;
     if (off && r != 1)
@@ -243,6 +263,8 @@ static void one_call(int which, int off)
     for (int i = 0; i < SLICES; i++) {
         if (!beside_same(&slices[i]))
             fail("a byte beside a slice changed");
+        if (i == ROWS && !same(&slices[i]))
+            fail("a row changed");
         if (r != 0 && (i == ANSWER || (r != 8 && r != 9)) && !same(&slices[i]))
             fail("a refusal changed a byte");
     }
@@ -251,15 +273,37 @@ static void one_call(int which, int off)
             fail("a word behind the answer is not 0");
 }
 
-/* A call on slices of which one has another length, then as before. */
+/* A call on slices of which one has another length, then as before. Fewer rows may be 12, and more of them are bytes that were
+ * there; a part of a row is 1, and so are more than 48. */
 static void wrong_sized(int which)
 {
-    int i = (int)below(SLICES);
+    int i = (int)(which == CHECK ? ROWS + below(2) : below(SLICES));
     int at_end = slices[i].at != slices[i].from;
-    size_t len = one_in(4) ? below(right[i] + OFF_BY) : right[i] + below(OFF_BY) - below(OFF_BY < right[i] ? OFF_BY : right[i]);
+    size_t least = OFF_BY < right[i] ? OFF_BY : right[i];
+    size_t len = one_in(4) ? below(right[i] + OFF_BY) : right[i] + below(OFF_BY) - (least == 0 ? 0 : below(least));
+    if (i == ROWS && one_in(4))
+        len = NATIVE_MS_ROWS_LEN(below(NATIVE_MS_MOST_ROWS + 3));
+    uint8_t kept[NATIVE_MS_ROWS_LEN(NATIVE_MS_MOST_ROWS)];
+    memcpy(kept, slices[ROWS].at, slices[ROWS].len);
     place(&slices[i], len, at_end);
-    one_call(which, len != right[i]);
+    one_call(which, i == ROWS ? len % 24 != 0 || len > sizeof kept : len != right[i]);
     place(&slices[i], right[i], at_end);
+    memcpy(slices[ROWS].at, kept, right[ROWS]);
+}
+
+/* A call, or the check, with rows of which some bytes are others; then as before. */
+static void damaged_rows(int which)
+{
+    uint8_t kept[NATIVE_MS_ROWS_LEN(NATIVE_MS_MOST_ROWS)];
+    memcpy(kept, slices[ROWS].at, right[ROWS]);
+    damage(&slices[ROWS]);
+    one_call(CHECK, 0);
+    uint64_t kind = native_ms_word(slices[ANSWER].at, NATIVE_MS_CHECK_KIND);
+    uint64_t before = tally[NATIVE_MS_BAD_CLASSES];
+    one_call(which, 0);
+    if ((kind != NATIVE_MS_CHECK_ACCEPTED) != (tally[NATIVE_MS_BAD_CLASSES] == before + 1))
+        fail("the check and a call differ on rows");
+    memcpy(slices[ROWS].at, kept, right[ROWS]);
 }
 
 /* Any call, but mostly one of the phase that stands in the tables. */
@@ -288,6 +332,7 @@ int main(int count, char **words)
     make_room(&slices[STATES], MOST_BLOCKS);
     make_room(&slices[MARKS], MOST_HEAP / 64);
     make_room(&slices[HEAP], MOST_HEAP);
+    make_room(&slices[ROWS], NATIVE_MS_ROWS_LEN(NATIVE_MS_MOST_ROWS + 3));
     make_room(&slices[ANSWER], NATIVE_MS_ANSWER_LEN);
     uint64_t left = 0;
     for (uint64_t done = 0; done < calls; done++) {
@@ -305,17 +350,20 @@ int main(int count, char **words)
             int off = spoil_params();
             one_call(usual_call(), off);
         } else if (one_in(15)) {
-            wrong_sized(usual_call());
+            wrong_sized(one_in(10) ? CHECK : usual_call());
+        } else if (one_in(15)) {
+            damaged_rows(usual_call());
         } else {
             if (one_in(80))
-                damage(&slices[below(ANSWER)]);
+                damage(&slices[below(ROWS)]);
             if (one_in(6))
                 damage_link();
             one_call(usual_call(), 0);
         }
     }
     printf("guard: %llu calls, seed %llu, no byte outside\n", (unsigned long long)calls, (unsigned long long)seed);
-    for (int r = 0; r <= 10; r++)
-        printf("%9llu %s\n", (unsigned long long)tally[r], native_ms_refusal((size_t)r));
+    for (int r = 0; r <= 12; r++)
+        if (r != 11)
+            printf("%9llu %s\n", (unsigned long long)tally[r], native_ms_refusal((size_t)r));
     return 0;
 }

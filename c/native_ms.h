@@ -1,4 +1,4 @@
-/* The native mark-sweep space for a C host: eight calls on numbers and lent byte slices.
+/* The native mark-sweep space for a C host: eight calls on numbers and lent byte slices, and a check of class tables.
  *
  * Build target/staticlib/libexports.a by c/build.sh and link it. docs/HOST.md has the same in more words; c/example.c is a host
  * to start from. What each call does is proved of it for all inputs, as long as the host keeps to the duties below, which no
@@ -14,7 +14,8 @@
  * - Between calls only holders write, each only in cells it holds then: from the address answered on, as many bytes as it asked
  *   for (the whole cell, if it asked for an align of MIN). Nobody writes words, states or marks. A call on damaged tables stays
  *   inside its slices and ends, but what it answers is then of no use.
- * - Every call is given the parameters and the slices that set-up was given. The answer slice alone may be another each time.
+ * - Every call is given the parameters, the rows and the slices that set-up was given. The answer slice alone may be another each
+ *   time.
  *
  * ADDRESSES ARE NUMBERS. `base` is the number of the heap's first byte and no pointer: any nonzero multiple of the block size
  * will do, wherever the heap lies in memory. Place p of the heap has the number base + (p - heap); native_ms_pointer and
@@ -29,7 +30,7 @@ extern "C" {
 #endif
 
 /* This interface. It changes whenever a signature, a length or an answer does. */
-#define NATIVE_MS_VERSION 2
+#define NATIVE_MS_VERSION 3
 
 #if SIZE_MAX != UINT64_MAX
 #error "size_t must have 64 bits"
@@ -41,6 +42,7 @@ extern "C" {
 #define NATIVE_MS_STATES_LEN(blocks) ((size_t)(blocks))
 #define NATIVE_MS_MARKS_LEN(bytes, blocks) ((size_t)(bytes) * (size_t)(blocks) / 64)
 #define NATIVE_MS_HEAP_LEN(bytes, blocks) ((size_t)(bytes) * (size_t)(blocks))
+#define NATIVE_MS_ROWS_LEN(count) ((size_t)24 * (size_t)(count)) /* of 0 to NATIVE_MS_MOST_ROWS rows */
 #define NATIVE_MS_ANSWER_LEN ((size_t)32)
 #define NATIVE_MS_STACK ((size_t)131072)
 
@@ -48,11 +50,17 @@ extern "C" {
  * blocks, 1 to 1024; min 4 or 8; max a power of two, min to 64; offsets and unified 0 or 1; lower (L), a multiple of 8, -64 to
  * 64, and 0 if unified. Anything else is refused as 1. */
 
+/* A class table: up to 48 rows, each three words (from, to, cell). A request of so many words, from `from` to `to`, gets a cell of
+ * `cell` words. Every count of words from 1 to the block's must fall in exactly one row, and a cell holds at least its row's `to`
+ * and at most the block; other rows are refused as 12. No rows: the classes of document 01. The rows are only read. */
+#define NATIVE_MS_MOST_ROWS 48
+#define NATIVE_MS_ROWS const uint8_t *rows, size_t rows_len
+
 #define NATIVE_MS_PARAMS \
     size_t base, size_t bytes, size_t blocks, size_t min, size_t max, size_t offsets, size_t unified, int64_t lower
 #define NATIVE_MS_SLICES \
     uint8_t *words, size_t words_len, uint8_t *states, size_t states_len, uint8_t *marks, size_t marks_len, \
-    uint8_t *heap, size_t heap_len, uint8_t *answer, size_t answer_len
+    uint8_t *heap, size_t heap_len, NATIVE_MS_ROWS, uint8_t *answer, size_t answer_len
 
 /* ---- the calls. Behind each: the words of its answer, in order; words after them are 0 */
 
@@ -66,6 +74,10 @@ size_t native_ms_mark(NATIVE_MS_PARAMS, NATIVE_MS_SLICES, size_t place, size_t b
 size_t native_ms_release(NATIVE_MS_PARAMS, NATIVE_MS_SLICES, size_t holder);                  /* blocks released, merged */
 size_t native_ms_shared_release(NATIVE_MS_PARAMS, NATIVE_MS_SLICES);                          /* blocks released, merged */
 
+/* The check of a class table, before a space is set up: refused only as 1. Its answer: 0 and 0 if the rows are accepted; 1 and the
+ * least count of words that no row or more than one covers; or 2 and the first row that is unfit, counted from 1. */
+size_t native_ms_check_classes(NATIVE_MS_PARAMS, NATIVE_MS_ROWS, uint8_t *answer, size_t answer_len);
+
 /* alloc: an offer of this number offers no block */
 #define NATIVE_MS_NO_OFFER UINT64_MAX
 
@@ -78,8 +90,13 @@ size_t native_ms_shared_release(NATIVE_MS_PARAMS, NATIVE_MS_SLICES);            
 #define NATIVE_MS_DESTROY_BLOCKS 0
 #define NATIVE_MS_RELEASE_BLOCKS 0
 #define NATIVE_MS_RELEASE_MERGED 1 /* from in-gc to abandoned by the last release; 0 if others are due */
+#define NATIVE_MS_CHECK_KIND 0
+#define NATIVE_MS_CHECK_NUMBER 1
+#define NATIVE_MS_CHECK_ACCEPTED 0
+#define NATIVE_MS_CHECK_BAD_COUNT 1
+#define NATIVE_MS_CHECK_BAD_ROW 2
 
-/* ---- refusals, in the order in which they are tested */
+/* ---- refusals, in the order in which they are tested; 12 is tested right after 1 */
 
 #define NATIVE_MS_BAD_SETUP 1   /* a parameter or a length is off */
 #define NATIVE_MS_BAD_TABLES 2  /* the tables aren't sound */
@@ -91,12 +108,13 @@ size_t native_ms_shared_release(NATIVE_MS_PARAMS, NATIVE_MS_SLICES);            
 #define NATIVE_MS_BAD_LINK 8    /* the cell's link is neither 0 nor a whole cell of its block */
 #define NATIVE_MS_EXHAUSTED 9   /* no cell found and no offer */
 #define NATIVE_MS_BAD_OBJECT 10 /* no place of the heap, or not in that block */
+#define NATIVE_MS_BAD_CLASSES 12 /* rows that the check does not accept */
 
 static inline const char *native_ms_refusal(size_t number)
 {
-    static const char *const words[] = {"Done",    "BadSetup", "BadTables", "WrongPhase", "BadHolder", "BadRequest",
-                                        "TooBig",  "BadOffer", "BadLink",   "Exhausted",  "BadObject"};
-    return number <= 10 ? words[number] : "?";
+    static const char *const words[] = {"Done",    "BadSetup", "BadTables", "WrongPhase", "BadHolder", "BadRequest", "TooBig",
+                                        "BadOffer", "BadLink", "Exhausted", "BadObject",  "?",         "BadClasses"};
+    return number <= 12 ? words[number] : "?";
 }
 
 /* ---- words and addresses */
@@ -108,6 +126,20 @@ static inline uint64_t native_ms_word(const uint8_t *bytes, size_t index)
     for (int i = 7; i >= 0; i--)
         value = value << 8 | bytes[8 * index + (size_t)i];
     return value;
+}
+
+static inline void native_ms_put_word(uint8_t *bytes, size_t index, uint64_t value)
+{
+    for (size_t i = 0; i < 8; i++)
+        bytes[8 * index + i] = (uint8_t)(value >> 8 * i);
+}
+
+/* The row with this number, counted from 1. */
+static inline void native_ms_put_row(uint8_t *rows, size_t number, uint64_t from, uint64_t to, uint64_t cell)
+{
+    native_ms_put_word(rows, 3 * (number - 1), from);
+    native_ms_put_word(rows, 3 * (number - 1) + 1, to);
+    native_ms_put_word(rows, 3 * (number - 1) + 2, cell);
 }
 
 static inline uint8_t *native_ms_pointer(uint8_t *heap, uint64_t base, uint64_t address)
@@ -143,13 +175,19 @@ struct native_ms_space {
     size_t base, bytes, blocks, min, max, offsets, unified;
     int64_t lower;
     uint8_t *words, *states, *marks, *heap;
+    const uint8_t *rows; /* not read if row_count is 0 */
+    size_t row_count;
     uint8_t answer[32];
 };
+
+/* Where no rows are given: no pointer may be null. */
+static const uint8_t native_ms_no_rows[1] = {0};
 
 #define NATIVE_MS_LENT(s) \
     (s)->base, (s)->bytes, (s)->blocks, (s)->min, (s)->max, (s)->offsets, (s)->unified, (s)->lower, \
     (s)->words, NATIVE_MS_WORDS_LEN((s)->blocks), (s)->states, NATIVE_MS_STATES_LEN((s)->blocks), \
     (s)->marks, NATIVE_MS_MARKS_LEN((s)->bytes, (s)->blocks), (s)->heap, NATIVE_MS_HEAP_LEN((s)->bytes, (s)->blocks), \
+    (s)->row_count == 0 ? native_ms_no_rows : (s)->rows, NATIVE_MS_ROWS_LEN((s)->row_count), \
     (s)->answer, NATIVE_MS_ANSWER_LEN
 
 #ifdef __cplusplus

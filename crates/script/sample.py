@@ -3,8 +3,9 @@
 
     oracle/build.sh && crates/script/sample.py
 
-Hand-made scripts that the Rust can be asked, and random ones: the answers are the Rust's. Hand-made scripts with refusals
-that the Rust does not know: the answers are those of the hand; where one is cut short by a `*`, the reference completes it.
+Hand-made scripts that the Rust can be asked, and random ones: the answers are the Rust's. Hand-made scripts with refusals or rows
+that the Rust does not know: the answers are those of the hand; where one is cut short by a `*`, the reference completes it. Random
+scripts with rows (02, R-5): the reference answers.
 The oracle is target/oracle/oracle, or what ORACLE names.
 """
 import os
@@ -25,7 +26,9 @@ CALLS = 60
 ARENA = 1 << 16         # small heaps, since each dump prints every mark byte
 LAST = 'no_newline'     # its last line has no newline, so it stands last
 THROUGH = ('example', 'exhausted', 'bad_link', 'refused_1', 'refused_2_order', 'refused_3', 'refused_4', 'refused_5', 'refused_6',
-           'refused_7', 'refused_10', 'release_walk', 'merge', 'leaves_marking', 'sweep_negative_L')    # told again through the exports
+           'refused_7', 'refused_10', 'release_walk', 'merge', 'leaves_marking', 'sweep_negative_L', 'rows', 'rows_refused',
+           'rows_office')   # told again through the exports
+ROW_SEEDS = (3, 12)     # with rows, good and damaged
 VALUES = {'setup': 0, 'b': 0, 'd': 1, 'p': 0, 'a': 4, 'm': 1, 'r': 2, 's': 2}
 NO_OFFER = str(2 ** 64 - 1)     # directly a block that isn't there, through an export none
 NOT_FOR_THE_RUST = '# not for the Rust'
@@ -69,7 +72,20 @@ def hand_made(path):
     for_rust = NOT_FOR_THE_RUST not in lines
     answers = of_rust(lines) if for_rust else of_document(lines)
     source = 'the Rust' if for_rust else 'document 01'
-    return '# %s: %s' % (source, path.stem), lines, checked(path.stem, answers, wanted)
+    return without_rows('# %s: %s' % (source, path.stem), lines, checked(path.stem, answers, wanted))
+
+
+def without_rows(heading, lines, answers):
+    """The part, and that no rows are in force behind it."""
+    if any(x.split(' ')[0] == 'k' for x in lines):
+        return heading, lines + ['k'], answers + ['ok']
+    return heading, lines, answers
+
+
+def rows_part(seed):
+    maker = generate.Maker(seed, 'all', ARENA, rows=1).script(CALLS)
+    lines = [x for x, answer in zip(maker.lines, maker.answers) if answer != 'bad']
+    return without_rows('# document 02: random rows, seed %d' % seed, lines, of_document(lines))
 
 
 def random_part(seed):
@@ -93,23 +109,24 @@ def through_part(name, lines):
     lines = [x for x in lines if x and not x.startswith('#') and not x.endswith(' ' + NO_OFFER)]
     driver = reference.Driver()
     answers = '\n'.join(as_export(x, driver.answer(x)) for x in lines).split('\n')
-    return '# document 01, through the exports: ' + name, lines, answers
+    return without_rows('# document 01, through the exports: ' + name, lines, answers)
 
 
 def through_parts():
     named = [through_part(name, (SCRIPTS / (name + '.script')).read_text().split('\n')) for name in THROUGH]
     drawn = through_part('random, seed 24', random_part(24)[1])
+    rows = through_part('random rows, seed 5', rows_part(5)[1])
     off = ['x 31', 'setup 16384 12 4 8 8 0 1 0 0', 'x 0', 'setup 16384 12 4 8 8 0 1 0 0', 'x 64', 'setup 16384 12 4 8 8 0 1 0 0', 'x 32',
            'setup 16384 12 4 8 8 0 1 0 0', 'b 1', 'a 1 8 8 0 ' + NO_OFFER, 'a 1 8 8 0 1', 'x 40', 'a 1 8 8 0 -', 'x -', 'a 1 8 8 0 -']
     given = ['ok', '1 ' + 'a5' * 31, 'ok', '1 -', 'ok', '1 ' + 'a5' * 64, 'ok', '0 ' + '00' * 32, '0 ' + '00' * 32, '9 ' + 'a5' * 32,
              as_export('a', 'ok 24568 8 1 0'), 'ok', '1 ' + 'a5' * 40, 'ok', 'ok 24560 8 0 0']
-    return [('# through the exports', ['x 32'], ['ok'])] + named + [drawn, ('# document 02: answer slices', off, given)]
+    return [('# through the exports', ['x 32'], ['ok'])] + named + [drawn, rows, ('# document 02: answer slices', off, given)]
 
 
 def main():
     paths = sorted(SCRIPTS.glob('*.script'), key=lambda p: (p.stem == LAST, p.stem))
     hand = [part for part in map(hand_made, paths) if part]
-    parts = hand[:-1] + [random_part(seed) for seed in SEEDS] + through_parts() + hand[-1:]
+    parts = hand[:-1] + [random_part(seed) for seed in SEEDS] + [rows_part(seed) for seed in ROW_SEEDS] + through_parts() + hand[-1:]
     given, answers = [HEAD.rstrip('\n')], []
     for heading, lines, out in parts:
         given += [heading] + [x for x in lines if x and not x.startswith('#')]

@@ -20,6 +20,7 @@ UNALLOCATED, UNMARKED, MARKED = 0, 255, 254
 
 BAD_SETUP, BAD_TABLES, WRONG_PHASE, BAD_HOLDER, BAD_REQUEST = 1, 2, 3, 4, 5
 TOO_BIG, BAD_OFFER, BAD_LINK, EXHAUSTED, BAD_OBJECT = 6, 7, 8, 9, 10
+BAD_CLASSES = 12    # R-5 of document 02; tested right after 1
 
 
 class Refused(Exception):
@@ -55,6 +56,7 @@ class Parameters:
         self.unified = unified
         self.lower_bound = lower_bound  # L
         self.end = base + blocks * self.block_bytes
+        self.block_words = self.block_bytes // WORD
 
     def fit(self):
         """Whether set-up takes them; it answers BadSetup otherwise."""
@@ -126,6 +128,65 @@ def bin_from_size(size):
     return bin if bin < BINS else None
 
 
+MOST_ROWS = 48
+
+
+class Classes:
+    """R-5 of document 02: the classes that a call is given.  Rows are triples
+    of words (from, to, cell), numbered from 1; without any they are 01's."""
+
+    def __init__(self, rows=()):
+        self.rows = tuple(rows)
+        self.verdicts = {}      # what the checker says, by the block's words
+
+    def too_many(self):
+        return len(self.rows) > MOST_ROWS
+
+    def covers(self, row, count):
+        """A row whose from is 0 or over its to covers nothing."""
+        low, high, _ = row
+        return 0 < low <= count <= high
+
+    def is_fit(self, row, block_words):
+        low, high, cell = row
+        return 0 < low <= high <= cell <= block_words
+
+    def check(self, block_words):
+        """What the checker names: ('count', n), the least count that isn't in
+        exactly one row; else ('row', n), the first that is unfit; else None."""
+        if not self.rows:
+            return None
+        for count in range(1, block_words + 1):
+            if sum(self.covers(row, count) for row in self.rows) != 1:
+                return 'count', count
+        for n, row in enumerate(self.rows, 1):
+            if not self.is_fit(row, block_words):
+                return 'row', n
+        return None
+
+    def named(self, block_words):
+        """The same, kept: each call asks."""
+        if block_words not in self.verdicts:
+            self.verdicts[block_words] = self.check(block_words)
+        return self.verdicts[block_words]
+
+    def bin_of(self, size):
+        """The row that matches, of one word for size 0; None if none does."""
+        if not self.rows:
+            return bin_from_size(size)
+        words = max(1, -(-size // WORD))
+        matching = [n for n, row in enumerate(self.rows, 1)
+                    if self.covers(row, words)]
+        return matching[0] if matching else None
+
+    def cell_bytes(self, bin):
+        """Row n is bin n; None for a bin without a row."""
+        if not self.rows:
+            return CELL_SIZES[bin]
+        return (WORD * self.rows[bin - 1][2] if 1 <= bin <= len(self.rows)
+                else None)
+
+
 def maximum_aligned_size(p, size, align):
     return size + align - p.least if align > p.least else size
 
@@ -186,6 +247,12 @@ def filled(length, seed):
 
 # ---- Tables, block lists, blocks
 
+def test_classes(classes, p):
+    """The tests of rows: too many are BadSetup, and then BadClasses."""
+    refuse_unless(not classes.too_many(), BAD_SETUP)
+    refuse_unless(classes.named(p.block_words) is None, BAD_CLASSES)
+
+
 class Space:
     """All tables and the heap, with the calls on them.
 
@@ -193,9 +260,12 @@ class Space:
     ('sweep', block, freed cells), ('release', block), ('take', cell, size).
     The counts of the answers are counts of events."""
 
+    make_classes = Classes
+
     def __init__(self, p, seed=0):
         """Set-up: zero tables and marks, Running, no holder bound."""
         self.p = p
+        self.classes = self.make_classes()  # what the next call is given
         n = p.blocks
         self.state = [UNALLOCATED] * n
         self.next = [0] * n
@@ -403,7 +473,7 @@ class Space:
                 return b, False
         refuse_unless(offer is not None, EXHAUSTED)
         self.push(list_number(h, AVAILABLE, bin), offer)
-        self.init_block(offer, CELL_SIZES[bin], h)
+        self.init_block(offer, self.classes.cell_bytes(bin), h)
         return offer, True
 
     def take_cell(self, b):
@@ -432,7 +502,7 @@ class Space:
         if offer is not None:
             refuse_unless(offer < self.p.blocks
                           and self.state[offer] == UNALLOCATED, BAD_OFFER)
-        b, used = self.find_block(h, bin_from_size(raised), offer)
+        b, used = self.find_block(h, self.classes.bin_of(raised), offer)
         cell = self.take_cell(b)
         return (align_allocation(cell, align, offset), self.size[b],
                 int(used), self.count('sweep'))
@@ -442,6 +512,7 @@ class Space:
     def begin(self):
         """What every call but set-up and pages used tests first."""
         self.events = []
+        test_classes(self.classes, self.p)
         refuse_unless(self.is_sound(), BAD_TABLES)
 
     def count(self, kind):
@@ -554,7 +625,8 @@ class Space:
         return self.count('release'), merged
 
     def pages_used(self, set):
-        """Bins 1 to 48 of one set; walks tables that need not be sound."""
+        """Bins 1 to 48 of one set; walks tables that need not be sound, and
+        is given no rows."""
         blocks = 0
         for bin in range(1, BINS):
             link = self.first[1 + BINS * set + bin]
@@ -587,7 +659,7 @@ class Space:
         if not 1 <= l <= LISTS:
             return False
         bin, owner = bin_of_list(l), owner_of(l)
-        return (bin >= 1 and self.size[b] == CELL_SIZES[bin]
+        return (bin >= 1 and self.size[b] == self.classes.cell_bytes(bin)
                 and (self.free[b] == 0 or self.is_whole_cell(b, self.free[b]))
                 and self.is_holder(self.tls[b])
                 and (not self.is_holder(owner) or self.tls[b] == owner))
@@ -677,6 +749,8 @@ class Driver:
 
     def __init__(self, make_space=Space):
         self.make_space = make_space
+        self.make_classes = getattr(make_space, 'make_classes', Classes)
+        self.classes = self.make_classes()
         self.space = None
         self.ended = False
         self.lines = {
@@ -707,6 +781,10 @@ class Driver:
         kind, rest = words[0], words[1:]
         if kind == 'setup':
             return self.do_setup(rest)
+        if kind == 'k':
+            return self.do_rows(rest)
+        if kind == 'c':
+            return self.do_check(rest)
         bad_unless(self.space is not None)
         if kind == 'a':
             return self.do_alloc(rest)
@@ -727,8 +805,27 @@ class Driver:
                        unified == 1, lower_bound)
         self.space = None
         refuse_unless(p.fit(), BAD_SETUP)
+        test_classes(self.classes, p)
         self.space = self.make_space(p, seed)
+        self.space.classes = self.classes
         return 'ok'
+
+    def do_rows(self, words):
+        """R-5: what later calls are given; the tables aren't touched."""
+        bad_unless(len(words) % 3 == 0 and len(words) <= 3 * 64)
+        n = [number(word) for word in words]
+        self.classes = self.make_classes(zip(n[0::3], n[1::3], n[2::3]))
+        if self.space is not None:
+            self.space.classes = self.classes
+        return 'ok'
+
+    def do_check(self, words):
+        bad_unless(len(words) == 1)
+        log = number(words[0])
+        bad_unless(12 <= log <= 16)
+        refuse_unless(not self.classes.too_many(), BAD_SETUP)
+        named = self.classes.named((1 << log) // WORD)
+        return 'ok' if named is None else 'ok %s %d' % named
 
     def do_bind(self, h):
         self.space.bind(h)
@@ -761,20 +858,30 @@ class Driver:
         bad_unless(set < SETS)
         return 'ok %d' % self.space.pages_used(set)
 
+    def accepted_classes(self):
+        """The rows in force; a leaf that asks for a bin needs good ones."""
+        classes = self.space.classes
+        bad_unless(not classes.too_many()
+                   and classes.named(self.space.p.block_words) is None)
+        return classes
+
     def do_bin(self, size):
-        bin = bin_from_size(size)
+        bin = self.accepted_classes().bin_of(size)
         return 'ok -' if bin is None else 'ok %d' % bin
 
     def do_bin_of_words(self, words):
-        return self.do_bin(8 * words)
+        """R-1's table is of 01's classes, whatever the rows."""
+        bin = bin_from_size(8 * words)
+        return 'ok -' if bin is None else 'ok %d' % bin
 
     def do_raise(self, size, align):
+        classes = self.accepted_classes()
         bad_unless(self.space.is_good_request(size, align, 0))
         raised = maximum_aligned_size(self.space.p, size, align)
-        bin = bin_from_size(raised)
+        bin = classes.bin_of(raised)
         if bin is None:
             return 'ok -'
-        return 'ok %d %d %d' % (raised, bin, CELL_SIZES[bin])
+        return 'ok %d %d %d' % (raised, bin, classes.cell_bytes(bin))
 
     def do_align(self, region, align, offset):
         bad_unless(self.space.is_good_request(0, align, offset))

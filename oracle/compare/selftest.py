@@ -351,10 +351,161 @@ def trust_tls(space, b):
 
 def trust_size(space, b):
     if 1 <= space.list[b] <= ref.LISTS and space.size[b] != 0:
-        space.size[b] = ref.CELL_SIZES[ref.bin_of_list(space.list[b])]
+        bin = ref.bin_of_list(space.list[b])
+        space.size[b] = space.classes.cell_bytes(bin)
 
 
-# Name: (mode that must find it, mutant).
+# ---- Mutants of R-5 of document 02: rows
+
+def with_classes(bent):
+    """A reference whose classes are bent."""
+    class Bent(ref.Space):
+        make_classes = bent
+    Bent.__doc__ = bent.__doc__
+    return Bent
+
+
+class GreatestCount(ref.Classes):
+    """Names the greatest bad count."""
+
+    def check(self, block_words):
+        named = super().check(block_words)
+        if named and named[0] == 'count':
+            return 'count', max(
+                n for n in range(1, block_words + 1)
+                if sum(self.covers(row, n) for row in self.rows) != 1)
+        return named
+
+
+class RowBeforeCount(ref.Classes):
+    """Looks for an unfit row first."""
+
+    def check(self, block_words):
+        for n, row in enumerate(self.rows, 1):
+            if not self.is_fit(row, block_words):
+                return 'row', n
+        return super().check(block_words)
+
+
+class CoveredTwice(ref.Classes):
+    """Passes a count that is in two rows."""
+
+    def check(self, block_words):
+        if not self.rows:
+            return None
+        for n in range(1, block_words + 1):
+            if not any(self.covers(row, n) for row in self.rows):
+                return 'count', n
+        for n, row in enumerate(self.rows, 1):
+            if not self.is_fit(row, block_words):
+                return 'row', n
+        return None
+
+
+class FromZeroCovers(ref.Classes):
+    """A row whose from is 0 covers."""
+
+    def covers(self, row, count):
+        return row[0] <= count <= row[1]
+
+
+class EmptyRowFits(ref.Classes):
+    """A row that covers nothing isn't unfit."""
+
+    def is_fit(self, row, block_words):
+        low, high, cell = row
+        return not 0 < low <= high or high <= cell <= block_words
+
+
+class HoldsFromOnly(ref.Classes):
+    """A cell that holds its row's from and not its to passes."""
+
+    def is_fit(self, row, block_words):
+        low, high, cell = row
+        return 0 < low <= high <= block_words and low <= cell <= block_words
+
+
+class CellPastTheBlock(ref.Classes):
+    """A cell may be over the block."""
+
+    def is_fit(self, row, block_words):
+        low, high, cell = row
+        return 0 < low <= high <= cell
+
+
+class RowsFromZero(ref.Classes):
+    """Row n is bin n - 1."""
+
+    def bin_of(self, size):
+        bin = super().bin_of(size)
+        return bin - 1 if self.rows and bin else bin
+
+    def cell_bytes(self, bin):
+        return super().cell_bytes(bin + 1 if self.rows else bin)
+
+
+class LastRowForZero(ref.Classes):
+    """A raised size of 0 doesn't use the row of one word."""
+
+    def bin_of(self, size):
+        if self.rows and size == 0:
+            return len(self.rows)
+        return super().bin_of(size)
+
+
+class RowlessSizeZero(ref.Classes):
+    """A bin without a row has cells of size 0."""
+
+    def cell_bytes(self, bin):
+        size = super().cell_bytes(bin)
+        return 0 if size is None else size
+
+
+class OwnSizesInTables(ref.Space):
+    """Sound tables read 01's sizes, whatever the rows."""
+
+    def is_sound_block(self, b):
+        rows = self.classes
+        self.classes = ref.Classes()
+        try:
+            return super().is_sound_block(b)
+        finally:
+            self.classes = rows
+
+
+class TooManyRejected(ref.Classes):
+    """More than 48 rows are tested by the checker, and so may be 12."""
+
+    def too_many(self):
+        return len(self.rows) > 64
+
+
+class ClassesAfterTables(ref.Space):
+    """Tests the tables before the rows."""
+
+    def begin(self):
+        ref.refuse_unless(self.is_sound(), ref.BAD_TABLES)
+        super().begin()
+
+
+class RowsOfSetUpOnly(ref.Space):
+    """Only set-up tests the rows."""
+
+    def begin(self):
+        self.events = []
+        ref.refuse_unless(self.is_sound(), ref.BAD_TABLES)
+
+
+class PagesTestRows(ref.Space):
+    """Pages used is given the rows too."""
+
+    def pages_used(self, set):
+        ref.test_classes(self.classes, self.p)
+        return super().pages_used(set)
+
+
+# Name: (mode that must find it, mutant); `rows` is `all` with rows in every
+# section.
 MUTANTS = {
     'size-before-raise': ('all', SizeBeforeRaise),
     'zero-before-link': ('rust', ZeroBeforeLink),
@@ -389,6 +540,21 @@ MUTANTS = {
     'sound-free-head': ('all', with_block_clause(trust_free)),
     'sound-holder': ('all', with_block_clause(trust_tls)),
     'sound-cell-size': ('all', with_block_clause(trust_size)),
+    'greatest-count': ('rows', with_classes(GreatestCount)),
+    'row-before-count': ('rows', with_classes(RowBeforeCount)),
+    'covered-twice': ('rows', with_classes(CoveredTwice)),
+    'from-zero-covers': ('rows', with_classes(FromZeroCovers)),
+    'empty-row-fits': ('rows', with_classes(EmptyRowFits)),
+    'holds-from-only': ('rows', with_classes(HoldsFromOnly)),
+    'cell-past-the-block': ('rows', with_classes(CellPastTheBlock)),
+    'rows-from-zero': ('rows', with_classes(RowsFromZero)),
+    'last-row-for-zero': ('rows', with_classes(LastRowForZero)),
+    'rowless-size-zero': ('rows', with_classes(RowlessSizeZero)),
+    'own-sizes-in-tables': ('rows', OwnSizesInTables),
+    'too-many-rejected': ('rows', with_classes(TooManyRejected)),
+    'classes-after-tables': ('rows', ClassesAfterTables),
+    'rows-of-set-up-only': ('rows', RowsOfSetUpOnly),
+    'pages-test-rows': ('rows', PagesTestRows),
 }
 
 
@@ -418,8 +584,10 @@ def find(name, mode):
     """The shrunk script that shows the mutant, or None."""
     command = '%s %s --mutant %s' % (sys.executable, HERE, name)
     drivers = ['reference', command]
+    rows = 1 if mode == 'rows' else None
+    mode = 'rust' if mode == 'rust' else 'all'
     for seed in range(1, SEEDS + 1):
-        maker = generate.Maker(seed, mode, ARENA).script(CALLS)
+        maker = generate.Maker(seed, mode, ARENA, rows=rows).script(CALLS)
         runs = [compare.Run(maker.answers),
                 compare.run_driver(command, maker.lines)]
         at = compare.first_difference(runs, maker.lines, mode)

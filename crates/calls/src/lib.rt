@@ -1,10 +1,11 @@
-// The one place that performs a call: what is asked by value, and what is said as numbers. The exports, the census and every
-// later program that makes calls go through here.
+// The one place that performs a call, and the check of a class table: what is asked by value, and what is said as numbers. The
+// exports, the census and every later program that makes calls go through here.
 use model::Address;
 use model::AllocAnswer;
 use model::Answer;
 use model::Ask;
 use model::Block;
+use model::ClassesAnswer;
 use model::DestroyAnswer;
 use model::MarkAnswer;
 use model::Params;
@@ -12,12 +13,13 @@ use model::Refusal;
 use model::ReleaseAnswer;
 use model::Said;
 use native_ms::allocator::Request;
+use native_ms::classes;
 use native_ms::free_list_allocator;
 use native_ms::global;
 ghost use mathlib.Core.Path.{_≡_};
 ghost use Rattle.model.specs.Base.{flag};
-ghost use Rattle.model.specs.Calls.{refusalNumber, refused, call, setUp};
-ghost use Rattle.model.specs.Answers.{replyOf, destroyReply, allocReply, markReply, releaseReply, callOf, saidOf, outcome, outcomeOf};
+ghost use Rattle.model.specs.Calls.{refusalNumber, refused, call, setUp, checkClasses};
+ghost use Rattle.model.specs.Answers.{replyOf, destroyReply, allocReply, markReply, releaseReply, classesReply, callOf, saidOf, outcome, outcomeOf};
 ghost use Rattle.model.specs.Promise.{lend};
 
 // Document 01's number of a refusal.
@@ -36,6 +38,7 @@ pub fn refusal_number(x: Refusal) -> usize
         Refusal::Exhausted => 9,
         Refusal::BadObject => 10,
         Refusal::BadLine => 11,
+        Refusal::BadClasses => 12,
     }
 }
 
@@ -142,6 +145,42 @@ fn release_said(x: ReleaseAnswer) -> Said
             fourth: 0,
         },
     }
+}
+
+fn classes_said(x: ClassesAnswer) -> Said
+    ensures { λ r. ⌜ r ≡ saidOf (classesReply x) ⌝ }
+{
+    match x {
+        ClassesAnswer::Accepted => Said {
+            number: 0,
+            first: 0,
+            second: 0,
+            third: 0,
+            fourth: 0,
+        },
+        ClassesAnswer::BadCount(n) => Said {
+            number: 0,
+            first: 1,
+            second: n,
+            third: 0,
+            fourth: 0,
+        },
+        ClassesAnswer::BadRow(n) => Said {
+            number: 0,
+            first: 2,
+            second: n,
+            third: 0,
+            fourth: 0,
+        },
+        ClassesAnswer::Refused(refusal) => refusal_said(refusal),
+    }
+}
+
+// The check of a class table.
+pub fn check_classes(p: Params) -> Said
+    ensures { λ r. ⌜ r ≡ saidOf (checkClasses p) ⌝ }
+{
+    classes_said(classes::check_classes(p))
 }
 
 // Set-up.

@@ -1,21 +1,26 @@
--- Laws of the exports' code: one for each way out. Leans on decoding and encoding. Assumes nothing.
+-- Laws of the exports' code: one for each way out, and the rows that it reads. Leans on decoding and encoding. Assumes nothing.
 use mathlib.Core.Path.{_≡_, refl, sym, ap, _∙_}
 use mathlib.Core.Logic.{_⊎_, inl, inr}
 use mathlib.Core.Bool.{true, false, _&&_}
 use mathlib.Core.List.{List, [], _∷_}
-use Prim.Native.Nat.{ℕ, _+_, _*_, _/_, _%_, _<_}
+use Prim.Native.Nat.{ℕ, zero, suc, _+_, _*_, _/_, _%_, _<_}
+use native.Mathlib.Nat.{not-suc-le-zero, le-of-suc-le-suc}
 use native.Mathlib.Omega.{arith}
+use native.Mathlib.Decide.{decLt}
 use lib.Dec.{eqb}
-use lib.ListN.{length}
+use lib.ListN.{length, getD, set}
+use lib.Seq.{ext-getD, getD-set-same, getD-set-other}
 use borrow.Author.Tests.{eq-eqb, ne-eqb}
 use Rattle.model.specs.declared.Params.{Params}
+use Rattle.model.specs.declared.Row.{Row}
 use Rattle.model.specs.declared.Given.{Given}
 use Rattle.model.specs.declared.Said.{Said}
 use Rattle.model.specs.Params.{Lent, fits, goodParams, wordCount, heapBytes}
-use Rattle.model.specs.Memory.{bytesOf, overwrite}
-use Rattle.model.specs.Calls.{refusalNumber, Result, call, setUp, badSetup}
+use Rattle.model.specs.Memory.{loadBytes, bytesOf, overwrite}
+use Rattle.model.specs.SizeClasses.{noRow, tabulated}
+use Rattle.model.specs.Calls.{refusalNumber, Result, call, setUp, badSetup, checkClasses}
 use Rattle.model.specs.Answers.{saidOf, Outcome, outcome, outcomeOf}
-use Rattle.model.specs.Exports.{wordsFrom, decoded, encoded, LentBytes, lendBytes, decodedLent, Export, gives, answerBytes, shown, exported, paramsOf, flagsOk, called}
+use Rattle.model.specs.Exports.{wordsFrom, decoded, encoded, LentBytes, lendBytes, decodedLent, Export, gives, answerBytes, shown, exported, rowBytes, rowFrom, rowsOf, paramsOf, flagsOk, rowsOk, called, checkGives, checkCalled}
 use Rattle.laws.proofs.Below.{test, and-second}
 use Rattle.laws.proofs.Params.{good-bounds}
 use Rattle.laws.proofs.Memory.{Bytes}
@@ -124,11 +129,85 @@ module _ (p : Params) (b : LentBytes) (e : Entry) where
 
 -- ---- parameters that are off
 
-module _ (g : Given) (b : LentBytes) (e : Entry) where
-  pub called-off : flagsOk g ≡ false → gives 1 b ≡ called g b (innerOf e)
+module _ (g : Given) (r : List ℕ) (b : LentBytes) (e : Entry) where
+  pub called-off : flagsOk g ≡ false → gives 1 b ≡ called g r b (innerOf e)
   unfolding called refusalNumber
   called-off f = rw f
 
-  pub called-on : {p : Params} {x : Export} → flagsOk g ≡ true → p ≡ paramsOf g → x ≡ exported p b (innerOf e) → x ≡ called g b (innerOf e)
+  pub called-part : flagsOk g ≡ true → rowsOk r ≡ false → gives 1 b ≡ called g r b (innerOf e)
+  unfolding called refusalNumber
+  called-part f q = rw (f, q)
+
+  pub called-on : {p : Params} {x : Export} → flagsOk g ≡ true → rowsOk r ≡ true → p ≡ paramsOf g r → x ≡ exported p b (innerOf e)
+      → x ≡ called g r b (innerOf e)
   unfolding called
-  called-on f q h = rw (f, ← q) h
+  called-on f o q h = rw (f, o, ← q) h
+
+-- ---- rows
+
+pub row-read : (r : List ℕ) (i : ℕ) {x y z : ℕ} → x ≡ loadBytes 8 r i → y ≡ loadBytes 8 r (i + 8) → z ≡ loadBytes 8 r (i + 16)
+    → _≡_ {A = Row} (record { from = x; to = y; cell = z }) (rowFrom r i)
+row-read r i e f g = λ k. record { from = e k; to = f k; cell = g k }
+
+pub params-read : (g : Given) (r : List ℕ) {t : List Row} → t ≡ rowsOf r
+    → _≡_ {A = Params} (record { base = g .base; bytes = g .bytes; blocks = g .blocks; min = g .min; max = g .max; offsets = eqb (g .offsets) 1; unified = eqb (g .unified) 1; lower = g .lower; rows = t; count = length r / rowBytes }) (paramsOf g r)
+params-read g r e =
+    λ k. record { base = g .base; bytes = g .bytes; blocks = g .blocks; min = g .min; max = g .max; offsets = eqb (g .offsets) 1; unified = eqb (g .unified) 1; lower = g .lower; rows = e k; count = length r / rowBytes }
+
+tabulated-length : {A : Type 0} (f : ℕ → A) (n i : ℕ) → length (tabulated f n i) ≡ n
+unfolding tabulated
+tabulated-length f zero i = refl
+tabulated-length f (suc n) i = ap suc (tabulated-length f n (suc i))
+
+tabulated-at : {A : Type 0} (f : ℕ → A) (d : A) (n i k : ℕ) → k < n → getD (tabulated f n i) k d ≡ f (i + k)
+unfolding tabulated
+tabulated-at f d zero i k l = absurd (not-suc-le-zero l)
+tabulated-at f d (suc n) i zero l = ap f (omega arith)
+tabulated-at f d (suc n) i (suc k) l = tabulated-at f d n (suc i) k (le-of-suc-le-suc l) ∙ ap f (omega arith)
+
+-- what a loop over 48 rows leaves: each is the one of its bytes
+module _ (r : List ℕ) where
+  abbrev Filled : List Row → ℕ → Type 0
+  Filled rows i = (k : ℕ) → k < i → getD rows k noRow ≡ rowFrom r (rowBytes * k)
+
+  pub fill-round : (rows : List Row) (i : ℕ) {v : Row} → i < length rows → Filled rows i → v ≡ rowFrom r (rowBytes * i) → Filled (set rows i v) (i + 1)
+  fill-round rows i {v} l g e k m = go (decLt k i)
+    where
+      go : Dec (k < i) → getD (set rows i v) k noRow ≡ rowFrom r (rowBytes * k)
+      go (yes y) = getD-set-other rows i k v noRow (λ q. omega (arith, q, y)) ∙ g k y
+      go (no y) = let q : k ≡ i = omega (arith, y, m) in rw q (getD-set-same rows i v noRow l ∙ e)
+
+  pub fill-end : (rows : List Row) → length rows ≡ 48 → Filled rows 48 → rows ≡ rowsOf r
+  unfolding rowsOf
+  fill-end rows e g =
+      let f : ℕ → Row = λ n. rowFrom r (rowBytes * n) in
+      ext-getD noRow rows (tabulated f 48 0) (e ∙ sym (tabulated-length f 48 0))
+      (λ k l. g k (omega (arith, l, e)) ∙ sym (tabulated-at f noRow 48 0 k (omega (arith, l, e)) ∙ ap f (omega arith)))
+
+-- ---- the check
+
+module _ (g : Given) (r a : List ℕ) where
+  pub check-flags : flagsOk g ≡ false → checkGives 1 a ≡ checkCalled g r a
+  unfolding checkCalled refusalNumber
+  check-flags f = rw f
+
+  pub check-part : flagsOk g ≡ true → rowsOk r ≡ false → checkGives 1 a ≡ checkCalled g r a
+  unfolding checkCalled refusalNumber
+  check-part f o = rw (f, o)
+
+  pub check-answer : flagsOk g ≡ true → rowsOk r ≡ true → (length a ≡ 32 → ⊥) → checkGives 1 a ≡ checkCalled g r a
+  unfolding checkCalled refusalNumber
+  check-answer f o n = rw (f, o, ne-eqb (length a) 32 n)
+
+  module _ {s : Said} (f : flagsOk g ≡ true) (o : rowsOk r ≡ true) (n : length a ≡ 32) (h : s ≡ saidOf (checkClasses (paramsOf g r))) where
+    pub check-refused : {k : ℕ} → k ≡ s .number → (k ≡ 0 → ⊥) → checkGives k a ≡ checkCalled g r a
+    unfolding checkCalled
+    check-refused {k} e ne =
+        let z : eqb (checkClasses (paramsOf g r) .number) 0 ≡ false = ne-eqb _ _ (λ q. ne (e ∙ ap (λ (x : Said). x .number) h ∙ q)) in
+        rw (f, o, eq-eqb (length a) 32 n, z, e, h)
+
+    pub check-answered : {k : ℕ} {a′ : List ℕ} → k ≡ s .number → k ≡ 0 → a′ ≡ answerBytes s → checkGives 0 a′ ≡ checkCalled g r a
+    unfolding checkCalled
+    check-answered e y w =
+        let m : checkClasses (paramsOf g r) .number ≡ 0 = sym (e ∙ ap (λ (x : Said). x .number) h) ∙ y in
+        rw (f, o, eq-eqb (length a) 32 n, eq-eqb _ _ m, w, h, m)

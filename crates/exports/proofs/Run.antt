@@ -13,15 +13,17 @@ use Rattle.model.specs.declared.Params.{Params}
 use Rattle.model.specs.declared.Given.{Given}
 use Rattle.model.specs.Base.{if_then_else_, In}
 use Rattle.model.specs.Params.{Lent, fits, goodParams}
+use Rattle.model.specs.Classes.{classesFit}
 use Rattle.model.specs.Global.{freshTables}
 use Rattle.model.specs.Events.{Event}
-use Rattle.model.specs.Calls.{refusalNumber, Reply, answered, Call, Result, lentOf, badSetup, call, setUp}
+use Rattle.model.specs.Calls.{refusalNumber, Reply, answered, Call, Result, call, setUp}
 use Rattle.model.specs.Answers.{saidOf}
 use Rattle.model.specs.Runs.{written, Turn, State, foundBy, stepOf, resultOf, turned, begun, Seen, seen, seenIn, Demand3}
-use Rattle.model.specs.Exports.{encoded, LentBytes, decodedLent, Export, answerBytes, shown, Inner, asks, lengthsOk, exported, paramsOf, flagsOk, called, HostTurn, foundBytes, hostCall, hostRun, machineRun, AnswersFit, RunThroughExports, HostSees, hostSees, Demand3ThroughExports}
+use Rattle.model.specs.Exports.{encoded, LentBytes, decodedLent, Export, answerBytes, shown, Inner, asks, lengthsOk, exported, paramsOf, flagsOk, rowsOk, called, HostTurn, foundBytes, hostCall, hostRun, machineRun, AnswersFit, RunThroughExports, HostSees, hostSees, Demand3ThroughExports}
+use Rattle.laws.proofs.Base.{if-cases}
 use Rattle.laws.proofs.Below.{test, and-both}
 use Rattle.laws.proofs.Params.{good-bounds}
-use Rattle.laws.proofs.Lent.{fits-parts, answered-fits, set-up-is}
+use Rattle.laws.proofs.Lent.{fits-parts, answered-fits, answered-classes, set-up-is}
 use Rattle.soundness.proofs.Kept.{fresh-kept}
 use Rattle.runs.proofs.Demand3.{demand3}
 use Rattle.exports.proofs.Coding.{length-encoded, decoded-encoded}
@@ -41,11 +43,11 @@ shown-carries a r h = record { words = refl; states = refl; marks = refl; heap =
 
 -- ---- one call
 
-module _ (g : Given) (ok : flagsOk g ≡ true) where
+module _ (g : Given) (r : List ℕ) (ok : (flagsOk g && rowsOk r) ≡ true) where
   abbrev p : Params
-  p = paramsOf g
+  p = paramsOf g r
 
-  called-shown : (b : LentBytes) (f : Inner) → lengthsOk b ≡ true → called g b f ≡ shown (b .answer) (f p (decodedLent b))
+  called-shown : (b : LentBytes) (f : Inner) → lengthsOk b ≡ true → called g r b f ≡ shown (b .answer) (f p (decodedLent b))
   unfolding called exported
   called-shown b f e = rw (ok, e)
 
@@ -61,7 +63,7 @@ module _ (g : Given) (ok : flagsOk g ≡ true) where
         let back = rw (← (H .words)) at (decoded-encoded (s .lent .words) (H .small)) in
         λ i. record { words = back i; states = H .states i; marks = H .marks i; heap = written p (u .turn .writes) (H .heap i) }
 
-    turn-is : hostCall g b u ≡ shown (u .answer) (resultOf p s (u .turn))
+    turn-is : hostCall g r b u ≡ shown (u .answer) (resultOf p s (u .turn))
     unfolding hostCall resultOf foundBytes
     turn-is =
         called-shown (foundBytes p b u) (asks (u .turn .call)) found-fits
@@ -75,12 +77,12 @@ module _ (g : Given) (ok : flagsOk g ≡ true) where
 
   -- ---- call after call
 
-  run-is : (us : List HostTurn) (b : LentBytes) (s : State) → Carries b (s .lent) → AnswersFit us → hostRun g b us ≡ machineRun p s us
+  run-is : (us : List HostTurn) (b : LentBytes) (s : State) → Carries b (s .lent) → AnswersFit us → hostRun g r b us ≡ machineRun p s us
   unfolding hostRun machineRun In
   run-is [] b s H A = refl
   run-is (u ∷ us) b s H A =
       let fit : length (u .answer) ≡ 32 = A u (inl refl) in
-      ap (λ (x : Export). x ∷ hostRun g (x .bytes) us) (turn-is b s u H fit)
+      ap (λ (x : Export). x ∷ hostRun g r (x .bytes) us) (turn-is b s u H fit)
       ∙ ap (λ (xs : List Export). shown (u .answer) (resultOf p s (u .turn)) ∷ xs)
       (run-is us _ (turned p s (u .turn)) (turn-carries b s u H fit) (λ v m. A v (inr m)))
 
@@ -88,25 +90,25 @@ module _ (g : Given) (ok : flagsOk g ≡ true) where
 
 set-up-answered : (p : Params) (l : Lent) → setUp p l .reply .number ≡ 0 → setUp p l .reply ≡ answered []
 unfolding setUp refusalNumber
-set-up-answered p l e = go (test (fits p l))
-  where
-    go : (fits p l ≡ true) ⊎ (fits p l ≡ false) → (if fits p l then record { reply = answered []; lent = lentOf (freshTables p) (l .heap) } else badSetup l) .reply ≡ answered []
-    go (inl f) = rw f
-    go (inr f) = absurd (let z = rw f at e in omega (arith, z))
+set-up-answered p l e =
+    if-cases (λ (r : Result). r .reply .number ≡ 0 → r .reply ≡ answered []) (fits p l)
+    (λ f. if-cases (λ (r : Result). r .reply .number ≡ 0 → r .reply ≡ answered []) (classesFit p) (λ k z. refl) (λ k z. absurd (omega (arith, z))))
+    (λ f z. absurd (omega (arith, z))) e
 
 set-up-small : (p : Params) (l : Lent) → setUp p l .reply ≡ answered [] → Small (setUp p l .lent .words)
 set-up-small p l e =
     let f : fits p l ≡ true = answered-fits p l e in
     let fine : goodParams p ≡ true = fits-parts p l f .0 in
-    rw (set-up-is p l f) (kept-small p (good-bounds p fine) (freshTables p) (fresh-kept p (good-bounds p fine)))
+    let rows : classesFit p ≡ true = answered-classes p l e in
+    rw (set-up-is p l f rows) (kept-small p (good-bounds p fine) rows (freshTables p) (fresh-kept p (good-bounds p fine)))
 
 -- what returns 0 had flags and lengths that are right
-module _ (g : Given) (b : LentBytes) (f : Inner) (e : called g b f .number ≡ 0) where
-  flags-right : flagsOk g ≡ true
+module _ (g : Given) (r : List ℕ) (b : LentBytes) (f : Inner) (e : called g r b f .number ≡ 0) where
+  flags-right : (flagsOk g && rowsOk r) ≡ true
   unfolding called refusalNumber
-  flags-right = go (test (flagsOk g))
+  flags-right = go (test (flagsOk g && rowsOk r))
     where
-      go : (flagsOk g ≡ true) ⊎ (flagsOk g ≡ false) → flagsOk g ≡ true
+      go : ((flagsOk g && rowsOk r) ≡ true) ⊎ ((flagsOk g && rowsOk r) ≡ false) → (flagsOk g && rowsOk r) ≡ true
       go (inl h) = h
       go (inr h) = absurd (let z = rw h at e in omega (arith, z))
 
@@ -122,16 +124,17 @@ module _ (g : Given) (b : LentBytes) (f : Inner) (e : called g b f .number ≡ 0
 
 pub run-through-exports : RunThroughExports
 unfolding RunThroughExports begun shown
-run-through-exports g b us e A =
-    let ok : flagsOk g ≡ true = flags-right g b setUp e in
-    let q : called g b setUp ≡ shown (b .answer) (setUp (paramsOf g) (decodedLent b)) =
-    called-shown g ok b setUp (lengths-right g b setUp e) in
-    let y : setUp (paramsOf g) (decodedLent b) .reply ≡ answered [] =
-    set-up-answered (paramsOf g) (decodedLent b) (sym (ap (λ (x : Export). x .number) q) ∙ e) in (
+run-through-exports g r b us e A =
+    let ok : (flagsOk g && rowsOk r) ≡ true = flags-right g r b setUp e in
+    let p : Params = paramsOf g r in
+    let q : called g r b setUp ≡ shown (b .answer) (setUp p (decodedLent b)) =
+    called-shown g r ok b setUp (lengths-right g r b setUp e) in
+    let y : setUp p (decodedLent b) .reply ≡ answered [] =
+    set-up-answered p (decodedLent b) (sym (ap (λ (x : Export). x .number) q) ∙ e) in (
       y,
       q,
-      ap (λ (x : Export). hostRun g (x .bytes) us) q
-          ∙ run-is g ok us _ (begun (paramsOf g) (decodedLent b)) (shown-carries (b .answer) (setUp (paramsOf g) (decodedLent b)) (set-up-small (paramsOf g) (decodedLent b) y)) A,
+      ap (λ (x : Export). hostRun g r (x .bytes) us) q
+          ∙ run-is g r ok us _ (begun p (decodedLent b)) (shown-carries (b .answer) (setUp p (decodedLent b)) (set-up-small p (decodedLent b) y)) A,
     )
 
 -- what a host reads of a call is in what is seen of the machine's
@@ -161,10 +164,10 @@ calls-of (u ∷ us) = ap (λ (cs : List Call). u .turn .call ∷ cs) (calls-of u
 
 pub demand3-through-exports : Demand3ThroughExports
 unfolding Demand3ThroughExports RunThroughExports Demand3
-demand3-through-exports g b b′ us us′ e e′ A A′ H H′ same =
-    let p : Params = paramsOf g in
-    let r = run-through-exports g b us e A in
-    let r′ = run-through-exports g b′ us′ e′ A′ in
+demand3-through-exports g rows b b′ us us′ e e′ A A′ H H′ same =
+    let p : Params = paramsOf g rows in
+    let r = run-through-exports g rows b us e A in
+    let r′ = run-through-exports g rows b′ us′ e′ A′ in
     let D = demand3 p (decodedLent b) (decodedLent b′) (map (λ (u : HostTurn). u .turn) us) (map (λ (u : HostTurn). u .turn) us′)
     (r .0) (r′ .0) H H′ (calls-of us ∙ same ∙ sym (calls-of us′)) in (
       ap hostSees (r .1) ∙ shown-read (b .answer) (setUp p (decodedLent b)) [] ∙ ap readOf (D .0 .setUps)

@@ -14,6 +14,7 @@ use Rattle.model.specs.declared.Params.{Params}
 use Rattle.model.specs.Base.{if_then_else_, allBelow, In}
 use Rattle.model.specs.Params.{goodParams, Lent, fits, wordCount, heapBytes, start, listWord}
 use Rattle.model.specs.Tables.{Words, Tables, view, flat}
+use Rattle.model.specs.Classes.{classesFit}
 use Rattle.model.specs.BlockList.{blocksOn}
 use Rattle.model.specs.Block.{isCell}
 use Rattle.model.specs.Global.{isHolder}
@@ -22,7 +23,7 @@ use Rattle.model.specs.Calls.{Call, plan, finish, step, Result, tablesIn, call}
 use Rattle.laws.proofs.Base.{if-cases}
 use Rattle.laws.proofs.Below.{test, and-left, and-right, and-five, or-cases, allBelow-at}
 use Rattle.laws.proofs.Params.{Bounds, good-bounds, start-end}
-use Rattle.laws.proofs.Classes.{cellBytes-least, cellBytes-most}
+use Rattle.laws.proofs.Classes.{cellBytes-most}
 use Rattle.laws.proofs.Cells.{isCell-whole, whole-to}
 use Rattle.laws.proofs.Tables.{Sized, sized-view, flat-view}
 use Rattle.soundness.proofs.Lists.{Seg, AllOn, on-list}
@@ -49,7 +50,7 @@ small-below ws n e f i = go (decLt i n)
     go (yes l) = f i l
     go (no l) = let past : length ws ≤ i = omega (arith, e, l) in rw (List·getD-eq-default ws 0 past) (omega arith)
 
-module _ (p : Params) (B : Bounds p) where
+module _ (p : Params) (B : Bounds p) (rows : classesFit p ≡ true) where
   -- the links of a list lead to blocks of the heap
   start-small : (b : ℕ) → b < p .blocks → start p b ≤ 2 ^ 47
   start-small b h = omega (arith, start-end p B b h, B .end-high)
@@ -126,8 +127,8 @@ module _ (p : Params) (B : Bounds p) where
         record {
           next = omega (arith, list-links l h .next b m);
           prev = omega (arith, list-links l h .prev b m);
-          free = link-small (t .words) b _ (O .low) (omega (arith, F .size, cellBytes-least p bin)) (F .free);
-          size = omega (arith, F .size, cellBytes-most p bin);
+          free = link-small (t .words) b _ (O .low) (omega (arith, F .word)) (F .free);
+          size = omega (arith, F .size, cellBytes-most p B rows (l % 49) bin);
           list = omega (arith, O .names, h);
           tls = holder-small _ (F .holder);
         }
@@ -197,9 +198,9 @@ unfolding step plan finish
 unsound-step p t h c e = rw e
 
 module _ (p : Params) (l : Lent) (c : Call) (h : Small (l .words)) where
-  fit-small : fits p l ≡ true → Small (flat (step p (tablesIn l) (l .heap) c .tables .words))
+  fit-small : fits p l ≡ true → classesFit p ≡ true → Small (flat (step p (tablesIn l) (l .heap) c .tables .words))
   unfolding fits wordCount
-  fit-small f = go (test (sound p (tablesIn l)))
+  fit-small f rows = go (test (sound p (tablesIn l)))
     where
       r : (goodParams p ≡ true) × (eqb (length (l .words)) (2958 + 6 * p .blocks) ≡ true) × (eqb (length (l .states)) (p .blocks) ≡ true)
           × (eqb (length (l .marks)) (heapBytes p / 64) ≡ true) × (eqb (length (l .heap)) (heapBytes p) ≡ true)
@@ -213,10 +214,12 @@ module _ (p : Params) (l : Lent) (c : Call) (h : Small (l .words)) where
 
       go : (sound p (tablesIn l) ≡ true) ⊎ (sound p (tablesIn l) ≡ false) → Small (flat (step p (tablesIn l) (l .heap) c .tables .words))
       go (inl s) =
-          kept-small p B _ (step-kept p B (tablesIn l) (l .heap) c
+          kept-small p B rows _ (step-kept p B rows (tablesIn l) (l .heap) c
           (record { sized = sized-view (p .blocks) (l .words) long; states = eqb-true _ _ (r .2); passes = s }))
       go (inr n) = subst Small (sym (ap (λ (t : Tables). flat (t .words)) (unsound-step p (tablesIn l) (l .heap) c n) ∙ flat-view (p .blocks) (l .words) long)) h
 
   pub call-small : Small (call p l c .lent .words)
   unfolding call
-  call-small = if-cases (λ (x : Result). Small (x .lent .words)) (fits p l) fit-small (λ e. h)
+  call-small =
+      if-cases (λ (x : Result). Small (x .lent .words)) (fits p l)
+      (λ e. if-cases (λ (x : Result). Small (x .lent .words)) (classesFit p) (λ k. fit-small e k) (λ k. h)) (λ e. h)

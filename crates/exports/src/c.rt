@@ -1,4 +1,5 @@
-// The exports. Each is a call of the library between a decoding and an encoding; the parameters come as numbers.
+// The exports. Each is a call of the library between a decoding and an encoding; the parameters come as numbers, and the rows of a
+// class table as bytes.
 use crate::Entry;
 use crate::codec;
 use model::Ask;
@@ -7,14 +8,17 @@ use model::Given;
 use model::HEAD_WORDS;
 use model::Offer;
 use model::Params;
+use model::ROWS;
+use model::Row;
 use model::Said;
+use native_ms::classes;
 use words::bytes;
 ghost use mathlib.Core.Path.{_≡_};
-ghost use Prim.Native.Nat.{_*_};
+ghost use Prim.Native.Nat.{_*_, _<_};
 ghost use lib.ListN.{length};
 ghost use Rattle.model.specs.Calls.{setUp, bind, destroy, alloc, prepare, mark, release, sharedRelease};
 ghost use Rattle.model.specs.Answers.{outcome, outcomeOf};
-ghost use Rattle.model.specs.Exports.{lendBytes, decodedLent, gives, answerBytes, shown, asks, exported, given, paramsOf, flagsOk, called, offeredBy};
+ghost use Rattle.model.specs.Exports.{lendBytes, decodedLent, gives, answerBytes, shown, asks, exported, given, rowFrom, rowsOf, paramsOf, flagsOk, rowsOk, called, checkGives, checkCalled, offeredBy};
 ghost use Rattle.model.specs.Promise.{lend};
 ghost use Rattle.exports.specs.Entry.{innerOf};
 
@@ -25,6 +29,9 @@ const BAD_SETUP: usize = 1;
 const WORD_BYTES: usize = 8;
 
 const ANSWER_BYTES: usize = 32;
+
+// A row: three words.
+const ROW_BYTES: usize = 24;
 
 // 2^64 − 1 offers none.
 const NO_OFFER: usize = 18446744073709551615;
@@ -127,8 +134,37 @@ fn flags_ok(g: Given) -> bool
     g.unified <= 1
 }
 
-fn params(g: Given) -> Params
-    ensures { λ r. ⌜ r ≡ paramsOf g ⌝ }
+fn rows_ok(rows: &[u8]) -> bool
+    ensures { λ r. ⌜ r ≡ rowsOk (now (rows .entry)) ⌝ }
+{
+    rows.len() % ROW_BYTES == 0
+}
+
+// The row whose bytes begin there; past the end of the slice stand zeros.
+fn row_from(rows: &[u8], at: usize) -> Row
+    requires { ⌜ at < 1152 ⌝ }
+    ensures { λ r. ⌜ r ≡ rowFrom (now (rows .entry)) at ⌝ }
+{
+    let from = bytes::load_word(rows, at);
+    let to = bytes::load_word(rows, at + 8);
+    let cell = bytes::load_word(rows, at + 16);
+    Row { from, to, cell }
+}
+
+fn rows_of(rows: &[u8]) -> [Row; ROWS]
+    ensures { λ r. ⌜ r ≡ rowsOf (now (rows .entry)) ⌝ }
+{
+    let mut table = classes::no_rows();
+    let mut i: usize = 0;
+    while i < ROWS {
+        table[i] = row_from(rows, ROW_BYTES * i);
+        i = i + 1;
+    }
+    table
+}
+
+fn params(g: Given, rows: &[u8]) -> Params
+    ensures { λ r. ⌜ r ≡ paramsOf g (now (rows .entry)) ⌝ }
 {
     Params {
         base: g.base,
@@ -139,6 +175,8 @@ fn params(g: Given) -> Params
         offsets: g.offsets == 1,
         unified: g.unified == 1,
         lower: g.lower,
+        rows: rows_of(rows),
+        count: rows.len() / ROW_BYTES,
     }
 }
 
@@ -149,17 +187,44 @@ fn export(
     states: &mut [u8],
     marks: &mut [u8],
     heap: &mut [u8],
+    rows: &[u8],
     answer: &mut [u8],
     inner: Entry,
 ) -> usize
-    ensures { λ r. ⌜ gives r (lendBytes (now (words .exit)) (now (states .exit)) (now (marks .exit)) (now (heap .exit)) (now (answer .exit))) ≡ called g (lendBytes (now (words .entry)) (now (states .entry)) (now (marks .entry)) (now (heap .entry)) (now (answer .entry))) (innerOf inner) ⌝ }
+    ensures { λ r. ⌜ gives r (lendBytes (now (words .exit)) (now (states .exit)) (now (marks .exit)) (now (heap .exit)) (now (answer .exit))) ≡ called g (now (rows .entry)) (lendBytes (now (words .entry)) (now (states .entry)) (now (marks .entry)) (now (heap .entry)) (now (answer .entry))) (innerOf inner) ⌝ }
 {
     if !flags_ok(g) {
         return BAD_SETUP;
     }
-    let p = params(g);
+    if !rows_ok(rows) {
+        return BAD_SETUP;
+    }
+    let p = params(g, rows);
     let mut w = [0usize; MOST_WORDS];
     run_whole(p, words, states, marks, heap, answer, &mut w, inner)
+}
+
+// The check of a class table: it is lent no space.
+fn check(g: Given, rows: &[u8], answer: &mut [u8]) -> usize
+    ensures { λ r. ⌜ checkGives r (now (answer .exit)) ≡ checkCalled g (now (rows .entry)) (now (answer .entry)) ⌝ }
+{
+    if !flags_ok(g) {
+        return BAD_SETUP;
+    }
+    if !rows_ok(rows) {
+        return BAD_SETUP;
+    }
+    let room = answer.len();
+    if room != ANSWER_BYTES {
+        return BAD_SETUP;
+    }
+    let said = calls::check_classes(params(g, rows));
+    let refusal = said.number;
+    if refusal != 0 {
+        return refusal;
+    }
+    put_answer(answer, said);
+    0
 }
 
 // The offer that a number names.
@@ -187,9 +252,10 @@ pub extern "C" fn native_ms_set_up(
     states: &mut [u8],
     marks: &mut [u8],
     heap: &mut [u8],
+    rows: &[u8],
     answer: &mut [u8],
 ) -> usize
-    ensures { λ r. ⌜ gives r (lendBytes (now (words .exit)) (now (states .exit)) (now (marks .exit)) (now (heap .exit)) (now (answer .exit))) ≡ called (given base bytes blocks min max offsets unified lower) (lendBytes (now (words .entry)) (now (states .entry)) (now (marks .entry)) (now (heap .entry)) (now (answer .entry))) setUp ⌝ }
+    ensures { λ r. ⌜ gives r (lendBytes (now (words .exit)) (now (states .exit)) (now (marks .exit)) (now (heap .exit)) (now (answer .exit))) ≡ called (given base bytes blocks min max offsets unified lower) (now (rows .entry)) (lendBytes (now (words .entry)) (now (states .entry)) (now (marks .entry)) (now (heap .entry)) (now (answer .entry))) setUp ⌝ }
 {
     let g = Given {
         base,
@@ -201,7 +267,7 @@ pub extern "C" fn native_ms_set_up(
         unified,
         lower,
     };
-    export(g, words, states, marks, heap, answer, Entry::SetUp)
+    export(g, words, states, marks, heap, rows, answer, Entry::SetUp)
 }
 
 // Bind. The answer: no numbers.
@@ -219,10 +285,11 @@ pub extern "C" fn native_ms_bind(
     states: &mut [u8],
     marks: &mut [u8],
     heap: &mut [u8],
+    rows: &[u8],
     answer: &mut [u8],
     holder: usize,
 ) -> usize
-    ensures { λ r. ⌜ gives r (lendBytes (now (words .exit)) (now (states .exit)) (now (marks .exit)) (now (heap .exit)) (now (answer .exit))) ≡ called (given base bytes blocks min max offsets unified lower) (lendBytes (now (words .entry)) (now (states .entry)) (now (marks .entry)) (now (heap .entry)) (now (answer .entry))) (asks (bind holder)) ⌝ }
+    ensures { λ r. ⌜ gives r (lendBytes (now (words .exit)) (now (states .exit)) (now (marks .exit)) (now (heap .exit)) (now (answer .exit))) ≡ called (given base bytes blocks min max offsets unified lower) (now (rows .entry)) (lendBytes (now (words .entry)) (now (states .entry)) (now (marks .entry)) (now (heap .entry)) (now (answer .entry))) (asks (bind holder)) ⌝ }
 {
     let g = Given {
         base,
@@ -240,6 +307,7 @@ pub extern "C" fn native_ms_bind(
         states,
         marks,
         heap,
+        rows,
         answer,
         Entry::Call(Ask::Bind(holder)),
     )
@@ -260,10 +328,11 @@ pub extern "C" fn native_ms_destroy(
     states: &mut [u8],
     marks: &mut [u8],
     heap: &mut [u8],
+    rows: &[u8],
     answer: &mut [u8],
     holder: usize,
 ) -> usize
-    ensures { λ r. ⌜ gives r (lendBytes (now (words .exit)) (now (states .exit)) (now (marks .exit)) (now (heap .exit)) (now (answer .exit))) ≡ called (given base bytes blocks min max offsets unified lower) (lendBytes (now (words .entry)) (now (states .entry)) (now (marks .entry)) (now (heap .entry)) (now (answer .entry))) (asks (destroy holder)) ⌝ }
+    ensures { λ r. ⌜ gives r (lendBytes (now (words .exit)) (now (states .exit)) (now (marks .exit)) (now (heap .exit)) (now (answer .exit))) ≡ called (given base bytes blocks min max offsets unified lower) (now (rows .entry)) (lendBytes (now (words .entry)) (now (states .entry)) (now (marks .entry)) (now (heap .entry)) (now (answer .entry))) (asks (destroy holder)) ⌝ }
 {
     let g = Given {
         base,
@@ -281,6 +350,7 @@ pub extern "C" fn native_ms_destroy(
         states,
         marks,
         heap,
+        rows,
         answer,
         Entry::Call(Ask::Destroy(holder)),
     )
@@ -301,6 +371,7 @@ pub extern "C" fn native_ms_alloc(
     states: &mut [u8],
     marks: &mut [u8],
     heap: &mut [u8],
+    rows: &[u8],
     answer: &mut [u8],
     holder: usize,
     size: usize,
@@ -308,7 +379,7 @@ pub extern "C" fn native_ms_alloc(
     offset: usize,
     offer: usize,
 ) -> usize
-    ensures { λ r. ⌜ gives r (lendBytes (now (words .exit)) (now (states .exit)) (now (marks .exit)) (now (heap .exit)) (now (answer .exit))) ≡ called (given base bytes blocks min max offsets unified lower) (lendBytes (now (words .entry)) (now (states .entry)) (now (marks .entry)) (now (heap .entry)) (now (answer .entry))) (asks (alloc holder size align offset (offeredBy offer))) ⌝ }
+    ensures { λ r. ⌜ gives r (lendBytes (now (words .exit)) (now (states .exit)) (now (marks .exit)) (now (heap .exit)) (now (answer .exit))) ≡ called (given base bytes blocks min max offsets unified lower) (now (rows .entry)) (lendBytes (now (words .entry)) (now (states .entry)) (now (marks .entry)) (now (heap .entry)) (now (answer .entry))) (asks (alloc holder size align offset (offeredBy offer))) ⌝ }
 {
     let g = Given {
         base,
@@ -328,7 +399,16 @@ pub extern "C" fn native_ms_alloc(
         offset,
         offer: taken,
     };
-    export(g, words, states, marks, heap, answer, Entry::Call(ask))
+    export(
+        g,
+        words,
+        states,
+        marks,
+        heap,
+        rows,
+        answer,
+        Entry::Call(ask),
+    )
 }
 
 // Prepare. The answer: no numbers.
@@ -346,9 +426,10 @@ pub extern "C" fn native_ms_prepare(
     states: &mut [u8],
     marks: &mut [u8],
     heap: &mut [u8],
+    rows: &[u8],
     answer: &mut [u8],
 ) -> usize
-    ensures { λ r. ⌜ gives r (lendBytes (now (words .exit)) (now (states .exit)) (now (marks .exit)) (now (heap .exit)) (now (answer .exit))) ≡ called (given base bytes blocks min max offsets unified lower) (lendBytes (now (words .entry)) (now (states .entry)) (now (marks .entry)) (now (heap .entry)) (now (answer .entry))) (asks prepare) ⌝ }
+    ensures { λ r. ⌜ gives r (lendBytes (now (words .exit)) (now (states .exit)) (now (marks .exit)) (now (heap .exit)) (now (answer .exit))) ≡ called (given base bytes blocks min max offsets unified lower) (now (rows .entry)) (lendBytes (now (words .entry)) (now (states .entry)) (now (marks .entry)) (now (heap .entry)) (now (answer .entry))) (asks prepare) ⌝ }
 {
     let g = Given {
         base,
@@ -366,6 +447,7 @@ pub extern "C" fn native_ms_prepare(
         states,
         marks,
         heap,
+        rows,
         answer,
         Entry::Call(Ask::Prepare),
     )
@@ -386,11 +468,12 @@ pub extern "C" fn native_ms_mark(
     states: &mut [u8],
     marks: &mut [u8],
     heap: &mut [u8],
+    rows: &[u8],
     answer: &mut [u8],
     place: usize,
     block: usize,
 ) -> usize
-    ensures { λ r. ⌜ gives r (lendBytes (now (words .exit)) (now (states .exit)) (now (marks .exit)) (now (heap .exit)) (now (answer .exit))) ≡ called (given base bytes blocks min max offsets unified lower) (lendBytes (now (words .entry)) (now (states .entry)) (now (marks .entry)) (now (heap .entry)) (now (answer .entry))) (asks (mark place block)) ⌝ }
+    ensures { λ r. ⌜ gives r (lendBytes (now (words .exit)) (now (states .exit)) (now (marks .exit)) (now (heap .exit)) (now (answer .exit))) ≡ called (given base bytes blocks min max offsets unified lower) (now (rows .entry)) (lendBytes (now (words .entry)) (now (states .entry)) (now (marks .entry)) (now (heap .entry)) (now (answer .entry))) (asks (mark place block)) ⌝ }
 {
     let g = Given {
         base,
@@ -408,6 +491,7 @@ pub extern "C" fn native_ms_mark(
         states,
         marks,
         heap,
+        rows,
         answer,
         Entry::Call(Ask::Mark { place, block }),
     )
@@ -428,10 +512,11 @@ pub extern "C" fn native_ms_release(
     states: &mut [u8],
     marks: &mut [u8],
     heap: &mut [u8],
+    rows: &[u8],
     answer: &mut [u8],
     holder: usize,
 ) -> usize
-    ensures { λ r. ⌜ gives r (lendBytes (now (words .exit)) (now (states .exit)) (now (marks .exit)) (now (heap .exit)) (now (answer .exit))) ≡ called (given base bytes blocks min max offsets unified lower) (lendBytes (now (words .entry)) (now (states .entry)) (now (marks .entry)) (now (heap .entry)) (now (answer .entry))) (asks (release holder)) ⌝ }
+    ensures { λ r. ⌜ gives r (lendBytes (now (words .exit)) (now (states .exit)) (now (marks .exit)) (now (heap .exit)) (now (answer .exit))) ≡ called (given base bytes blocks min max offsets unified lower) (now (rows .entry)) (lendBytes (now (words .entry)) (now (states .entry)) (now (marks .entry)) (now (heap .entry)) (now (answer .entry))) (asks (release holder)) ⌝ }
 {
     let g = Given {
         base,
@@ -449,6 +534,7 @@ pub extern "C" fn native_ms_release(
         states,
         marks,
         heap,
+        rows,
         answer,
         Entry::Call(Ask::Release(holder)),
     )
@@ -469,9 +555,10 @@ pub extern "C" fn native_ms_shared_release(
     states: &mut [u8],
     marks: &mut [u8],
     heap: &mut [u8],
+    rows: &[u8],
     answer: &mut [u8],
 ) -> usize
-    ensures { λ r. ⌜ gives r (lendBytes (now (words .exit)) (now (states .exit)) (now (marks .exit)) (now (heap .exit)) (now (answer .exit))) ≡ called (given base bytes blocks min max offsets unified lower) (lendBytes (now (words .entry)) (now (states .entry)) (now (marks .entry)) (now (heap .entry)) (now (answer .entry))) (asks sharedRelease) ⌝ }
+    ensures { λ r. ⌜ gives r (lendBytes (now (words .exit)) (now (states .exit)) (now (marks .exit)) (now (heap .exit)) (now (answer .exit))) ≡ called (given base bytes blocks min max offsets unified lower) (now (rows .entry)) (lendBytes (now (words .entry)) (now (states .entry)) (now (marks .entry)) (now (heap .entry)) (now (answer .entry))) (asks sharedRelease) ⌝ }
 {
     let g = Given {
         base,
@@ -489,7 +576,37 @@ pub extern "C" fn native_ms_shared_release(
         states,
         marks,
         heap,
+        rows,
         answer,
         Entry::Call(Ask::SharedRelease),
     )
+}
+
+// The check of a class table. The answer: 0 and 0 if the rows are accepted; 1 and the least bad count; 2 and the first unfit row.
+#[no_mangle]
+pub extern "C" fn native_ms_check_classes(
+    base: usize,
+    bytes: usize,
+    blocks: usize,
+    min: usize,
+    max: usize,
+    offsets: usize,
+    unified: usize,
+    lower: i64,
+    rows: &[u8],
+    answer: &mut [u8],
+) -> usize
+    ensures { λ r. ⌜ checkGives r (now (answer .exit)) ≡ checkCalled (given base bytes blocks min max offsets unified lower) (now (rows .entry)) (now (answer .entry)) ⌝ }
+{
+    let g = Given {
+        base,
+        bytes,
+        blocks,
+        min,
+        max,
+        offsets,
+        unified,
+        lower,
+    };
+    check(g, rows, answer)
 }

@@ -1,6 +1,6 @@
 // A trace's lines replayed through the exports, on the space of the census: for each line the number returned and the bytes of the
 // slice for the answer, which are 0xA5 before it. What must be printed was worked out from document 01 by another program
-// (sample.py).
+// (sample.py). No rows are lent: the classes are document 01's.
 use exports::c;
 use libc::STDERR_FILENO;
 use libc::STDOUT_FILENO;
@@ -66,6 +66,7 @@ fn set_up(
         states,
         marks,
         heap,
+        b"",
         answer,
     )
 }
@@ -91,6 +92,7 @@ fn bind(
         states,
         marks,
         heap,
+        b"",
         answer,
         holder,
     )
@@ -117,6 +119,7 @@ fn destroy(
         states,
         marks,
         heap,
+        b"",
         answer,
         holder,
     )
@@ -147,6 +150,7 @@ fn alloc(
         states,
         marks,
         heap,
+        b"",
         answer,
         holder,
         size,
@@ -176,6 +180,7 @@ fn prepare(
         states,
         marks,
         heap,
+        b"",
         answer,
     )
 }
@@ -202,6 +207,7 @@ fn mark(
         states,
         marks,
         heap,
+        b"",
         answer,
         place,
         block,
@@ -229,6 +235,7 @@ fn release(
         states,
         marks,
         heap,
+        b"",
         answer,
         holder,
     )
@@ -254,6 +261,7 @@ fn shared_release(
         states,
         marks,
         heap,
+        b"",
         answer,
     )
 }

@@ -10,8 +10,8 @@ use borrow.Author.Tests.{eqb-true, ltb-true, leb-true, eq-eqb, ne-eqb, lt-ltb, l
 use Rattle.model.specs.declared.Params.{Params}
 use Rattle.model.specs.Base.{allBelow, anyBelow}
 use lib.ListN.{length}
-use Rattle.model.specs.Params.{goodParams, Lent, fits, wordCount, powerOfTwo, lowerOk, heapEnd, heapBytes}
-use Rattle.laws.proofs.Below.{and-left, and-right, and-first, and-second, and-three, and-four, and-both, or-cases, or-left, or-right, allBelow-at, anyBelow-at, anyBelow-from, any-miss, same-test}
+use Rattle.model.specs.Params.{goodParams, maxRows, Lent, fits, wordCount, powerOfTwo, lowerOk, heapEnd, heapBytes}
+use Rattle.laws.proofs.Below.{and-left, and-right, and-first, and-second, and-three, and-four, and-five, and-both, or-cases, or-left, or-right, allBelow-at, anyBelow-at, anyBelow-from, any-miss, same-test}
 use lib.IntN.{natAbs}
 
 pub record Good (p : Params) : Type 0 where
@@ -29,6 +29,7 @@ pub record Good (p : Params) : Type 0 where
   pub base-pos : 0 < p .base
   pub base-whole : p .base % p .bytes ≡ 0
   pub end-low : heapEnd p ≤ 2 ^ 47
+  pub rows-to : p .count ≤ maxRows
 
 -- the parts of goodParams
 abbrev pub min-part : Params → Bool
@@ -49,6 +50,9 @@ blocks-part p = leb 1 (p .blocks) && leb (p .blocks) 1024
 abbrev pub base-part : Params → Bool
 base-part p = ltb 0 (p .base) && eqb (p .base % p .bytes) 0 && leb (heapEnd p) (2 ^ 47)
 
+abbrev pub rows-part : Params → Bool
+rows-part p = leb (p .count) maxRows
+
 min-cases : (p : Params) → min-part p ≡ true → (p .min ≡ 4) ⊎ (p .min ≡ 8)
 min-cases p e =
     ⊎-elim (λ h. inl (eqb-true _ _ h)) (λ h. inr (eqb-true _ _ h)) (or-cases (eqb (p .min) 4) (eqb (p .min) 8) e)
@@ -56,7 +60,7 @@ min-cases p e =
 pub good : (p : Params) → goodParams p ≡ true → Good p
 unfolding goodParams
 good p e =
-    let fst = and-four (min-part p && max-part p && lower-part p) (bytes-part p) (blocks-part p) (base-part p) e in
+    let fst = and-five (min-part p && max-part p && lower-part p) (bytes-part p) (blocks-part p) (base-part p) (rows-part p) e in
     let two = and-three (min-part p) (max-part p) (lower-part p) (fst .0) in
     let max = and-three (powerOfTwo (p .max)) (leb (p .min) (p .max)) (leb (p .max) 64) (two .1) in
     let bytes = and-three (powerOfTwo (p .bytes)) (leb 4096 (p .bytes)) (leb (p .bytes) 65536) (fst .1) in
@@ -76,6 +80,7 @@ good p e =
       base-pos = ltb-true _ _ (base .0);
       base-whole = eqb-true _ _ (base .1);
       end-low = leb-true _ _ (base .2);
+      rows-to = leb-true _ _ (fst .4);
     }
 
 -- ---- powers of two
@@ -152,6 +157,16 @@ module _ (base bytes heap : ℕ) where
       (λ t. le-leb (base + heap) (2 ^ 47) (omega (arith, leb-true base (140737488355328 - heap) t)))
       (λ t. le-leb base (140737488355328 - heap) (omega (arith, leb-true (base + heap) (2 ^ 47) t))))
 
+-- more rows than there may be
+pub good-rows-off : (p : Params) → maxRows < p .count → false ≡ goodParams p
+unfolding goodParams
+good-rows-off p h =
+    sym (and-second (min-part p && max-part p && lower-part p && bytes-part p && blocks-part p && base-part p) (lt-leb (p .count) maxRows h))
+
+and-yes : (a : Bool) → (a && true) ≡ a
+and-yes true = refl
+and-yes false = refl
+
 -- the parts in their order, each once those before it have passed
 module _ (p : Params) {a : Bool} (ea : a ≡ min-part p) where
   pub good-min-off : a ≡ false → false ≡ goodParams p
@@ -178,9 +193,11 @@ module _ (p : Params) {a : Bool} (ea : a ≡ min-part p) where
           unfolding goodParams
           good-blocks-off z = rw (sym ea ∙ za, sym eb ∙ zb, sym ec ∙ zc, sym ed ∙ zd, sym ee ∙ z)
 
-          pub good-rest : {f : Bool} → e ≡ true → f ≡ placed (p .base) (p .bytes) (p .blocks * p .bytes) → f ≡ goodParams p
+          pub good-rest : {f : Bool} → p .count ≤ maxRows → e ≡ true → f ≡ placed (p .base) (p .bytes) (p .blocks * p .bytes)
+              → f ≡ goodParams p
           unfolding goodParams heapEnd heapBytes
-          good-rest ze ef = ef ∙ rw (sym ea ∙ za, sym eb ∙ zb, sym ec ∙ zc, sym ed ∙ zd, sym ee ∙ ze)
+          good-rest k ze ef =
+              ef ∙ rw (sym ea ∙ za, sym eb ∙ zb, sym ec ∙ zc, sym ed ∙ zd, sym ee ∙ ze, le-leb (p .count) maxRows k) (sym (and-yes _))
 
 -- what the parts that bound the heap say
 pub bytes-bounds : (p : Params) {d : Bool} → d ≡ bytes-part p → d ≡ true → (0 < p .bytes) × (p .bytes ≤ 65536)

@@ -3,6 +3,7 @@ pub mod Good
 pub mod Base
 pub mod Memory
 pub mod Params
+pub mod Rows
 pub mod Classes
 pub mod Marks
 pub mod Cells

@@ -74,6 +74,7 @@ pub record Bounds (p : Params) : Type 0 where
   pub lower-high : biased (p .lower) ≤ 128
   pub lower-words : biased (p .lower) % 8 ≡ 0
   pub lower-unified : p .unified ≡ true → biased (p .lower) ≡ 64
+  pub rows-high : p .count ≤ 48
 
 unified-zero : (u : Bool) (l : ℤ) → not u || eqb (natAbs l) 0 ≡ true → u ≡ true → biased l ≡ 64
 unified-zero true l e q = biased-zero l e
@@ -116,6 +117,7 @@ bounds p g =
       lower-high = lower-high (p .lower) (g .lower-ok);
       lower-words = lower-words (p .lower) (g .lower-ok);
       lower-unified = unified-zero (p .unified) (p .lower) (g .unified-zero);
+      rows-high = g .rows-to;
     }
 
 pub good-bounds : (p : Params) → goodParams p ≡ true → Bounds p

@@ -11,7 +11,7 @@ use lib.Dec.{ltb, leb, lit<}
 use borrow.Author.Tests.{ltb-true, ltb-false, leb-true, leb-false, eq-eqb, ne-eqb, lt-ltb, le-ltb, le-leb, lt-leb}
 use Rattle.model.specs.declared.Params.{Params}
 use Rattle.model.specs.Params.{powerOfTwo}
-use Rattle.model.specs.SizeClasses.{wordsIn, highestBit, binInOctave, binOf, raised, shift, alignAllocation}
+use Rattle.model.specs.SizeClasses.{wordsIn, highestBit, binInOctave, miBin, raised, shift, alignAllocation}
 use Rattle.model.specs.Calls.{goodRequest, tooBig}
 use Rattle.laws.proofs.Below.{test}
 
@@ -60,22 +60,22 @@ unfolding binInOctave highestBit
 octave-bin n {b} e = rw (and-mask (n / 2 ^ (b - 2)) 2, e, mul-comm)
 
 module _ (size : ℕ) where
-  pub bin-none : 65536 < size → (p : Params) → 0 ≡ binOf p size
-  unfolding binOf
-  bin-none h p = rw (lt-ltb 65536 size h)
+  pub bin-none : 65536 < size → 0 ≡ miBin size
+  unfolding miBin
+  bin-none h = rw (lt-ltb 65536 size h)
 
   module _ (h : size ≤ 65536) {words : ℕ} (e : words ≡ wordsIn size) where
-    pub bin-one : words ≤ 1 → (p : Params) → 1 ≡ binOf p size
-    unfolding binOf
-    bin-one k p = rw (le-ltb 65536 size h, ← e, le-leb words 1 k)
+    pub bin-one : words ≤ 1 → 1 ≡ miBin size
+    unfolding miBin
+    bin-one k = rw (le-ltb 65536 size h, ← e, le-leb words 1 k)
 
-    pub bin-few : 1 < words → words ≤ 8 → (p : Params) → words ≡ binOf p size
-    unfolding binOf
-    bin-few j k p = rw (le-ltb 65536 size h, ← e, lt-leb words 1 j, le-leb words 8 k)
+    pub bin-few : 1 < words → words ≤ 8 → words ≡ miBin size
+    unfolding miBin
+    bin-few j k = rw (le-ltb 65536 size h, ← e, lt-leb words 1 j, le-leb words 8 k)
 
-    pub bin-many : {r : ℕ} → 1 < words → 8 < words → r ≡ binInOctave (words - 1) → (p : Params) → r ≡ binOf p size
-    unfolding binOf
-    bin-many j k q p = q ∙ rw (le-ltb 65536 size h, ← e, lt-leb words 1 j, lt-leb words 8 k)
+    pub bin-many : {r : ℕ} → 1 < words → 8 < words → r ≡ binInOctave (words - 1) → r ≡ miBin size
+    unfolding miBin
+    bin-many j k q = q ∙ rw (le-ltb 65536 size h, ← e, lt-leb words 1 j, lt-leb words 8 k)
 
 -- ---- raised sizes
 

@@ -1,5 +1,6 @@
 // The space of the census program.
 use model::Params;
+use native_ms::classes;
 ghost use mathlib.Core.Path.{_≡_};
 ghost use Rattle.model.specs.Census.{censusParams};
 
@@ -7,6 +8,7 @@ ghost use Rattle.model.specs.Census.{censusParams};
 pub fn params() -> Params
     ensures { λ r. ⌜ r ≡ censusParams ⌝ }
 {
+    let rows = classes::no_rows();
     Params {
         base: 16384,
         bytes: 4096,
@@ -16,5 +18,7 @@ pub fn params() -> Params
         offsets: false,
         unified: true,
         lower: 0,
+        rows,
+        count: 0,
     }
 }

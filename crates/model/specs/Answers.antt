@@ -18,6 +18,8 @@ use Rattle.model.specs.declared.ReleaseAnswer.{ReleaseAnswer}
 use Rattle.model.specs.declared.ReleaseAnswer.the-variants as Release
 use Rattle.model.specs.declared.PagesAnswer.{PagesAnswer}
 use Rattle.model.specs.declared.PagesAnswer.the-variants as Pages
+use Rattle.model.specs.declared.ClassesAnswer.{ClassesAnswer}
+use Rattle.model.specs.declared.ClassesAnswer.the-variants as Classes
 use Rattle.model.specs.Base.{flag}
 use Rattle.model.specs.Params.{Lent}
 use Rattle.model.specs.Calls.{Reply, answered, refused, Call, bind, destroy, alloc, prepare, mark, release, sharedRelease, Result}
@@ -45,6 +47,16 @@ releaseReply = elim [ Release.Released blocks merged ↦ answered (blocks ∷ me
 -- pages used
 unfoldable pub pagesReply : PagesAnswer → Reply
 pagesReply = elim [ Pages.Pages n ↦ answered (n ∷ []) | Pages.Refused refusal ↦ refused refusal ]
+
+-- the check of a class table: 0 and 0, 1 and the count, or 2 and the row (02, R-5)
+unfoldable pub classesReply : ClassesAnswer → Reply
+classesReply =
+    elim [
+      | Classes.Accepted ↦ answered (0 ∷ 0 ∷ [])
+      | Classes.BadCount n ↦ answered (1 ∷ n ∷ [])
+      | Classes.BadRow n ↦ answered (2 ∷ n ∷ [])
+      | Classes.Refused r ↦ refused r
+    ]
 
 -- ---- any of the calls, by value
 

@@ -38,6 +38,11 @@ unfoldable pub eachBelow : {A : Type 0} → ℕ → (ℕ → A → A) → A → 
 eachBelow zero step x = x
 eachBelow (suc n) step x = step n (eachBelow n step x)
 
+-- the least of i, i + 1, and so on, k of them, that passes; 0 for none
+unfoldable pub leastFrom : ℕ → ℕ → (ℕ → Bool) → ℕ
+leastFrom zero i f = 0
+leastFrom (suc k) i f = if f i then i else leastFrom k (suc i) f
+
 -- a yes as 1
 unfoldable pub flag : Bool → ℕ
 flag = elim [ true ↦ 1 | false ↦ 0 ]

@@ -11,7 +11,7 @@ use Rattle.model.specs.declared.Params.{Params}
 use Rattle.model.specs.declared.Offer.{Offer}
 use Rattle.model.specs.declared.Offer.the-variants.{Nothing, Fresh}
 use Rattle.model.specs.declared.Refusal.{Refusal}
-use Rattle.model.specs.declared.Refusal.the-variants.{BadSetup, BadTables, WrongPhase, BadHolder, BadRequest, TooBig, BadOffer, BadLink, Exhausted, BadObject, BadLine}
+use Rattle.model.specs.declared.Refusal.the-variants.{BadSetup, BadTables, WrongPhase, BadHolder, BadRequest, TooBig, BadOffer, BadLink, Exhausted, BadObject, BadLine, BadClasses}
 use Rattle.model.specs.declared.Tested.{Tested}
 use Rattle.model.specs.declared.Tested.the-variants.{Passed, Refused}
 use Rattle.model.specs.Base.{if_then_else_, flag}
@@ -19,6 +19,7 @@ use Rattle.model.specs.Params.{goodParams, powerOfTwo, Lent, fits, wordC
 use Rattle.model.specs.Memory.{load, marked}
 use Rattle.model.specs.Tables.{Words, Tables, tablesOf, withWords, view, flat, setFree}
 use Rattle.model.specs.SizeClasses.{binOf, raised, alignAllocation}
+use Rattle.model.specs.Classes.{badCount, badRow, classesFit}
 use Rattle.model.specs.BlockList.{pagesUsed, pagesEnd}
 use Rattle.model.specs.Block.{Unallocated}
 use Rattle.model.specs.Events.{Event, taken, eventHeap, eventsHeap, sweeps, releases}
@@ -40,6 +41,7 @@ refusalNumber BadLink = 8
 refusalNumber Exhausted = 9
 refusalNumber BadObject = 10
 refusalNumber BadLine = 11
+refusalNumber BadClasses = 12
 
 -- What a call says: 0 and its values in order, or a refusal's number. "A refusal returns its number only."
 pub record Reply : Type 0 where
@@ -264,12 +266,20 @@ resultFrom done = record { reply = done .reply; lent = lentOf (done .tables) (do
 abbrev pub badSetup : Lent → Result
 badSetup l = record { reply = refused BadSetup; lent = l }
 
+-- 02, R-5: "Turned away: 12 BadClasses, from set-up and any other call given rows the checker rejects, right after 1."
+abbrev pub badClasses : Lent → Result
+badClasses l = record { reply = refused BadClasses; lent = l }
+
+-- what every call tests first: parameters and lengths, and then the rows
+abbrev pub admitted : Params → Lent → Result → Result
+admitted p l r = if fits p l then (if classesFit p then r else badClasses l) else badSetup l
+
 -- every call but set-up
 unfoldable pub call : Params → Lent → Call → Result
-call p l c = if fits p l then resultFrom (step p (tablesIn l) (l .heap) c) else badSetup l
+call p l c = admitted p l (resultFrom (step p (tablesIn l) (l .heap) c))
 
 unfoldable pub setUp : Params → Lent → Result
-setUp p l = if fits p l then record { reply = answered []; lent = lentOf (freshTables p) (l .heap) } else badSetup l
+setUp p l = admitted p l (record { reply = answered []; lent = lentOf (freshTables p) (l .heap) })
 
 -- pages used of 49 records, by their firsts: BadSetup or BadTables are its only refusals, and nothing is written
 unfoldable pub pages : Params → List ℕ → List ℕ → Reply
@@ -277,3 +287,15 @@ pages p ws firsts =
     if not (goodParams p && eqb (length ws) (wordCount p) && eqb (length firsts) bins) then refused BadSetup
     else if not (pagesEnd p (view ws .next) firsts) then refused BadTables
     else answered (pagesUsed p (view ws .next) firsts ∷ [])
+
+-- 02, R-5: "A checker names the least count that is missed or covered twice, or, where there is none, the first row with an unfit cell."
+-- By kind and number: 0 and 0 if the rows pass, 1 and the count, 2 and the row
+unfoldable pub checkedRows : Params → Reply
+checkedRows p =
+    if eqb (p .count) 0 then answered (0 ∷ 0 ∷ [])
+    else if not (eqb (badCount p) 0) then answered (1 ∷ badCount p ∷ [])
+    else if not (eqb (badRow p) 0) then answered (2 ∷ badRow p ∷ [])
+    else answered (0 ∷ 0 ∷ [])
+
+unfoldable pub checkClasses : Params → Reply
+checkClasses p = if goodParams p then checkedRows p else refused BadSetup

@@ -1,22 +1,23 @@
 -- "Marked for proof" and "Limits": one computed table and one theorem. And 01's example trace, computed on the machine.
 use Prim.Native.Nat.{ℕ, suc, _+_, _-_, _*_}
 use mathlib.Core.Bool.{Bool, true, false, _&&_, _||_}
-use mathlib.Core.List.{List, [], _∷_}
+use mathlib.Core.List.{List, [], _∷_, _++_}
 use lib.Dec.{eqb, ltb, leb}
 use lib.IntN.{pos}
-use lib.ListN.{replicate}
+use lib.ListN.{length, replicate}
 use Rattle.model.specs.declared.Params.{Params}
+use Rattle.model.specs.declared.Row.{Row}
 use Rattle.model.specs.declared.Offer.the-variants.{Fresh}
 use Rattle.model.specs.Base.{allBelow}
-use Rattle.model.specs.Params.{bins, lastBin, sets, lists, holders, parts, phaseWord, boundWords, releasedWords, headWords, Lent, start}
+use Rattle.model.specs.Params.{bins, lastBin, sets, lists, holders, parts, phaseWord, boundWords, releasedWords, headWords, Lent, start, maxRows}
 use Rattle.model.specs.Memory.{setMark}
 use Rattle.model.specs.Tables.{Words}
-use Rattle.model.specs.SizeClasses.{cellBytes, binOf, raised, shift}
+use Rattle.model.specs.SizeClasses.{classBytes, miBin, noRow, noRows, cellBytes, binOf, raised, shift}
 use Rattle.model.specs.BlockList.{push, appended}
 use Rattle.model.specs.Block.{Unallocated, Unmarked, initChain, sweepChain}
 use Rattle.model.specs.Events.{releases}
 use Rattle.model.specs.Global.{freshWords, releaseFrom}
-use Rattle.model.specs.Calls.{bind, alloc, call, setUp}
+use Rattle.model.specs.Calls.{Result, bind, alloc, prepare, call, setUp, checkClasses}
 use Rattle.model.specs.Census.{before, censusParams, censusLent}
 
 -- what the definitions give, and what 01 says
@@ -33,8 +34,8 @@ bin size want = gives (binOf censusParams size ∷ []) (want ∷ [])
 -- each count of words up to 8,192 has the least class that holds it
 unfoldable pub leastClass : ℕ → Bool
 leastClass words =
-    let n : ℕ = binOf censusParams (8 * words) in
-    leb (8 * words) (cellBytes censusParams n) && (eqb n 1 || ltb (cellBytes censusParams (n - 1)) (8 * words))
+    let n : ℕ = miBin (8 * words) in
+    leb (8 * words) (classBytes n) && (eqb n 1 || ltb (classBytes (n - 1)) (8 * words))
 
 unfoldable pub classesRight : Bool
 classesRight = allBelow 8192 (λ i. leastClass (suc i))
@@ -42,13 +43,42 @@ classesRight = allBelow 8192 (λ i. leastClass (suc i))
 -- "with 4,096-byte blocks, MIN 8, MAX 16"
 abbrev pub maxSixteen : Params
 maxSixteen =
-    record { base = 16384; bytes = 4096; blocks = 4; min = 8; max = 16; offsets = false; unified = true; lower = pos 0 }
+    record { base = 16384; bytes = 4096; blocks = 4; min = 8; max = 16; offsets = false; unified = true; lower = pos 0; rows = noRows; count = 0 }
 
 -- the number that an alloc of this size and align is answered with, right after set-up and bind: 0 is served, 6 is TooBig
 unfoldable pub firstAlloc : ℕ → ℕ → ℕ
 firstAlloc size align =
     let l : Lent = setUp maxSixteen censusLent .lent in
     call maxSixteen (call maxSixteen l (bind 1) .lent) (alloc 1 size align 0 (Fresh (record { 0 = 2 }))) .reply .number
+
+-- ---- 02, R-5: tables of four rows, as the two offices want them, in blocks of 4,096 bytes: 512 words
+
+unfoldable pub row : ℕ → ℕ → ℕ → Row
+row from to cell = record { from = from; to = to; cell = cell }
+
+-- maxSixteen with these rows
+unfoldable pub withRows : List Row → Params
+withRows rows =
+    record { base = 16384; bytes = 4096; blocks = 4; min = 8; max = 16; offsets = false; unified = true; lower = pos 0; rows = rows ++ replicate (maxRows - length rows) noRow; count = length rows }
+
+-- "mostly 72-byte entries and want a 72-byte cell"
+unfoldable pub offices : Params
+offices = withRows (row 1 8 8 ∷ row 9 9 9 ∷ row 10 64 64 ∷ row 65 512 512 ∷ [])
+
+-- the answer to an alloc of this size, right after set-up and bind: number, then values
+unfoldable pub officeAlloc : ℕ → List ℕ
+officeAlloc size =
+    let l : Lent = setUp offices censusLent .lent in
+    let r : Result = call offices (call offices l (bind 1) .lent) (alloc 1 size 8 0 (Fresh (record { 0 = 2 }))) in
+    r .reply .number ∷ r .reply .values
+
+-- what the checker answers: kind and number
+unfoldable pub checked : List Row → List ℕ
+checked rows = checkClasses (withRows rows) .values
+
+-- the numbers that set-up and a prepare say with these rows, on what is lent
+unfoldable pub saidWith : List Row → Lent → List ℕ
+saidWith rows l = setUp (withRows rows) l .reply .number ∷ call (withRows rows) l prepare .reply .number ∷ []
 
 -- the blocks 1 and 0 on the list 1
 abbrev pub twoBlocks : Words
@@ -73,6 +103,33 @@ cases =
     ∷ gives (lists ∷ phaseWord ∷ boundWords ∷ releasedWords ∷ headWords ∷ lastBin ∷ parts ∷ [])
     ((sets * bins) ∷ (lists + lists) ∷ suc phaseWord ∷ (boundWords + holders) ∷ (releasedWords + parts) ∷ (bins - 1) ∷ suc holders ∷ [])
     ∷ gives (firstAlloc 4096 8 ∷ firstAlloc 4096 16 ∷ firstAlloc 4088 16 ∷ []) (0 ∷ 6 ∷ 0 ∷ [])
+    ∷ []
+
+unfoldable pub rowCases : List Case
+rowCases =
+    -- bins are rows; size 0 is in the row of one word
+    gives (binOf offices 0 ∷ binOf offices 64 ∷ binOf offices 65 ∷ binOf offices 72 ∷ binOf offices 73 ∷ binOf offices 4096 ∷ []) (1 ∷ 1 ∷ 2 ∷ 2 ∷ 3 ∷ 4 ∷ [])
+    -- a bin without a row has no size
+    ∷ gives (cellBytes offices 2 ∷ cellBytes offices 4 ∷ cellBytes offices 5 ∷ cellBytes offices 0 ∷ []) (72 ∷ 4096 ∷ 0 ∷ 0 ∷ [])
+    -- an entry of 72 bytes: the highest of 56 cells of 72 bytes, the offer used, no block swept
+    ∷ gives (officeAlloc 72) (0 ∷ 28536 ∷ 72 ∷ 1 ∷ 0 ∷ [])
+    -- no rows pass, and so do these
+    ∷ gives (checked []) (0 ∷ 0 ∷ [])
+    ∷ gives (checked (row 1 8 8 ∷ row 9 9 9 ∷ row 10 64 64 ∷ row 65 512 512 ∷ [])) (0 ∷ 0 ∷ [])
+    -- 9 is missed; 9 is covered twice, and 100 is missed too; the block's last count is missed
+    ∷ gives (checked (row 1 8 8 ∷ row 10 512 512 ∷ [])) (1 ∷ 9 ∷ [])
+    ∷ gives (checked (row 1 9 9 ∷ row 9 99 99 ∷ row 101 512 512 ∷ [])) (1 ∷ 9 ∷ [])
+    ∷ gives (checked (row 1 511 512 ∷ [])) (1 ∷ 512 ∷ [])
+    -- a row that covers nothing leaves its counts missed, and is unfit where none is
+    ∷ gives (checked (row 0 8 8 ∷ row 9 512 512 ∷ [])) (1 ∷ 1 ∷ [])
+    ∷ gives (checked (row 1 512 512 ∷ row 9 8 9 ∷ [])) (2 ∷ 2 ∷ [])
+    -- 12 from set-up and from another call; 1 before it, where a length is off and where rows are more than 48
+    ∷ gives (saidWith (row 1 8 8 ∷ []) censusLent) (12 ∷ 12 ∷ [])
+    ∷ gives (saidWith (row 1 8 8 ∷ []) (record { words = []; states = []; marks = []; heap = [] })) (1 ∷ 1 ∷ [])
+    ∷ gives (saidWith (replicate 49 (row 1 512 512)) censusLent) (1 ∷ 1 ∷ [])
+    -- a cell that holds its row's from and not its to; one over the block
+    ∷ gives (checked (row 1 8 8 ∷ row 9 512 511 ∷ [])) (2 ∷ 2 ∷ [])
+    ∷ gives (checked (row 1 512 513 ∷ [])) (2 ∷ 1 ∷ [])
     ∷ []
 
 -- the lines `b 1` and `a 1 1024 8 0 2`

@@ -14,6 +14,7 @@ use Rattle.model.specs.declared.Refusal.the-variants.{BadLine}
 use Rattle.model.specs.Base.{if_then_else_, filter, allBelow, member, In}
 use Rattle.model.specs.Params.{Lent, wordCount, heapBytes, abandoned, inGc}
 use Rattle.model.specs.Tables.{Words, Tables}
+use Rattle.model.specs.SizeClasses.{noRows}
 use Rattle.model.specs.Block.{Unallocated, sweepChain, freeChain}
 use Rattle.model.specs.Events.{swept}
 use Rattle.model.specs.Global.{Marking}
@@ -110,7 +111,7 @@ lineOf words =
 
 unfoldable pub censusParams : Params
 censusParams =
-    record { base = 16384; bytes = 4096; blocks = 4; min = 8; max = 8; offsets = false; unified = true; lower = pos 0 }
+    record { base = 16384; bytes = 4096; blocks = 4; min = 8; max = 8; offsets = false; unified = true; lower = pos 0; rows = noRows; count = 0 }
 
 -- the buffers that are lent, and after set-up
 unfoldable pub censusLent : Lent

@@ -1,9 +1,10 @@
--- 02, R-2, "Calls from the interpreter's C host": what the exports are given and give, on numbers and byte slices.
+-- 02, R-2, "Calls from the interpreter's C host": what the exports are given and give, on numbers and byte slices; and how the rows of
+-- R-5 travel there.
 --
 -- A host lends table words as bytes. The machine works on what they decode to, and its words go back encoded. Each undoes the
 -- other (`Inverse`), so a run through the exports is a run of the machine (`RunThroughExports`), and demand 3 holds of it
 -- (`Demand3ThroughExports`). crates/exports proves all three.
-use Prim.Native.Nat.{ℕ, zero, suc, _+_, _/_, _%_, _^_, _<_}
+use Prim.Native.Nat.{ℕ, zero, suc, _+_, _*_, _/_, _%_, _^_, _<_}
 use mathlib.Core.Path.{_≡_}
 use mathlib.Core.Bool.{Bool, _&&_}
 use mathlib.Core.List.{List, [], _∷_, _++_, map}
@@ -11,15 +12,17 @@ use lib.Dec.{eqb, leb}
 use lib.IntN.{ℤ}
 use lib.ListN.{length, getD}
 use Rattle.model.specs.declared.Params.{Params}
+use Rattle.model.specs.declared.Row.{Row}
 use Rattle.model.specs.declared.Given.{Given}
 use Rattle.model.specs.declared.Said.{Said}
 use Rattle.model.specs.declared.Offer.{Offer}
 use Rattle.model.specs.declared.Offer.the-variants.{Nothing, Fresh}
 use Rattle.model.specs.declared.Refusal.the-variants.{BadSetup}
 use Rattle.model.specs.Base.{if_then_else_, In}
-use Rattle.model.specs.Params.{Lent}
+use Rattle.model.specs.Params.{Lent, maxRows}
 use Rattle.model.specs.Memory.{loadBytes, bytesOf}
-use Rattle.model.specs.Calls.{refusalNumber, Reply, answered, Call, Result, call, setUp}
+use Rattle.model.specs.SizeClasses.{tabulated}
+use Rattle.model.specs.Calls.{refusalNumber, Reply, answered, Call, Result, call, setUp, checkClasses}
 use Rattle.model.specs.Answers.{saidOf}
 use Rattle.model.specs.Runs.{written, Turn, State, resultOf, turned, begun, HoldersWrite, RunKeeps}
 
@@ -104,15 +107,50 @@ abbrev pub given : ℕ → ℕ → ℕ → ℕ → ℕ → ℕ → ℕ → ℤ �
 given base bytes blocks min max offsets unified lower =
     record { base = base; bytes = bytes; blocks = blocks; min = min; max = max; offsets = offsets; unified = unified; lower = lower }
 
-abbrev pub paramsOf : Given → Params
-paramsOf g =
-    record { base = g .base; bytes = g .bytes; blocks = g .blocks; min = g .min; max = g .max; offsets = eqb (g .offsets) 1; unified = eqb (g .unified) 1; lower = g .lower }
+-- 02, R-5: "Set-up takes up to 48 rows: from words, to words, cell words": three such words each, in a slice of their own
+abbrev pub rowBytes : ℕ
+rowBytes = 24
+
+-- the row whose bytes begin at i
+abbrev pub rowFrom : List ℕ → ℕ → Row
+rowFrom rows i = record { from = loadBytes 8 rows i; to = loadBytes 8 rows (i + 8); cell = loadBytes 8 rows (i + 16) }
+
+-- 48 rows, of which as many are given as the slice has; past its end stand zeros
+unfoldable pub rowsOf : List ℕ → List Row
+rowsOf rows = tabulated (λ n. rowFrom rows (rowBytes * n)) maxRows 0
+
+abbrev pub paramsOf : Given → List ℕ → Params
+paramsOf g rows =
+    record { base = g .base; bytes = g .bytes; blocks = g .blocks; min = g .min; max = g .max; offsets = eqb (g .offsets) 1; unified = eqb (g .unified) 1; lower = g .lower; rows = rowsOf rows; count = length rows / rowBytes }
 
 abbrev pub flagsOk : Given → Bool
 flagsOk g = leb (g .offsets) 1 && leb (g .unified) 1
 
-unfoldable pub called : Given → LentBytes → Inner → Export
-called g l inner = if flagsOk g then exported (paramsOf g) l inner else gives (refusalNumber BadSetup) l
+-- a part of a row is a slice length that is off; the inner call tests that there are at most 48
+abbrev pub rowsOk : List ℕ → Bool
+rowsOk rows = eqb (length rows % rowBytes) 0
+
+-- the numbers, the bytes of the rows, what is lent, and the inner call
+unfoldable pub called : Given → List ℕ → LentBytes → Inner → Export
+called g rows l inner =
+    if flagsOk g && rowsOk rows then exported (paramsOf g rows) l inner else gives (refusalNumber BadSetup) l
+
+-- R-5's checker for a host: the number returned, and the slice for the answer after it, which gets kind and number (Answers
+-- `classesReply`)
+pub record CheckExport : Type 0 where
+  pub number : ℕ
+  pub answer : List ℕ
+
+abbrev pub checkGives : ℕ → List ℕ → CheckExport
+checkGives n answer = record { number = n; answer = answer }
+
+abbrev pub checkShown : List ℕ → Reply → CheckExport
+checkShown answer reply = checkGives (reply .number) (answerAfter reply answer)
+
+unfoldable pub checkCalled : Given → List ℕ → List ℕ → CheckExport
+checkCalled g rows answer =
+    if flagsOk g && rowsOk rows && eqb (length answer) 32 then checkShown answer (checkClasses (paramsOf g rows))
+    else checkGives (refusalNumber BadSetup) answer
 
 -- "2^64 − 1 offers none."
 unfoldable pub offeredBy : ℕ → Offer
@@ -130,13 +168,13 @@ unfoldable pub foundBytes : Params → LentBytes → HostTurn → LentBytes
 foundBytes p l u =
     lendBytes (l .words) (l .states) (l .marks) (written p (u .turn .writes) (l .heap)) (u .answer)
 
-unfoldable pub hostCall : Given → LentBytes → HostTurn → Export
-hostCall g l u = called g (foundBytes (paramsOf g) l u) (asks (u .turn .call))
+unfoldable pub hostCall : Given → List ℕ → LentBytes → HostTurn → Export
+hostCall g rows l u = called g rows (foundBytes (paramsOf g rows) l u) (asks (u .turn .call))
 
--- what the exports give, call after call
-unfoldable pub hostRun : Given → LentBytes → List HostTurn → List Export
-hostRun g l [] = []
-hostRun g l (u ∷ us) = hostCall g l u ∷ hostRun g (hostCall g l u .bytes) us
+-- what the exports give, call after call, with the same numbers and rows
+unfoldable pub hostRun : Given → List ℕ → LentBytes → List HostTurn → List Export
+hostRun g rows l [] = []
+hostRun g rows l (u ∷ us) = hostCall g rows l u ∷ hostRun g rows (hostCall g rows l u .bytes) us
 
 -- what the machine gives, as bytes
 unfoldable pub machineRun : Params → State → List HostTurn → List Export
@@ -149,11 +187,11 @@ AnswersFit us = (u : HostTurn) → In u us → length (u .answer) ≡ 32
 -- After a set-up that returned 0, whatever was lent to it: it was the machine's, and so is every call, with every byte
 unfoldable pub RunThroughExports : Type 0
 RunThroughExports =
-    (g : Given) (l : LentBytes) (us : List HostTurn)
-    → called g l setUp .number ≡ 0 → AnswersFit us
-    → (setUp (paramsOf g) (decodedLent l) .reply ≡ answered [])
-    × (called g l setUp ≡ shown (l .answer) (setUp (paramsOf g) (decodedLent l)))
-    × (hostRun g (called g l setUp .bytes) us ≡ machineRun (paramsOf g) (begun (paramsOf g) (decodedLent l)) us)
+    (g : Given) (rows : List ℕ) (l : LentBytes) (us : List HostTurn)
+    → called g rows l setUp .number ≡ 0 → AnswersFit us
+    → (setUp (paramsOf g rows) (decodedLent l) .reply ≡ answered [])
+    × (called g rows l setUp ≡ shown (l .answer) (setUp (paramsOf g rows) (decodedLent l)))
+    × (hostRun g rows (called g rows l setUp .bytes) us ≡ machineRun (paramsOf g rows) (begun (paramsOf g rows) (decodedLent l)) us)
 
 -- what a host reads of a call: its number, its answer if it has one, and the tables
 pub record HostSees : Type 0 where
@@ -172,11 +210,11 @@ hostSees x =
 -- (Runs `RunKeeps`) holds of the machine's run, which each is. Premises as in Runs `Demand3`
 unfoldable pub Demand3ThroughExports : Type 0
 Demand3ThroughExports =
-    (g : Given) (l l′ : LentBytes) (us us′ : List HostTurn)
-    → called g l setUp .number ≡ 0 → called g l′ setUp .number ≡ 0 → AnswersFit us → AnswersFit us′
-    → HoldersWrite (paramsOf g) (begun (paramsOf g) (decodedLent l)) (map (λ u. u .turn) us)
-    → HoldersWrite (paramsOf g) (begun (paramsOf g) (decodedLent l′)) (map (λ u. u .turn) us′)
+    (g : Given) (rows : List ℕ) (l l′ : LentBytes) (us us′ : List HostTurn)
+    → called g rows l setUp .number ≡ 0 → called g rows l′ setUp .number ≡ 0 → AnswersFit us → AnswersFit us′
+    → HoldersWrite (paramsOf g rows) (begun (paramsOf g rows) (decodedLent l)) (map (λ u. u .turn) us)
+    → HoldersWrite (paramsOf g rows) (begun (paramsOf g rows) (decodedLent l′)) (map (λ u. u .turn) us′)
     → map (λ u. u .turn .call) us ≡ map (λ u. u .turn .call) us′
-    → (hostSees (called g l setUp) ≡ hostSees (called g l′ setUp))
-    × (map hostSees (hostRun g (called g l setUp .bytes) us) ≡ map hostSees (hostRun g (called g l′ setUp .bytes) us′))
-    × RunKeeps (paramsOf g) (begun (paramsOf g) (decodedLent l)) (map (λ u. u .turn) us)
+    → (hostSees (called g rows l setUp) ≡ hostSees (called g rows l′ setUp))
+    × (map hostSees (hostRun g rows (called g rows l setUp .bytes) us) ≡ map hostSees (hostRun g rows (called g rows l′ setUp .bytes) us′))
+    × RunKeeps (paramsOf g rows) (begun (paramsOf g rows) (decodedLent l)) (map (λ u. u .turn) us)

@@ -38,6 +38,8 @@ pub mod Memory
 -- all that calls keep outside the heap
 pub mod Tables
 pub mod SizeClasses
+-- which tables of rows are accepted (02, R-5)
+pub mod Classes
 pub mod BlockList
 pub mod Block
 -- what happens to cells in a call
@@ -49,6 +51,8 @@ pub mod Global
 pub mod Sound
 -- the eight calls and their refusals
 pub mod Calls
+-- 01's own sizes as rows
+pub mod OwnRows
 -- the answers' numbers
 pub mod Answers
 -- what every call promises

@@ -35,8 +35,13 @@ heapBytes p = p .blocks * p .bytes
 unfoldable pub heapEnd : Params → ℕ
 heapEnd p = p .base + heapBytes p
 
+-- 02, R-5: "Set-up takes up to 48 rows"
+abbrev pub maxRows : ℕ
+maxRows = 48
+
 -- "MIN_ALIGNMENT 4 or 8; MAX_ALIGNMENT a power of two, MIN to 64; [..] and 0 if unified. [..] Block size: a power of two, 4,096 to 65,536.
--- Blocks: 1 to 1,024. `base`: a nonzero multiple of the block size; the heap ends by 2^47."
+-- Blocks: 1 to 1,024. `base`: a nonzero multiple of the block size; the heap ends by 2^47." And 02, R-5: "More than 48 rows is
+-- BadSetup."
 unfoldable pub goodParams : Params → Bool
 goodParams p =
     (eqb (p .min) 4 || eqb (p .min) 8)
@@ -45,6 +50,7 @@ goodParams p =
     && (powerOfTwo (p .bytes) && leb 4096 (p .bytes) && leb (p .bytes) 65536)
     && (leb 1 (p .blocks) && leb (p .blocks) 1024)
     && (ltb 0 (p .base) && eqb (p .base % p .bytes) 0 && leb (heapEnd p) (2 ^ 47))
+    && leb (p .count) maxRows
 
 -- Everything lent to a call: all table words in one slice (Tables.antt says in which order), the state bytes, the mark
 -- bytes, the heap.

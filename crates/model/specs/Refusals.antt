@@ -21,7 +21,7 @@ use Rattle.model.specs.Tables.{Words, view}
 use Rattle.model.specs.SizeClasses.{binOf, raised}
 use Rattle.model.specs.Block.{Unallocated, sweepChain}
 use Rattle.model.specs.Sound.{setNamed, linkOk}
-use Rattle.model.specs.Calls.{refusalNumber, answered, Call, bind, destroy, alloc, prepare, mark, release, sharedRelease, Result, call, setUp, badSetup}
+use Rattle.model.specs.Calls.{refusalNumber, answered, Call, bind, destroy, alloc, prepare, mark, release, sharedRelease, Result, call, setUp, badSetup, badClasses}
 use Rattle.model.specs.Runs.{Turn, begun, Seen, seenIn}
 
 -- the block b names the list
@@ -127,7 +127,8 @@ unfoldable pub RefusalKeeps : Type 0
 RefusalKeeps = (p : Params) (l : Lent) (c : Call) → call p l c .reply .number ≢ 0 → Refused p l c (call p l c)
 
 unfoldable pub SetUpKeeps : Type 0
-SetUpKeeps = (p : Params) (l : Lent) → setUp p l .reply .number ≢ 0 → setUp p l ≡ badSetup l
+SetUpKeeps =
+    (p : Params) (l : Lent) → setUp p l .reply .number ≢ 0 → (setUp p l ≡ badSetup l) ⊎ (setUp p l ≡ badClasses l)
 
 -- ---- "released the number of blocks it made Unallocated": "An invented swept or released count: 2, which counts the blocks themselves."
 

@@ -46,9 +46,11 @@ unfoldable pub onListNamed : Params → Words → ℕ → Bool
 onListNamed p w b =
     leb 1 (getD (w .list) b 0) && leb (getD (w .list) b 0) lists && member b (blocksOn p (listNamed w b) w)
 
--- "its bin is 1 or more with that cell size"
+-- "its bin is 1 or more with that cell size". 02, R-5: "sound tables read sizes from the rows"; a bin without a row has no cell size, and
+-- so no block is sound there
 unfoldable pub sizeOk : Params → Words → ℕ → Bool
-sizeOk p w b = leb 1 (binNamed w b) && eqb (getD (w .size) b 0) (cellBytes p (binNamed w b))
+sizeOk p w b =
+    leb 1 (binNamed w b) && ltb 0 (getD (w .size) b 0) && eqb (getD (w .size) b 0) (cellBytes p (binNamed w b))
 
 -- "its free head is 0 or a whole cell of it"
 unfoldable pub linkOk : Params → Words → ℕ → ℕ → Bool

@@ -6,6 +6,16 @@ pub struct Address(pub usize);
 // A block, by its number from 0. Only base + number × block size makes it an address.
 pub struct Block(pub usize);
 
+// How many rows a class table may have (02, R-5).
+pub const ROWS: usize = 48;
+
+// A row of a customer's class table: counts of words from `from` to `to` get a cell of `cell` words (02, R-5).
+pub struct Row {
+    pub from: usize,
+    pub to: usize,
+    pub cell: usize,
+}
+
 // The VM's constants and the place of the heap. Field names are single words, since specs/ reads them too.
 pub struct Params {
     // the address of the heap's first byte
@@ -23,6 +33,10 @@ pub struct Params {
     pub unified: bool,
     // L, OBJECT_REF_OFFSET_LOWER_BOUND
     pub lower: i64,
+    // the rows of the class table: row n stands at n − 1, and those from `count` on are not read
+    pub rows: [Row; ROWS],
+    // how many rows are given; 0 for the classes of document 01
+    pub count: usize,
 }
 
 // Numbers of the layout: specs/Params.antt has the same names, in small letters.
@@ -144,7 +158,7 @@ pub enum Ask {
     SharedRelease,
 }
 
-// Document 01's refusals, in the order in which they are tested.
+// Document 01's refusals, in the order in which they are tested, and 02's BadClasses, tested right after BadSetup.
 pub enum Refusal {
     BadSetup,
     BadTables,
@@ -157,6 +171,7 @@ pub enum Refusal {
     Exhausted,
     BadObject,
     BadLine,
+    BadClasses,
 }
 
 // How the tests of a call end: passed, or the first refusal.
@@ -203,6 +218,14 @@ pub enum ReleaseAnswer {
 // The answer of pages used.
 pub enum PagesAnswer {
     Pages(usize),
+    Refused(Refusal),
+}
+
+// The answer of the check of a class table: accepted, the least bad count of words, or the first unfit row (02, R-5).
+pub enum ClassesAnswer {
+    Accepted,
+    BadCount(usize),
+    BadRow(usize),
     Refused(Refusal),
 }
 

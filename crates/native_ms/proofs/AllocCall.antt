@@ -26,7 +26,7 @@ use Rattle.model.specs.Promise.{lend}
 use Rattle.laws.proofs.Params.{good-bounds}
 use Rattle.laws.proofs.Below.{and-left}
 use Rattle.laws.proofs.Tables.{sized-view}
-use Rattle.laws.proofs.Classes.{chosen, request, fits-raised}
+use Rattle.laws.proofs.Classes.{Chosen, chosen, request, fits-raised}
 use Rattle.laws.proofs.Tests.{alloc-passed}
 use Rattle.native_ms.specs.declared.allocator.Raised.{Raised}
 use Rattle.native_ms.specs.declared.allocator.Raised.the-variants as Raise
@@ -35,7 +35,7 @@ use Rattle.native_ms.specs.declared.checks.Checked.the-variants.{Bin, Re
 use Rattle.native_ms.specs.Raised.{raisedTo}
 use Rattle.native_ms.specs.Checked.{lentTests, binAfter}
 use Rattle.native_ms.specs.Ending.{stepped, shown, Does, servedBy, Ready}
-use Rattle.native_ms.specs.Places.{Known, Offered}
+use Rattle.native_ms.specs.Places.{Known, Classed, Offered}
 use Rattle.native_ms.proofs.Tests.{opened, step-refused, step-passed}
 use Rattle.native_ms.proofs.SpaceCalls.{bound-low, bound-high}
 use Rattle.native_ms.specs.SoundLent.{Lengths}
@@ -93,9 +93,9 @@ module _ (p : Params) (t : Words) (st m : List ℕ) (size align offset : ℕ) (o
       unfolding requestTests binAfter andThen
       check-offer n = rw (← e₅ t m, n, ← e₃, z₃, fit-size .0)
 
-      pub check-bin : {r : ℕ} → o ≡ true → ((p′ : Params) → r ≡ binOf p′ k) → Bin r ≡ K
+      pub check-bin : {r : ℕ} → o ≡ true → r ≡ binOf p k → Bin r ≡ K
       unfolding requestTests binAfter andThen
-      check-bin {r} n er = rw (← e₅ t m, n, ← e₃, z₃, fit-size .0, er p, fit-size .1)
+      check-bin {r} n er = rw (← e₅ t m, n, ← e₃, z₃, fit-size .0, er, fit-size .1)
 
 -- those of the holder before those of the request
 module _ {a r : Tested} (b : Tested) (bin : ℕ) (e : r ≡ a) where
@@ -155,7 +155,7 @@ module _ (p : Params) (w st ms h : List ℕ) (holder size align offset : ℕ) (o
           good = o .parts .good;
           holder-from = bound-low (view w) holder (a .bound);
           holder-to = bound-high (view w) holder (a .bound);
-          bin-low = omega (arith, passing .1, chosen p (raised p size align) (omega (arith, fits-raised p size align (a .small), B .bytes-high)) .to);
+          bin-low = omega (arith, passing .1, chosen p B (o .classes) (raised p size align) (fits-raised p size align (a .small)) .to);
           shift =
               record {
                 align-from = omega (arith, r .align-from, B .min-low);
@@ -172,10 +172,16 @@ module _ (p : Params) (w st ms h : List ℕ) (holder size align offset : ℕ) (o
         let o = opened p w st ms h e in
         record { good = o .parts .good; count = o .parts .words; lines = o .parts .marks; whole = o .parts .heap }
 
-    pub call-offered : Offered p offer
-    call-offered =
+    pub call-offered : lentTests p (lend w st ms h) ≡ Test.Passed → Offered p bin offer
+    call-offered e =
+        let o = opened p w st ms h e in
         let a = alloc-passed p T holder size align offset offer (passing .0) in
-        record { block = λ b e. offered-low p T b (ap (λ (x : Offer). goodOffer p T x) (sym e) ∙ a .offered) }
+        let B = good-bounds p (o .parts .good) in
+        let k : Chosen p (raised p size align) = chosen p B (o .classes) (raised p size align) (fits-raised p size align (a .small)) in
+        record {
+          block = λ b q. offered-low p T b (ap (λ (x : Offer). goodOffer p T x) (sym q) ∙ a .offered);
+          class = rw (passing .1) (record { word = k .word; most = omega (arith, k .room, B .bytes-high) });
+        }
 
     pub call-served : {r : Reply} {t₁ : Tables} {h₁ : List ℕ}
         → stepped r t₁ h₁ ≡ servedBy p align offset h (findBlock p holder bin offer T) → Does p T h C r t₁ h₁

@@ -21,9 +21,9 @@ use Rattle.model.specs.BlockList.{push, pop}
 use Rattle.model.specs.Block.{Unallocated, cellCount, isCell, cellsDown, initChain, initBlock, sweepChain, sweptWords}
 use Rattle.model.specs.FreeListAllocator.{Found, acquireFresh, findBlock}
 use Rattle.model.specs.Sound.{stateOf, stateKnown, blockClear, listNamed, binNamed, onListNamed, sizeOk, linkOk, tlsOk, blockSound, linked, unboundEmpty, inGcEmpty, phaseKnown, flagsKnown, releasedFew, releasedSome, releasedEmpty, sound}
-use Rattle.laws.proofs.Classes.{cellBytes-least}
+use Rattle.laws.proofs.Classes.{cellBytes-some}
 use Rattle.native_ms.specs.Places.{HeadCell}
-use Rattle.laws.proofs.Below.{and-left, and-right, or-cases, and-four, and-five, allBelow-at, test}
+use Rattle.laws.proofs.Below.{and-left, and-right, or-cases, and-three, and-four, and-five, allBelow-at, test}
 use Rattle.laws.proofs.Params.{Bounds, start-out, start-end}
 use Rattle.laws.proofs.Cells.{Free, in-cellsDown}
 use Rattle.laws.proofs.Frame.{links-refl, push-links, pop-links}
@@ -130,8 +130,9 @@ module _ (p : Params) (g : Bounds p) where
   sized : (w : Words) (b : ℕ) → sizeOk p w b ≡ true → 8 ≤ getD (w .size) b 0
   unfolding sizeOk binNamed
   sized w b e =
-      rw (eqb-true (getD (w .size) b 0) (cellBytes p (listNamed w b % 49)) (and-right (leb 1 (listNamed w b % 49)) _ e))
-      (cellBytes-least p {bin = listNamed w b % 49} (mod-lt (listNamed w b) (lit< tt)))
+      let q = and-three (leb 1 (listNamed w b % 49)) (ltb 0 (getD (w .size) b 0)) (eqb (getD (w .size) b 0) (cellBytes p (listNamed w b % 49))) e in
+      let is = eqb-true (getD (w .size) b 0) (cellBytes p (listNamed w b % 49)) (q .2) in
+      rw is (cellBytes-some p (listNamed w b % 49) (rw is at (ltb-true 0 (getD (w .size) b 0) (q .1))))
 
   some-link : (w : Words) (b a : ℕ) → linkOk p w b a ≡ true → (a ≡ 0 → ⊥) → isCell p b (getD (w .size) b 0) a ≡ true
   unfolding linkOk

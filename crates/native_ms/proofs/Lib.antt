@@ -15,6 +15,7 @@ pub mod Window
 pub mod Reaches
 pub mod BlockWords
 pub mod ClassSizes
+pub mod Borders
 pub mod TakeCell
 pub mod Search
 pub mod Tests

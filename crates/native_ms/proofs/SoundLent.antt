@@ -17,9 +17,7 @@ use Rattle.model.specs.declared.Params.{Params}
 use Rattle.model.specs.Base.{allBelow}
 use Rattle.model.specs.Params.{goodParams, powerOfTwo, isStart, blockAt, start, listOf}
 use Rattle.model.specs.Tables.{Words, view, blocksIn, blockTable}
-use Rattle.model.specs.SizeClasses.{classWords, cellBytes}
 use Rattle.model.specs.Census.{censusParams}
-use Rattle.laws.proofs.Classes.{cellBytes-most}
 use Rattle.model.specs.Sound.{blockClear, ownerEmpty}
 use Rattle.laws.proofs.Below.{same-test, and-both, and-left, and-right, allBelow-at, allBelow-from}
 use Rattle.laws.proofs.Good.{each-power}
@@ -79,17 +77,6 @@ pub table-word : (w : List ℕ) (n j i : ℕ) → length w ≡ 2958 + 6 * n → 
 table-word w n j i e h =
     let m : n ≡ blocksIn w = omega arith in
     sym (getD-part (2958 + j * n) n i w h) ∙ ap (λ (k : ℕ). getD (blockTable k j w) i 0) m
-
--- ---- the classes
-
-module _ (cs : List ℕ) (e : cs ≡ classWords) (bin : ℕ) where
-  pub class-most : bin < 49 → getD cs bin 0 * 8 ≤ 65536
-  unfolding cellBytes
-  class-most h = rw e (omega (arith, cellBytes-most censusParams h))
-
-pub class-at : (p : Params) (cs : List ℕ) → cs ≡ classWords → (bin : ℕ) → getD cs bin 0 * 8 ≡ cellBytes p bin
-unfolding cellBytes
-class-at p cs e bin = rw e (mul-comm (getD classWords bin 0) 8)
 
 -- one after the other, in the order of a union
 or-next : {x : Bool} (a b : ℕ) → eqb a 0 ≡ x → eqb (bitOr a b) 0 ≡ (x && eqb b 0)

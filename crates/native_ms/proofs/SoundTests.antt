@@ -6,7 +6,7 @@ use mathlib.Core.List.{List}
 use native.Mathlib.Nat.{not-suc-le-zero}
 use native.Mathlib.Numerals.{add-one}
 use native.Mathlib.Omega.{arith}
-use lib.Dec.{eqb, leb}
+use lib.Dec.{eqb, leb, ltb}
 use lib.ListN.{getD}
 use borrow.Author.Tests.{leb-true, eq-eqb, ne-eqb, lt-ltb, le-ltb, le-leb, lt-leb}
 use Rattle.model.specs.declared.Params.{Params}
@@ -116,9 +116,15 @@ module _ (p : Params) (w : Words) (b : ℕ) {l : ℕ} (el : l ≡ listNamed w b)
   unfolding sizeOk binNamed
   size-bin h = rw (← el, lt-leb 1 (l % 49) h)
 
-  pub size-class : {s c : ℕ} → 1 ≤ l % 49 → s ≡ getD (w .size) b 0 → c ≡ cellBytes p (l % 49) → eqb s c ≡ sizeOk p w b
+  pub size-none : {s : ℕ} → 1 ≤ l % 49 → s ≡ getD (w .size) b 0 → s ≡ 0 → false ≡ sizeOk p w b
   unfolding sizeOk binNamed
-  size-class h es ec = rw (← el, le-leb 1 (l % 49) h, es, ec)
+  size-none h es z = rw (← el, le-leb 1 (l % 49) h, sym es ∙ z)
+
+  pub size-class : {s c : ℕ} → 1 ≤ l % 49 → s ≡ getD (w .size) b 0 → (s ≡ 0 → ⊥) → c ≡ cellBytes p (l % 49) → eqb s c ≡ sizeOk p w b
+  unfolding sizeOk binNamed
+  size-class {s} {c} h es n ec =
+      let t : ltb 0 s ≡ true = lt-ltb 0 s (omega (arith, n)) in
+      rw (← el, le-leb 1 (l % 49) h, ← es, ← ec, t)
 
 module _ (w : Words) (b : ℕ) {h : ℕ} (eh : h ≡ getD (w .tls) b 0) {o : Bool} (eo : o ≡ isHolder h) where
   pub tls-none : o ≡ false → false ≡ tlsOk w b

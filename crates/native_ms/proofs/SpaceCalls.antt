@@ -13,7 +13,7 @@ use borrow.Author.Count.{below-more}
 use lib.Seq.{ext-getD, getD-set-same, getD-set-other}
 use Rattle.model.specs.declared.Params.{Params}
 use Rattle.model.specs.declared.Refusal.{Refusal}
-use Rattle.model.specs.declared.Refusal.the-variants.{BadSetup}
+use Rattle.model.specs.declared.Refusal.the-variants.{BadSetup, BadClasses}
 use Rattle.model.specs.declared.Tested.{Tested}
 use Rattle.model.specs.declared.Tested.the-variants.{Passed, Refused}
 use Rattle.model.specs.Base.{eachBelow, flag}
@@ -25,6 +25,7 @@ use Rattle.model.specs.Events.{releases, eventsHeap}
 use Rattle.model.specs.BlockList.{append}
 use Rattle.model.specs.Global.{Running, Marking, freshWords, freshTables, isHolder, isBound, hasReleased, bindHolder, destroyHolder, abandonBin, abandonBlocks, abandonedBlocks, unmarkedState, prepared, markPlace, Freed, releaseHolder, sweepLater, allReleased, partReleased, merged}
 use Rattle.model.specs.Sound.{stateOf}
+use Rattle.model.specs.Classes.{classesFit}
 use Rattle.model.specs.Calls.{answered, refused, Call, bind, destroy, prepare, mark, release, sharedRelease, goodObject, mayLeave, mayRelease, phaseTest, bindTests, leaveTests, markTests, releaseTests, sharedTests, callTests, releasePlan, planPassed, finish, carried, setUp}
 use Rattle.laws.proofs.Below.{and-left, and-right, or-left}
 use Rattle.laws.proofs.Params.{good-bounds, start-in, block-small}
@@ -196,16 +197,24 @@ module _ (p : Params) (w s m h : List ℕ) {f : Bool} (ef : f ≡ fits p (lend w
   unfolding setUp
   bad-set-up e = let q : fits p (lend w s m h) ≡ false = sym ef ∙ e in record { reply = rw q; lent = rw q }
 
-  pub set-up-done : {w′ s′ m′ : List ℕ} → f ≡ true → w′ ≡ replicate (length w) 0 → s′ ≡ cleared s → m′ ≡ cleared m
+  pub bad-rows : {k : Bool} → f ≡ true → k ≡ classesFit p → k ≡ false → SetUpPromised p (lend w s m h) (refused BadClasses) (lend w s m h)
+  unfolding setUp
+  bad-rows e ek z =
+      let q : fits p (lend w s m h) ≡ true = sym ef ∙ e in
+      let y : classesFit p ≡ false = sym ek ∙ z in
+      record { reply = rw (q, y); lent = rw (q, y) }
+
+  pub set-up-done : {k : Bool} {w′ s′ m′ : List ℕ} → f ≡ true → k ≡ classesFit p → k ≡ true → w′ ≡ replicate (length w) 0 → s′ ≡ cleared s → m′ ≡ cleared m
       → SetUpPromised p (lend w s m h) (answered []) (lend w′ s′ m′ h)
   unfolding setUp freshTables cleared
-  set-up-done e ew es em =
+  set-up-done e ek z ew es em =
       let q : fits p (lend w s m h) ≡ true = sym ef ∙ e in
+      let y : classesFit p ≡ true = sym ek ∙ z in
       let parts = fit-parts p w s m h ef e in
       let v : replicate (length w) 0 ≡ flat (freshWords p) = sym (fresh-flat p (length w) (parts .words)) in
       let ls : length s ≡ p .blocks = parts .states in
       let lm : length m ≡ heapBytes p / 64 = parts .marks in
-      record { reply = rw q; lent = rw (q, ew, es, em, ls, lm, ← v) }
+      record { reply = rw (q, y); lent = rw (q, y, ew, es, em, ls, lm, ← v) }
 
 -- ---- mark
 

@@ -10,13 +10,14 @@ use lib.ListN.{length, getD}
 use borrow.Author.Tests.{eq-eqb, ne-eqb, eqb-true, leb-true}
 use Rattle.model.specs.declared.Params.{Params}
 use Rattle.model.specs.declared.Refusal.{Refusal}
-use Rattle.model.specs.declared.Refusal.the-variants.{BadSetup, BadTables, WrongPhase, BadHolder}
+use Rattle.model.specs.declared.Refusal.the-variants.{BadSetup, BadTables, BadClasses, WrongPhase, BadHolder}
 use Rattle.model.specs.declared.Tested.{Tested}
 use Rattle.model.specs.declared.Tested.the-variants.{Passed, Refused}
 use Rattle.model.specs.Params.{goodParams, fits, wordCount, heapBytes, headWords}
 use Rattle.model.specs.Tables.{Words, Tables, tablesOf, view, flat}
 use Rattle.model.specs.Events.{eventsHeap}
 use Rattle.model.specs.Global.{isHolder, isBound}
+use Rattle.model.specs.Classes.{classesFit}
 use Rattle.model.specs.Sound.{sound}
 use Rattle.model.specs.Calls.{Reply, refused, Call, refusedIf, andThen, phaseTest, boundTests, callTests, planPassed, ifPassed, planSound, plan, finish, carried, soundStep, step, call}
 use Rattle.model.specs.Promise.{lend, Promised}
@@ -104,18 +105,20 @@ module _ {a r : Tested} (b : Tested) (e : r ≡ a) where
 pub record Open (p : Params) (w s m h : List ℕ) : Type 0 where
   pub fit : fits p (lend w s m h) ≡ true
   pub parts : Fitting p w s m h
+  pub classes : classesFit p ≡ true
   pub sane : sound p (tablesOf (view w) s m) ≡ true
 
 module _ (p : Params) (w s m h : List ℕ) where
   pub opened : lentTests p (lend w s m h) ≡ Passed → Open p w s m h
   unfolding lentTests andThen
-  opened e = go (fits p (lend w s m h)) (sound p (tablesOf (view w) s m)) refl refl e
+  opened e = go (fits p (lend w s m h)) (classesFit p) (sound p (tablesOf (view w) s m)) refl refl refl e
     where
-      go : (f g : Bool) → fits p (lend w s m h) ≡ f → sound p (tablesOf (view w) s m) ≡ g
-          → andThen (refusedIf (not f) BadSetup) (refusedIf (not g) BadTables) ≡ Passed → Open p w s m h
-      go false g ef eg q = clash q
-      go true false ef eg q = clash q
-      go true true ef eg q = record { fit = ef; parts = fit-parts p w s m h refl ef; sane = eg }
+      go : (f k g : Bool) → fits p (lend w s m h) ≡ f → classesFit p ≡ k → sound p (tablesOf (view w) s m) ≡ g
+          → andThen (refusedIf (not f) BadSetup) (andThen (refusedIf (not k) BadClasses) (refusedIf (not g) BadTables)) ≡ Passed → Open p w s m h
+      go false k g ef ek eg q = clash q
+      go true false g ef ek eg q = clash q
+      go true true false ef ek eg q = clash q
+      go true true true ef ek eg q = record { fit = ef; parts = fit-parts p w s m h refl ef; classes = ek; sane = eg }
 
   pub open-good : lentTests p (lend w s m h) ≡ Passed → goodParams p ≡ true
   open-good e = opened e .parts .good
@@ -129,19 +132,22 @@ module _ (p : Params) (w s m h : List ℕ) where
 module _ (p : Params) (w s m h : List ℕ) (c : Call) {r : Tested} (e : r ≡ lentTests p (lend w s m h)) where
   pub lent-refused : {x : Refusal} → r ≡ Refused x → Promised p (lend w s m h) c (refused x) (lend w s m h)
   unfolding lentTests andThen call step plan finish eventsHeap
-  lent-refused {x} z = go (fits p (lend w s m h)) (sound p (tablesOf (view w) s m)) refl refl (sym e ∙ z)
+  lent-refused {x} z = go (fits p (lend w s m h)) (classesFit p) (sound p (tablesOf (view w) s m)) refl refl refl (sym e ∙ z)
     where
-      go : (f g : Bool) → fits p (lend w s m h) ≡ f → sound p (tablesOf (view w) s m) ≡ g
-          → andThen (refusedIf (not f) BadSetup) (refusedIf (not g) BadTables) ≡ Refused x
+      go : (f k g : Bool) → fits p (lend w s m h) ≡ f → classesFit p ≡ k → sound p (tablesOf (view w) s m) ≡ g
+          → andThen (refusedIf (not f) BadSetup) (andThen (refusedIf (not k) BadClasses) (refusedIf (not g) BadTables)) ≡ Refused x
           → Promised p (lend w s m h) c (refused x) (lend w s m h)
-      go false g ef eg y =
+      go false k g ef ek eg y =
           let i : x ≡ BadSetup = cc in
           rw i (record { reply = rw ef; lent = rw ef })
-      go true false ef eg y =
+      go true false g ef ek eg y =
+          let i : x ≡ BadClasses = cc in
+          rw i (record { reply = rw (ef, ek); lent = rw (ef, ek) })
+      go true true false ef ek eg y =
           let i : x ≡ BadTables = cc in
           let v : flat (view w) ≡ w = flat-view (p .blocks) w (fit-parts p w s m h refl ef .words) in
-          rw i (record { reply = rw (ef, eg); lent = rw (ef, eg, v) })
-      go true true ef eg y = clash (sym y)
+          rw i (record { reply = rw (ef, ek, eg); lent = rw (ef, ek, eg, v) })
+      go true true true ef ek eg y = clash (sym y)
 
   pub lent-passed : {y : Reply} {w′ s′ m′ h′ : List ℕ} → r ≡ Passed → length w′ ≡ length w
       → Does p (tablesOf (view w) s m) h c y (tablesOf (view w′) s′ m′) h′ → Promised p (lend w s m h) c y (lend w′ s′ m′ h′)
@@ -149,10 +155,11 @@ module _ (p : Params) (w s m h : List ℕ) (c : Call) {r : Tested} (e : r ≡ le
   lent-passed {y} {w′} {s′} {m′} {h′} z l d =
       let o = opened p w s m h (sym e ∙ z) in
       let f = o .fit in
+      let k = o .classes in
       let g = o .sane in
       record {
-        reply = rw (f, g) (ap (λ (x : Stepped). x .reply) d);
-        lent = rw (f, g) (ap (λ (u : List ℕ). lend u s′ m′ h′) (words-flat (p .blocks) w′ w (view w′) (o .parts .words) l refl)
+        reply = rw (f, k, g) (ap (λ (x : Stepped). x .reply) d);
+        lent = rw (f, k, g) (ap (λ (u : List ℕ). lend u s′ m′ h′) (words-flat (p .blocks) w′ w (view w′) (o .parts .words) l refl)
             ∙ ap (λ (x : Stepped). lend (flat (x .tables .words)) (x .tables .states) (x .tables .marks) (x .heap)) d);
       }
 

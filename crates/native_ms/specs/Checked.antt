@@ -3,10 +3,11 @@
 use Prim.Native.Nat.{ℕ}
 use mathlib.Core.Bool.{not}
 use Rattle.model.specs.declared.Params.{Params}
-use Rattle.model.specs.declared.Refusal.the-variants.{BadSetup, BadTables}
+use Rattle.model.specs.declared.Refusal.the-variants.{BadSetup, BadTables, BadClasses}
 use Rattle.model.specs.declared.Tested.{Tested}
 use Rattle.model.specs.declared.Tested.the-variants.{Passed, Refused}
 use Rattle.model.specs.Params.{Lent, fits}
+use Rattle.model.specs.Classes.{classesFit}
 use Rattle.model.specs.Sound.{sound}
 use Rattle.model.specs.Calls.{refusedIf, andThen, tablesIn}
 use Rattle.native_ms.specs.declared.checks.Checked.{Checked}
@@ -14,7 +15,9 @@ use Rattle.native_ms.specs.declared.checks.Checked.the-variants as Check
 
 -- what every call tests first
 unfoldable pub lentTests : Params → Lent → Tested
-lentTests p l = andThen (refusedIf (not (fits p l)) BadSetup) (refusedIf (not (sound p (tablesIn l))) BadTables)
+lentTests p l =
+    andThen (refusedIf (not (fits p l)) BadSetup)
+    (andThen (refusedIf (not (classesFit p)) BadClasses) (refusedIf (not (sound p (tablesIn l))) BadTables))
 
 -- the bin, once the tests of an alloc are passed
 unfoldable pub binAfter : Tested → ℕ → Checked

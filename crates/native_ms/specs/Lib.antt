@@ -2,6 +2,7 @@ pub mod Raised
 pub mod Block
 pub mod Bits
 pub mod Places
+pub mod Borders
 pub mod Counted
 pub mod Space
 pub mod Moved

@@ -11,6 +11,7 @@ use lib.ListN.{getD}
 use Rattle.model.specs.Params.{goodParams, wordCount, heapBytes, blockAt, biased}
 use Rattle.model.specs.Tables.{Words}
 use Rattle.model.specs.Block.{isCell, cellsDown}
+use Rattle.model.specs.SizeClasses.{cellBytes}
 use Rattle.native_ms.specs.Block.{Linked}
 use Rattle.native_ms.specs.Bits.{anyBit}
 
@@ -50,9 +51,15 @@ pub record Takeable (p : Params) (t : Words) (words heap b : ℕ) : Type 0 where
   pub stands : Standing p words heap b
   pub head : HeadCell p t b
 
+-- a bin that has a cell size
+pub record Classed (p : Params) (bin : ℕ) : Type 0 where
+  pub word : 8 ≤ cellBytes p bin
+  pub most : cellBytes p bin ≤ 65536
+
 -- a block that is offered is one
-pub record Offered (p : Params) (offer : Offer) : Type 0 where
+pub record Offered (p : Params) (bin : ℕ) (offer : Offer) : Type 0 where
   pub block : (b : Block) → offer ≡ Fresh b → b .0 < p .blocks
+  pub class : Classed p bin
 
 -- the block b, with cells of s bytes, can be swept
 pub record Sweepable (p : Params) (words marks heap b s : ℕ) : Type 0 where

@@ -5,6 +5,7 @@ use crate::allocator;
 use crate::allocator::Raised;
 use crate::allocator::Request;
 use crate::block;
+use crate::classes;
 use crate::global;
 use crate::params;
 use crate::size_class;
@@ -57,7 +58,7 @@ pub(crate) fn lent_fits(
     params::lengths_fit(p, words.len(), states.len(), marks.len(), heap.len())
 }
 
-// Parameters and lengths, and that the tables are sound.
+// Parameters and lengths, the rows, and that the tables are sound.
 pub(crate) fn check_lent(
     p: Params,
     words: &[usize],
@@ -69,6 +70,9 @@ pub(crate) fn check_lent(
 {
     if !lent_fits(p, words, states, marks, heap) {
         return Tested::Refused(Refusal::BadSetup);
+    }
+    if !classes::classes_fit(p) {
+        return Tested::Refused(Refusal::BadClasses);
     }
     if !sound::sound(p, words, states) {
         return Tested::Refused(Refusal::BadTables);
@@ -178,7 +182,7 @@ fn check_request(p: Params, st: &[u8], request: Request) -> Checked
             if !good_offer(p, st, offer) {
                 return Checked::Refused(Refusal::BadOffer);
             }
-            Checked::Bin(size_class::mi_bin_from_size(size))
+            Checked::Bin(size_class::bin_of(p, size))
         }
     }
 }

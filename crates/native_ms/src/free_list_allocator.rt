@@ -40,7 +40,7 @@ ghost use Rattle.model.specs.Promise.{lend, Promised};
 ghost use Rattle.native_ms.specs.Abandoned.{nextOf, popAbandoned, TakenOver};
 ghost use Rattle.native_ms.specs.Ending.{ended, closedSearch, acquireGlobal, Freshened, stepped, shown, servedBy, Ready, Shiftable, Does};
 ghost use Rattle.native_ms.specs.Checked.{lentTests};
-ghost use Rattle.native_ms.specs.Places.{Known, Standing, Offered, HasFree, Takeable};
+ghost use Rattle.native_ms.specs.Places.{Known, Standing, Classed, Offered, HasFree, Takeable};
 
 // What a search gives: the start of a block with a free cell, 0 for none, and how many blocks were swept.
 pub(crate) struct Found {
@@ -256,13 +256,13 @@ fn acquire_fresh(
     bin: usize,
     b: Block,
 )
-    requires { ⌜ (Standing p (length (now w)) (length (now h)) (b .0)) × (1 ≤ holder) × (holder ≤ 8) × (bin < 49) ⌝ }
+    requires { ⌜ (Standing p (length (now w)) (length (now h)) (b .0)) × (1 ≤ holder) × (holder ≤ 8) × (bin < 49) × Classed p bin ⌝ }
     ensures { λ _. ⌜ Freshened p holder bin (b .0) (view (now (w .entry))) (now (st .entry)) (now (h .entry)) (view (now (w .exit))) (now (st .exit)) (now (h .exit)) ⌝ }
 {
     let number = b.0;
     let owner = address::local_sets(holder);
     let avail = address::available(owner, bin);
-    let size = size_class::class_bytes(bin);
+    let size = size_class::cell_bytes(p, bin);
     block_list::push(p, w, avail, b);
     block::init_block(p, w, h, b, size, holder);
     states::set_state(st, number, block::UNMARKED);
@@ -278,7 +278,7 @@ pub(crate) fn acquire_global_block(
     wanted: Wanted,
     before: usize,
 ) -> Search
-    requires { ⌜ (Known p (length (now w)) (length (now m)) (length (now h))) × (1 ≤ wanted .holder) × (wanted .holder ≤ 8) × (wanted .bin < 49) × (before ≤ 1024) × Offered p (wanted .offer) ⌝ }
+    requires { ⌜ (Known p (length (now w)) (length (now m)) (length (now h))) × (1 ≤ wanted .holder) × (wanted .holder ≤ 8) × (wanted .bin < 49) × (before ≤ 1024) × Offered p (wanted .bin) (wanted .offer) ⌝ }
     ensures { λ r. ⌜ ended (r .at .0) (r .swept) (r .fresh) (tablesOf (view (now (w .exit))) (now (st .exit)) (now (m .entry))) (now (h .exit)) ≡ closedSearch p before (now (h .entry)) (acquireGlobal p (wanted .holder) (wanted .bin) (wanted .offer) (tablesOf (view (now (w .entry))) (now (st .entry)) (now (m .entry)))) ⌝ }
 {
     let holder = wanted.holder;
@@ -322,7 +322,7 @@ pub(crate) fn find_block(
     h: &mut [u8],
     wanted: Wanted,
 ) -> Search
-    requires { ⌜ (Known p (length (now w)) (length (now m)) (length (now h))) × (1 ≤ wanted .holder) × (wanted .holder ≤ 8) × (wanted .bin < 49) × Offered p (wanted .offer) ⌝ }
+    requires { ⌜ (Known p (length (now w)) (length (now m)) (length (now h))) × (1 ≤ wanted .holder) × (wanted .holder ≤ 8) × (wanted .bin < 49) × Offered p (wanted .bin) (wanted .offer) ⌝ }
     ensures { λ r. ⌜ ended (r .at .0) (r .swept) (r .fresh) (tablesOf (view (now (w .exit))) (now (st .exit)) (now (m .entry))) (now (h .exit)) ≡ closedSearch p 0 (now (h .entry)) (findBlock p (wanted .holder) (wanted .bin) (wanted .offer) (tablesOf (view (now (w .entry))) (now (st .entry)) (now (m .entry)))) ⌝ }
 {
     let bin = wanted.bin;
@@ -361,7 +361,7 @@ fn serve_searched(
     h: &mut [u8],
     wanted: Wanted,
 ) -> AllocAnswer
-    requires { ⌜ (Ready p (view (now w)) (wanted .holder) (wanted .bin) (wanted .align) (wanted .offset)) × (Known p (length (now w)) (length (now m)) (length (now h))) × Offered p (wanted .offer) ⌝ }
+    requires { ⌜ (Ready p (view (now w)) (wanted .holder) (wanted .bin) (wanted .align) (wanted .offset)) × (Known p (length (now w)) (length (now m)) (length (now h))) × Offered p (wanted .bin) (wanted .offer) ⌝ }
     ensures { λ r. ⌜ stepped (allocReply r) (tablesOf (view (now (w .exit))) (now (st .exit)) (now (m .entry))) (now (h .exit)) ≡ servedBy p (wanted .align) (wanted .offset) (now (h .entry)) (findBlock p (wanted .holder) (wanted .bin) (wanted .offer) (tablesOf (view (now (w .entry))) (now (st .entry)) (now (m .entry)))) ⌝ }
 {
     let search = find_block(p, w, st, m, h, wanted);
@@ -447,7 +447,7 @@ fn serve(
     h: &mut [u8],
     wanted: Wanted,
 ) -> AllocAnswer
-    requires { ⌜ (Ready p (view (now w)) (wanted .holder) (wanted .bin) (wanted .align) (wanted .offset)) × (Known p (length (now w)) (length (now m)) (length (now h))) × Offered p (wanted .offer) ⌝ }
+    requires { ⌜ (Ready p (view (now w)) (wanted .holder) (wanted .bin) (wanted .align) (wanted .offset)) × (Known p (length (now w)) (length (now m)) (length (now h))) × Offered p (wanted .bin) (wanted .offer) ⌝ }
     ensures { λ r. ⌜ stepped (allocReply r) (tablesOf (view (now (w .exit))) (now (st .exit)) (now (m .entry))) (now (h .exit)) ≡ servedBy p (wanted .align) (wanted .offset) (now (h .entry)) (findBlock p (wanted .holder) (wanted .bin) (wanted .offer) (tablesOf (view (now (w .entry))) (now (st .entry)) (now (m .entry)))) ⌝ }
 {
     let owner = address::local_sets(wanted.holder);

@@ -12,6 +12,7 @@ use crate::address;
 use crate::block;
 use crate::block_list;
 use crate::checks;
+use crate::classes;
 use crate::memory;
 use model::ABANDONED;
 use model::Address;
@@ -130,6 +131,9 @@ pub fn set_up(
 {
     if !checks::lent_fits(p, words, states, marks, heap) {
         return Answer::Refused(Refusal::BadSetup);
+    }
+    if !classes::classes_fit(p) {
+        return Answer::Refused(Refusal::BadClasses);
     }
     clear_words(words);
     marks::clear_all(states);

@@ -7,6 +7,7 @@ pub mod allocator;
 mod block;
 pub mod block_list;
 mod checks;
+pub mod classes;
 pub mod free_chain;
 pub mod free_list_allocator;
 pub mod global;

@@ -2,11 +2,12 @@
 use model::BLOCK_TABLES;
 use model::HEAD_WORDS;
 use model::Params;
+use model::ROWS;
 ghost use mathlib.Core.Path.{_≡_};
 ghost use mathlib.Core.Bool.{true, not, _&&_, _||_};
 ghost use Prim.Native.Nat.{_+_, _*_, _/_, _%_, _^_, _<_, _≤_};
 ghost use lib.Dec.{eqb, ltb, leb};
-ghost use Rattle.model.specs.Params.{powerOfTwo, lowerOk, goodParams, wordCount, heapBytes};
+ghost use Rattle.model.specs.Params.{powerOfTwo, lowerOk, maxRows, goodParams, wordCount, heapBytes};
 ghost use lib.IntN.{natAbs};
 
 // A power of two up to 65,536.
@@ -89,7 +90,9 @@ fn good_base(base: usize, bytes: usize, blocks: usize) -> bool
     base <= 140737488355328 - blocks * bytes
 }
 
-pub(crate) fn good_params(p: Params) -> bool
+// The parameters, with few enough rows.
+fn good_values(p: Params) -> bool
+    requires { ⌜ p .count ≤ maxRows ⌝ }
     ensures { λ r. ⌜ r ≡ goodParams p ⌝ }
 {
     let min = p.min;
@@ -115,6 +118,15 @@ pub(crate) fn good_params(p: Params) -> bool
         return false;
     }
     good_base(base, bytes, blocks)
+}
+
+pub(crate) fn good_params(p: Params) -> bool
+    ensures { λ r. ⌜ r ≡ goodParams p ⌝ }
+{
+    if ROWS < p.count {
+        return false;
+    }
+    good_values(p)
 }
 
 // Whether lent buffers have the lengths that good parameters give.

@@ -6,12 +6,14 @@ pub(crate) mod known;
 pub(crate) mod lists;
 mod parts;
 
-use model::CLASS_WORDS;
+use crate::classes;
 use model::Params;
 ghost use mathlib.Core.Path.{_≡_};
+ghost use mathlib.Core.Bool.{true};
 ghost use mathlib.Core.List.{List};
 ghost use Prim.Native.Nat.{ℕ};
 ghost use Rattle.model.specs.Tables.{view, tablesOf};
+ghost use Rattle.model.specs.Classes.{classesFit};
 ghost use Rattle.model.specs.Sound.{sound};
 ghost use Rattle.native_ms.specs.SoundLent.{Lengths};
 
@@ -23,7 +25,7 @@ pub(crate) enum Walked {
 }
 
 pub(crate) fn sound(p: Params, words: &[usize], states: &[u8]) -> bool
-    requires { ⌜ Lengths p (now words) (now states) ⌝ }
+    requires { ⌜ (Lengths p (now words) (now states)) × (classesFit p ≡ true) ⌝ }
     ensures { λ r. ⌜ ((m : List ℕ) → r ≡ sound p (tablesOf (view (now (words .entry))) (now (states .entry)) m)) ⌝ }
 {
     if !parts::phase_known(words) {
@@ -42,7 +44,7 @@ pub(crate) fn sound(p: Params, words: &[usize], states: &[u8]) -> bool
     if !parts::in_gc_empty(words, &firsts) {
         return false;
     }
-    let classes = CLASS_WORDS;
+    let classes = classes::class_sizes(p);
     let Walked::Left(unused) = blocks::unused(p, words, states, &classes) else {
         return false;
     };

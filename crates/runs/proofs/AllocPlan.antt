@@ -25,8 +25,9 @@ use Rattle.model.specs.Calls.{alloc, goodOffer, takePlan}
 use Rattle.model.specs.Sound.{stateOf, sound, sizeOk, binNamed, listNamed}
 use Rattle.model.specs.Runs.{Book, bookEvent, bookEvents, bookAnswer, takerOf, entered, frees, hits}
 use Rattle.laws.proofs.Base.{and-left, and-right, not-both}
+use Rattle.laws.proofs.Below.{and-three}
 use Rattle.laws.proofs.Params.{Bounds, some-start, blockAt-start}
-use Rattle.laws.proofs.Classes.{cellBytes-least, cellBytes-words}
+use Rattle.laws.proofs.Classes.{cellBytes-some, cellBytes-words}
 use Rattle.laws.proofs.Tables.{sized-same, kept-lengths, lengths}
 use Rattle.laws.proofs.Memory as Mem
 use Rattle.laws.proofs.Cells.{chainStands}
@@ -41,7 +42,7 @@ use Rattle.runs.proofs.Plans.{refusal-some, bookFor, Inv, EndOk, Planne
 
 module _ (p : Params) (B : Bounds p) (t : Tables) (h : List ℕ) (sh : List (List ℕ)) (bk : Book) (I : Inv p B t h sh bk)
     (good : sound p t ≡ true) (running : t .words .phase ≡ 0) (hd : ℕ) (lo : 1 ≤ hd) (hi : hd ≤ 8)
-    (bin : ℕ) (some : 1 ≤ bin) (low : bin < 49) (room : cellBytes p bin ≤ p .bytes) where
+    (bin : ℕ) (some : 1 ≤ bin) (low : bin < 49) (word : 8 ≤ cellBytes p bin) (room : cellBytes p bin ≤ p .bytes) where
   own : localSets hd ≡ 3 * (hd - 1)
   unfolding localSets
   own = refl
@@ -50,9 +51,11 @@ module _ (p : Params) (B : Bounds p) (t : Tables) (h : List ℕ) (sh : List (Lis
   class-of : (b : ℕ) → Occupied p (t .states) b → (8 ≤ getD (t .words .size) b 0) × (getD (t .words .size) b 0 ≡ cellBytes p (wordBin (getD (t .words .list) b 0)))
   unfolding sizeOk binNamed listNamed wordBin stateOf
   class-of b ob =
-      let q = block-parts p t b (sound-parts p t good .blocks b (ob .0)) (ob .1) .size in
-      let e : getD (t .words .size) b 0 ≡ cellBytes p ((getD (t .words .list) b 0 - 1) % 49) = eqb-true _ _ (and-right (leb 1 ((getD (t .words .list) b 0 - 1) % 49)) _ q) in
-      (omega (arith, e, cellBytes-least p {bin = (getD (t .words .list) b 0 - 1) % 49} (omega arith)), e)
+      let s : ℕ = getD (t .words .size) b 0 in
+      let n : ℕ = (getD (t .words .list) b 0 - 1) % 49 in
+      let q = and-three (leb 1 n) (ltb 0 s) (eqb s (cellBytes p n)) (block-parts p t b (sound-parts p t good .blocks b (ob .0)) (ob .1) .size) in
+      let e : s ≡ cellBytes p n = eqb-true _ _ (q .2) in
+      (rw e (cellBytes-some p n (rw e at (ltb-true 0 s (q .1)))), e)
 
   starting : Searching p B (t .states) (t .marks) hd (t .words) h sh bk
   starting =
@@ -128,7 +131,7 @@ module _ (p : Params) (B : Bounds p) (t : Tables) (h : List ℕ) (sh : List (Lis
   -- a class that fits has a cell
   init-some : (b : ℕ) → (x : ℕ) × (r : List ℕ) × (initChain p b (cellBytes p bin) ≡ x ∷ r)
   unfolding initChain cellCount cellsDown
-  init-some b = go (p .bytes / cellBytes p bin) (le-div-iff-mul-le {k = cellBytes p bin} {x = 1} {y = p .bytes} (omega (arith, cellBytes-least p {bin = bin} low)) .1 (omega arith))
+  init-some b = go (p .bytes / cellBytes p bin) (le-div-iff-mul-le {k = cellBytes p bin} {x = 1} {y = p .bytes} (omega (arith, word)) .1 (omega arith))
     where
       go : (n : ℕ) → 1 ≤ n → (x : ℕ) × (r : List ℕ) × (cellsDown (λ a. false) (start p b) (cellBytes p bin) n ≡ x ∷ r)
       go zero le = absurd (omega arith)
@@ -172,7 +175,7 @@ module _ (p : Params) (B : Bounds p) (t : Tables) (h : List ℕ) (sh : List (Lis
           lost = λ c m. (refl, λ s. absurd (not-both true refl (sym s)));
           bytes = λ c m out. same-bytes p B hd (f .words .size) (t .states) heap (linkAll p chain heap) c (S .core .held c m)
               (init-bytes p B (f .words .free) (f .words .size) (t .states) (t .marks) heap shadow book (S .core) b lb chain none cell
-              (cellBytes-least p {bin = bin} low) (cellBytes-words p {bin = bin} low) refl hd c m);
+              word (cellBytes-words p bin) refl hd c m);
         }
 
     init-inv : Inv p B tables (linkAll p chain heap) (set shadow b chain) (bookEvent p hd (initialised b chain) book)
@@ -181,7 +184,7 @@ module _ (p : Params) (B : Bounds p) (t : Tables) (h : List ℕ) (sh : List (Lis
         record {
           core = rw (links .free, links .size)
               (init-core p B (f .words .free) (f .words .size) (t .states) (t .marks) heap shadow book (S .core) b lb chain none cell
-              (cellBytes-least p {bin = bin} low) (cellBytes-words p {bin = bin} low) refl hd);
+              word (cellBytes-words p bin) refl hd);
           sized = sized-same (simp kept-lengths (links .lengths)) (S .lengths);
           young = λ c m o. (
             links .phase ∙ S .phase,

@@ -14,6 +14,7 @@ use Rattle.model.specs.declared.Tested.the-variants.{Passed}
 use Rattle.model.specs.Params.{goodParams}
 use Rattle.model.specs.Tables.{Words, Tables}
 use Rattle.model.specs.SizeClasses.{binOf, raised, alignAllocation}
+use Rattle.model.specs.Classes.{classesFit}
 use Rattle.model.specs.Events.{Event, eventsHeap}
 use Rattle.model.specs.FreeListAllocator.{findBlock}
 use Rattle.model.specs.Global.{isHolder, isBound}
@@ -23,7 +24,7 @@ use Rattle.model.specs.Runs.{Book, bookEvents, takerOf}
 use Rattle.laws.proofs.Base.{and-left, and-right, if-cases}
 use Rattle.laws.proofs.Params.{Bounds, good-bounds}
 use Rattle.laws.proofs.Good.{Good, good}
-use Rattle.laws.proofs.Classes.{Chosen, chosen, cell-in-block, request, fits-raised, object-in-cell}
+use Rattle.laws.proofs.Classes.{Chosen, chosen, request, fits-raised, object-in-cell}
 use Rattle.laws.proofs.Tests.{Asked, leave-passed, alloc-passed, mark-passed, release-passed, shared-passed, plan-cases}
 use Rattle.runs.proofs.Steps.{shadowEvents, EventsOk}
 use Rattle.runs.proofs.Plans.{bookFor, Serves, Inv, Taking, EndOk, Planned, refuses-planned, bind-planned, destroy-planned, prepare-planned, mark-planned, release-planned, shared-planned}
@@ -48,7 +49,7 @@ module _ (p : Params) (fine : goodParams p ≡ true) where
   pub B : Bounds p
   B = good-bounds p fine
 
-  module _ (t : Tables) (h : List ℕ) (sh : List (List ℕ)) (bk : Book) (I : Inv p B t h sh bk) where
+  module _ (rows : classesFit p ≡ true) (t : Tables) (h : List ℕ) (sh : List (List ℕ)) (bk : Book) (I : Inv p B t h sh bk) where
     planned-alloc : (d size align offset : ℕ) (offer : Offer) → sound p t ≡ true → Asked p t d size align offset offer
         → Planned p B t h sh bk (alloc d size align offset offer) (takePlan p align offset (findBlock p d (binOf p (raised p size align)) offer t))
     planned-alloc d size align offset offer s a =
@@ -56,9 +57,9 @@ module _ (p : Params) (fine : goodParams p ≡ true) where
         let r = bound-range (t .words) d (a .bound) in
         let q = request p size align offset (a .good) in
         let f = fits-raised p size align (a .small) in
-        let k : Chosen p (raised p size align) = chosen p (raised p size align) (omega (arith, f, g .bytes-to)) in
+        let k : Chosen p (raised p size align) = chosen p B rows (raised p size align) f in
         alloc-planned p B t h sh bk I s (a .running) d (r .0) (r .1) (binOf p (raised p size align)) (k .from) (omega (arith, k .to))
-        (cell-in-block p g (raised p size align) f) size align offset offer (a .offered) (object-in-cell p g q (a .small))
+        (k .word) (k .room) size align offset offer (a .offered) (object-in-cell p g q rows (a .small))
 
     planned-passed : (c : Call) → sound p t ≡ true → callTests p t c ≡ Passed → Planned p B t h sh bk c (planPassed p t c)
     unfolding callTests planPassed

@@ -13,6 +13,7 @@ use Rattle.model.specs.Base.{In, Pairwise, member}
 use Rattle.model.specs.Params.{goodParams, Lent, fits, wordCount, heapBytes, blockAt, unswept}
 use Rattle.model.specs.Memory.{marked, cleared}
 use Rattle.model.specs.Tables.{blocksIn, Tables, view, flat}
+use Rattle.model.specs.Classes.{classesFit}
 use Rattle.model.specs.Events.{sweeps, releases}
 use Rattle.model.specs.Global.{freshWords, freshTables}
 use Rattle.model.specs.Calls.{Call, Step, step, Result, lentOf, resultFrom, setUp, pages}
@@ -22,7 +23,7 @@ use Rattle.laws.proofs.Tables.{part-zeros, Sized, sized-view}
 use Rattle.laws.proofs.Memory as Mem
 use Rattle.laws.proofs.Marks.{marked-cleared}
 use Rattle.laws.proofs.Cells.{Whole, whole-from, whole-apart, whole-blockAt, stands-frame, chainStands}
-use Rattle.laws.proofs.Lent.{fits-parts, answered-fits, set-up-is, lent-tables, call-is}
+use Rattle.laws.proofs.Lent.{fits-parts, answered-fits, answered-classes, set-up-is, lent-tables, call-is}
 use Rattle.runs.proofs.Inv.{Held, Core}
 use Rattle.runs.proofs.Plans.{Inv}
 use Rattle.runs.proofs.Finish.{ShadowStep, StepOk, held-apart}
@@ -31,7 +32,7 @@ use Rattle.runs.proofs.Counts.{counts}
 
 -- ---- what holders write
 
-module _ (p : Params) (fine : goodParams p ≡ true) where
+module _ (p : Params) (fine : goodParams p ≡ true) (rows : classesFit p ≡ true) where
   abbrev bounds : Bounds p
   bounds = B p fine
 
@@ -141,7 +142,7 @@ module _ (p : Params) (fine : goodParams p ≡ true) where
     s = step p t g (u .call)
 
     S : StepOk p bounds g bk (u .call) (step p t g (u .call)) (shadowStep p t sh (u .call))
-    S = step-ok p fine t g sh bk J (u .call)
+    S = step-ok p fine rows t g sh bk J (u .call)
 
     step-of : stepOf p (stateOf t h bk) u ≡ step p t g (u .call)
     unfolding stepOf foundBy
@@ -149,7 +150,7 @@ module _ (p : Params) (fine : goodParams p ≡ true) where
 
     result-of : resultOf p (stateOf t h bk) u ≡ resultFrom (step p t g (u .call))
     unfolding resultOf foundBy
-    result-of = call-is p t g fine (J .sized) (J .core .states) (J .core .markings) (J .core .heap) (u .call)
+    result-of = call-is p t g fine rows (J .sized) (J .core .states) (J .core .markings) (J .core .heap) (u .call)
 
     turn-of : turned p (stateOf t h bk) u
         ≡ stateOf (step p t g (u .call) .tables) (step p t g (u .call) .heap) (bookAfter p (u .call) (step p t g (u .call)) bk)
@@ -279,26 +280,29 @@ demand3 p l l′ us us′ e e′ H H′ same = (
     fine : goodParams p ≡ true
     fine = fits-parts p l fit .0
 
-    start-is : (l : Lent) → fits p l ≡ true → begun p l ≡ stateOf p fine (freshTables p) (l .heap) emptyBook
-    start-is l f = ap (λ (x : Result). record { lent = x .lent; book = emptyBook }) (set-up-is p l f)
+    rows : classesFit p ≡ true
+    rows = answered-classes p l e
 
-    inv : (l : Lent) → fits p l ≡ true → Inv p (bounds p fine) (freshTables p) (l .heap) (replicate (p .blocks) []) emptyBook
-    inv l f = fresh-inv p fine (l .heap) (fits-parts p l f .1)
+    start-is : (l : Lent) → fits p l ≡ true → begun p l ≡ stateOf p fine rows (freshTables p) (l .heap) emptyBook
+    start-is l f = ap (λ (x : Result). record { lent = x .lent; book = emptyBook }) (set-up-is p l f rows)
 
-    held : (l : Lent) → fits p l ≡ true → (us : List Turn) → HoldersWrite p (begun p l) us → HoldersWrite p (stateOf p fine (freshTables p) (l .heap) emptyBook) us
+    inv : (l : Lent) → fits p l ≡ true → Inv p (bounds p fine rows) (freshTables p) (l .heap) (replicate (p .blocks) []) emptyBook
+    inv l f = fresh-inv p fine rows (l .heap) (fits-parts p l f .1)
+
+    held : (l : Lent) → fits p l ≡ true → (us : List Turn) → HoldersWrite p (begun p l) us → HoldersWrite p (stateOf p fine rows (freshTables p) (l .heap) emptyBook) us
     held l f us H = subst (λ (x : State). HoldersWrite p x us) (start-is l f) H
 
     run-is : (l : Lent) (f : fits p l ≡ true) (us : List Turn) → HoldersWrite p (begun p l) us
-        → seenIn p (begun p l) us ≡ shadowSeenIn p fine (freshTables p) (replicate (p .blocks) []) (map (λ (u : Turn). u .call) us)
-    run-is l f us H = ap (λ (x : State). seenIn p x us) (start-is l f) ∙ follows p fine us (freshTables p) (l .heap) (replicate (p .blocks) []) emptyBook (inv l f) (held l f us H)
+        → seenIn p (begun p l) us ≡ shadowSeenIn p fine rows (freshTables p) (replicate (p .blocks) []) (map (λ (u : Turn). u .call) us)
+    run-is l f us H = ap (λ (x : State). seenIn p x us) (start-is l f) ∙ follows p fine rows us (freshTables p) (l .heap) (replicate (p .blocks) []) emptyBook (inv l f) (held l f us H)
 
     run-keeps : (l : Lent) → fits p l ≡ true → (us : List Turn) → HoldersWrite p (begun p l) us → RunKeeps p (begun p l) us
     run-keeps l f us H =
         subst (λ (x : State). RunKeeps p x us) (sym (start-is l f))
-        (keeps p fine us (freshTables p) (l .heap) (replicate (p .blocks) []) emptyBook (inv l f) (held l f us H))
+        (keeps p fine rows us (freshTables p) (l .heap) (replicate (p .blocks) []) emptyBook (inv l f) (held l f us H))
 
     calls-same : seenIn p (begun p l) us ≡ seenIn p (begun p l′) us′
-    calls-same = run-is l fit us H ∙ ap (shadowSeenIn p fine (freshTables p) (replicate (p .blocks) [])) same ∙ sym (run-is l′ fit′ us′ H′)
+    calls-same = run-is l fit us H ∙ ap (shadowSeenIn p fine rows (freshTables p) (replicate (p .blocks) [])) same ∙ sym (run-is l′ fit′ us′ H′)
 
     seen-same : seen (setUp p l) [] ≡ seen (setUp p l′) []
-    seen-same = ap (λ (x : Result). seen x []) (set-up-is p l fit) ∙ sym (ap (λ (x : Result). seen x []) (set-up-is p l′ fit′))
+    seen-same = ap (λ (x : Result). seen x []) (set-up-is p l fit rows) ∙ sym (ap (λ (x : Result). seen x []) (set-up-is p l′ fit′ rows))

@@ -9,7 +9,8 @@ use Rattle.model.specs.Base.{allBelow, anyBelow, member, filter, sumBelow, each
 use Rattle.model.specs.Params.{powerOfTwo, lowerOk, biased, plusLower, minusLower, heapBytes, heapEnd, goodParams, wordCount, fits, start, blockAt, inHeap, isStart, listOf, listWord, localSets, available, unswept, consumed}
 use Rattle.model.specs.Memory.{loadBytes, bytesOf, overwrite, load, store, zeroed, bitOf, setBit, markIndex, marked, setMark, cleared}
 use Rattle.model.specs.Tables.{view, flat, setFirst, setLast, setBound, setReleased, setNext, setPrev, setFree, setSize, setList, setTls, setPhase, withReleased}
-use Rattle.model.specs.SizeClasses.{fours, classWords, cellBytes, wordsIn, highestBit, binInOctave, binOf, raised, shift, alignAllocation}
+use Rattle.model.specs.SizeClasses.{fours, classWords, classBytes, wordsIn, highestBit, binInOctave, miBin, binOf, cellBytes, raised, shift, alignAllocation}
+use Rattle.model.specs.Classes.{classesFit}
 use Rattle.model.specs.BlockList.{push, popHead, pop, removeBetween, remove, relabel, link, append, walk, blocksOn, appended}
 use Rattle.model.specs.Block.{cellCount, isCell, cellsDown, linkAll, initChain, initBlock, simple, keeps, sweepChain, sweptWords, clearBlock, chainFrom, freeChain}
 use Rattle.model.specs.Events.{eventHeap, eventsHeap, isSweep, isRelease, sweeps, releases}
@@ -22,7 +23,7 @@ use Rattle.model.specs.Cases.{same, collectedTrace, collectedListing, markingTr
 
 -- who opens `machine` opens all that its line names
 machine : Params
-unfolding same leadingZeros allBelow anyBelow member filter sumBelow eachBelow flag powerOfTwo lowerOk biased plusLower minusLower heapBytes heapEnd goodParams wordCount fits start blockAt inHeap isStart listOf listWord localSets available unswept consumed loadBytes bytesOf overwrite load store zeroed bitOf setBit markIndex marked setMark cleared view flat setFirst setLast setBound setReleased setNext setPrev setFree setSize setList setTls setPhase withReleased fours classWords cellBytes wordsIn highestBit binInOctave binOf raised shift alignAllocation push popHead pop headD removeBetween remove relabel link append walk blocksOn cellCount isCell cellsDown linkAll initChain initBlock simple keeps sweepChain sweptWords clearBlock chainFrom freeChain eventHeap eventsHeap isSweep isRelease sweeps releases findFreeBlockWith recycleLocalBlocks acquireAbandoned acquireFresh findBlock freshWords freshTables isHolder isBound bindHolder abandonBin abandonBlocks destroyHolder unmarkedState prepared markPlace releaseFrom releaseBlocks appendTo releaseBin releaseHolder sweepLaterBin sweepLater hasReleased allReleased partReleased stateOf stateKnown blockClear listNamed binNamed setNamed onListNamed sizeOk linkOk tlsOk blockSound linkedFrom linked ownerEmpty unboundEmpty inGcEmpty phaseKnown flagsKnown releasedFew releasedSome releasedEmpty sound refusalNumber goodRequest tooBig goodOffer goodObject takePlan mayRelease releasePlan andThen phaseTest bindTests boundTests requestTests markTests releaseTests sharedTests callTests planPassed ifPassed planSound plan takeCell finish step call setUp before pieces dropBlankEnd linesOf isDigit valueOf isNumber isWord numbersTo isLine arg isAlloc offerOf lineOf censusParams censusLent lineResult runLines digits decimal spaced section refusedRow upTo occupied letter blockRow awaitsSweep printedChain freeRows freeSection flatten flatMap listing census appended abandonedBin abandonedBelow abandonedBlocks merged mayLeave leaveTests
+unfolding same leadingZeros allBelow anyBelow member filter sumBelow eachBelow flag powerOfTwo lowerOk biased plusLower minusLower heapBytes heapEnd goodParams wordCount fits start blockAt inHeap isStart listOf listWord localSets available unswept consumed loadBytes bytesOf overwrite load store zeroed bitOf setBit markIndex marked setMark cleared view flat setFirst setLast setBound setReleased setNext setPrev setFree setSize setList setTls setPhase withReleased fours classWords classBytes wordsIn highestBit binInOctave miBin binOf cellBytes classesFit raised shift alignAllocation push popHead pop headD removeBetween remove relabel link append walk blocksOn cellCount isCell cellsDown linkAll initChain initBlock simple keeps sweepChain sweptWords clearBlock chainFrom freeChain eventHeap eventsHeap isSweep isRelease sweeps releases findFreeBlockWith recycleLocalBlocks acquireAbandoned acquireFresh findBlock freshWords freshTables isHolder isBound bindHolder abandonBin abandonBlocks destroyHolder unmarkedState prepared markPlace releaseFrom releaseBlocks appendTo releaseBin releaseHolder sweepLaterBin sweepLater hasReleased allReleased partReleased stateOf stateKnown blockClear listNamed binNamed setNamed onListNamed sizeOk linkOk tlsOk blockSound linkedFrom linked ownerEmpty unboundEmpty inGcEmpty phaseKnown flagsKnown releasedFew releasedSome releasedEmpty sound refusalNumber goodRequest tooBig goodOffer goodObject takePlan mayRelease releasePlan andThen phaseTest bindTests boundTests requestTests markTests releaseTests sharedTests callTests planPassed ifPassed planSound plan takeCell finish step call setUp before pieces dropBlankEnd linesOf isDigit valueOf isNumber isWord numbersTo isLine arg isAlloc offerOf lineOf censusParams censusLent lineResult runLines digits decimal spaced section refusedRow upTo occupied letter blockRow awaitsSweep printedChain freeRows freeSection flatten flatMap listing census appended abandonedBin abandonedBelow abandonedBlocks merged mayLeave leaveTests
 machine = censusParams
 
 pub collected-holds : same (census collectedTrace) collectedListing ≡ true

@@ -12,7 +12,7 @@ use lib.Seq.{getD-set-same, getD-set-other}
 use borrow.Author.Tests.{eqb-true, eqb-false, eq-eqb, ne-eqb, not-true, ltb-true, leb-true}
 use Rattle.model.specs.declared.Params.{Params}
 use Rattle.model.specs.declared.Refusal.{Refusal}
-use Rattle.model.specs.declared.Refusal.the-variants.{BadSetup, BadTables, WrongPhase, BadHolder, BadRequest, TooBig, BadOffer, BadLink, Exhausted, BadObject, BadLine}
+use Rattle.model.specs.declared.Refusal.the-variants.{BadSetup, BadTables, WrongPhase, BadHolder, BadRequest, TooBig, BadOffer, BadLink, Exhausted, BadObject, BadLine, BadClasses}
 use Rattle.model.specs.Base.{if_then_else_, In, Pairwise, member, eachBelow, flag}
 use Rattle.model.specs.Params.{start, blockAt, inHeap, minusLower, listWord, localSets, abandoned, inGc, available, unswept, consumed, bins}
 use Rattle.model.specs.Memory.{marked}
@@ -51,6 +51,7 @@ refusal-some BadLink = refl
 refusal-some Exhausted = refl
 refusal-some BadObject = refl
 refusal-some BadLine = refl
+refusal-some BadClasses = refl
 
 -- ---- cells made old
 

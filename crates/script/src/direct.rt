@@ -5,6 +5,7 @@ use crate::numbers;
 use crate::records;
 use crate::reply;
 use crate::reply::Reply;
+use crate::rows;
 use model::Address;
 use model::AllocAnswer;
 use model::BINS;
@@ -74,7 +75,7 @@ fn mark(
     }
 }
 
-// `u set`: the 49 records of the set are those of its lists.
+// `u set`: the 49 records of the set are those of its lists. It is given no rows.
 fn pages(p: Params, w: &[usize], set: usize) -> Reply {
     if SETS <= set {
         return Reply::Bad;
@@ -82,7 +83,7 @@ fn pages(p: Params, w: &[usize], set: usize) -> Reply {
     if w.len() < BINS * set + BINS {
         return Reply::Bad;
     }
-    match records::pages(p, w, set) {
+    match records::pages(rows::without(p), w, set) {
         PagesAnswer::Refused(r) => Reply::Refused(r),
         PagesAnswer::Pages(n) => Reply::One(n),
     }
@@ -128,7 +129,7 @@ fn plain(
     v: &[usize; numbers::MOST_WORDS],
 ) -> Reply {
     match letter {
-        b'n' => leaves::bin(v[0]),
+        b'n' => leaves::bin(p, v[0]),
         b't' => leaves::bin_of_words(v[0]),
         b'q' => leaves::raised(p, v[0], v[1]),
         b'g' => leaves::aligned(p, v[0], v[1], v[2]),

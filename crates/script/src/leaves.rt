@@ -1,15 +1,20 @@
 // The leaves: bins, raised sizes and shifted addresses.
 use crate::reply::Reply;
+use crate::rows;
 use model::Address;
 use model::Params;
+use model::ROWS;
 use native_ms::allocator;
 use native_ms::allocator::Raised;
 use native_ms::allocator::Shifted;
 use native_ms::size_class;
 
 // `n size`.
-pub(crate) fn bin(size: usize) -> Reply {
-    let b = size_class::mi_bin_from_size(size);
+pub(crate) fn bin(p: Params, size: usize) -> Reply {
+    if !rows::accepted(p) {
+        return Reply::Bad;
+    }
+    let b = size_class::bin_of(p, size);
     if b == 0 {
         return Reply::Nothing;
     }
@@ -59,8 +64,12 @@ fn good_request(p: Params, size: usize, align: usize, offset: usize) -> bool {
     power(align)
 }
 
-// The same parameters with the largest block, since bins don't depend on it.
+// Without rows the same parameters with the largest block, since 01's bins don't depend on it.
 fn largest(p: Params) -> Params {
+    if p.count != 0 {
+        return p;
+    }
+    let rows = p.rows;
     Params {
         base: p.base,
         bytes: 65536,
@@ -70,19 +79,43 @@ fn largest(p: Params) -> Params {
         offsets: p.offsets,
         unified: p.unified,
         lower: p.lower,
+        rows: rows,
+        count: 0,
     }
+}
+
+// The cell size of a bin, in bytes. Accepted rows have cells of at most a block.
+fn cell_size(p: Params, bin: usize) -> usize {
+    if p.count == 0 {
+        return size_class::class_bytes(bin);
+    }
+    if bin == 0 {
+        return 0;
+    }
+    if ROWS < bin {
+        return 0;
+    }
+    let rows = p.rows;
+    let row = rows[bin - 1];
+    if 8192 < row.cell {
+        return 0;
+    }
+    8 * row.cell
 }
 
 // `q size align`.
 pub(crate) fn raised(p: Params, size: usize, align: usize) -> Reply {
+    if !rows::accepted(p) {
+        return Reply::Bad;
+    }
     if !good_request(p, size, align, 0) {
         return Reply::Bad;
     }
     match allocator::get_maximum_aligned_size(largest(p), size, align) {
         Raised::TooBig => Reply::Nothing,
         Raised::Fits(n) => {
-            let b = size_class::mi_bin_from_size(n);
-            Reply::Three(n, b, size_class::class_bytes(b))
+            let b = size_class::bin_of(p, n);
+            Reply::Three(n, b, cell_size(p, b))
         }
     }
 }

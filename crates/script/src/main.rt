@@ -10,17 +10,18 @@ mod numbers;
 mod out;
 mod records;
 mod reply;
+mod rows;
 mod setup;
 mod through;
 
 use lines::Cursor;
 use lines::Line;
 use model::Params;
+use native_ms::classes;
 use reply::Reply;
-use setup::Asked;
 
-// Whether a set-up stands, its parameters, and how much of the heap is lent; and the answer slice of calls through the exports,
-// `DIRECT` where calls aren't made through them.
+// Whether a set-up stands, its parameters with the rows in force, and how much of the heap is lent; and the answer slice of calls
+// through the exports, `DIRECT` where calls aren't made through them.
 struct Space {
     stands: bool,
     via: usize,
@@ -61,14 +62,17 @@ fn no_params() -> Params {
         offsets: false,
         unified: false,
         lower: 0,
+        rows: classes::no_rows(),
+        count: 0,
     }
 }
 
-fn no_space(via: usize) -> Space {
+// No set-up stands; the parameters hold the rows in force.
+fn no_space(via: usize, p: Params) -> Space {
     Space {
         stands: false,
         via: via,
-        p: no_params(),
+        p: p,
         heap: 0,
     }
 }
@@ -217,7 +221,7 @@ fn lend(
     let m = setup::least(bytes / 64, marks.len());
     let h = setup::least(bytes, heap.len());
     if h < bytes {
-        return setup::beyond(p, via, &w[..k]);
+        return setup::beyond(p, via);
     }
     setup::lent(
         p,
@@ -231,6 +235,7 @@ fn lend(
 }
 
 fn set_up(
+    now: Params,
     via: usize,
     line: &[u8; lines::LINE_BYTES],
     len: usize,
@@ -246,27 +251,27 @@ fn set_up(
     if f.count != 9 {
         return Heard {
             told: tell(Reply::Bad, o, n),
-            space: no_space(via),
+            space: no_space(via, now),
         };
     }
-    match setup::given(&v, f.form) {
-        Asked::Bad => Heard {
+    let asked = setup::given(now, &v, f.form);
+    if !asked.ok {
+        return Heard {
             told: tell(Reply::Bad, o, n),
-            space: no_space(via),
+            space: no_space(via, now),
+        };
+    }
+    let p = asked.params;
+    let bytes = setup::heap_bytes(p.blocks, v[1]);
+    let r = lend(p, via, bytes, v[8], w, st, marks, heap);
+    Heard {
+        told: tell(r, o, n),
+        space: Space {
+            stands: is_done(r),
+            via: via,
+            p: p,
+            heap: bytes,
         },
-        Asked::Params(p) => {
-            let bytes = setup::heap_bytes(p.blocks, v[1]);
-            let r = lend(p, via, bytes, v[8], w, st, marks, heap);
-            Heard {
-                told: tell(r, o, n),
-                space: Space {
-                    stands: is_done(r),
-                    via: via,
-                    p: p,
-                    heap: bytes,
-                },
-            }
-        }
     }
 }
 
@@ -328,6 +333,61 @@ fn choose(
     }
 }
 
+// `k from to cell ..`: the rows that later calls are given, set-up too.
+fn give_rows(
+    s: Space,
+    line: &[u8; lines::LINE_BYTES],
+    len: usize,
+    o: &mut [u8; out::OUT],
+    n: usize,
+) -> Heard {
+    let mut v = [0usize; numbers::MOST_NUMBERS];
+    let count = numbers::rows(line, 1, len, &mut v);
+    if count % 3 != 0 {
+        return Heard {
+            told: tell(Reply::Bad, o, n),
+            space: s,
+        };
+    }
+    if numbers::MOST_NUMBERS < count {
+        return Heard {
+            told: tell(Reply::Bad, o, n),
+            space: s,
+        };
+    }
+    Heard {
+        told: tell(Reply::Done, o, n),
+        space: Space {
+            stands: s.stands,
+            via: s.via,
+            p: rows::given(s.p, &v, count / 3),
+            heap: s.heap,
+        },
+    }
+}
+
+// `c log`: the check of the rows.
+fn check_rows(
+    s: Space,
+    line: &[u8; lines::LINE_BYTES],
+    len: usize,
+    o: &mut [u8; out::OUT],
+    n: usize,
+) -> Heard {
+    let mut v = [0usize; numbers::MOST_WORDS];
+    let f = numbers::words(line, 1, len, numbers::OFF, &mut v);
+    if f.count != 1 {
+        return Heard {
+            told: tell(Reply::Bad, o, n),
+            space: s,
+        };
+    }
+    Heard {
+        told: tell(rows::check(s.p, v[0]), o, n),
+        space: s,
+    }
+}
+
 fn hear(
     s: Space,
     line: &[u8; lines::LINE_BYTES],
@@ -348,11 +408,18 @@ fn hear(
             space: s,
         };
     }
-    if lines::byte(line, 0) == b'x' {
+    let letter = lines::byte(line, 0);
+    if letter == b'x' {
         return choose(s, line, len, o, n);
     }
+    if letter == b'k' {
+        return give_rows(s, line, len, o, n);
+    }
+    if letter == b'c' {
+        return check_rows(s, line, len, o, n);
+    }
     if setup::is_setup(line, len) {
-        return set_up(s.via, line, len, o, n, w, st, marks, heap);
+        return set_up(s.p, s.via, line, len, o, n, w, st, marks, heap);
     }
     if !s.stands {
         return Heard {
@@ -423,7 +490,7 @@ fn drive(
         on: true,
         written: 0,
         next: Cursor { at: 0, end: 0 },
-        space: no_space(DIRECT),
+        space: no_space(DIRECT, no_params()),
     };
     let mut turns = usize::MAX;
     while 0 < turns {

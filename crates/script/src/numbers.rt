@@ -7,6 +7,12 @@ pub(crate) const MOST_WORDS: usize = 9;
 
 pub(crate) const OFF: usize = 99;
 
+// How many numbers a line of rows can have (`k`).
+pub(crate) const MOST_NUMBERS: usize = 192;
+
+// The count of a line of rows that is of another form.
+pub(crate) const OFF_ROWS: usize = 999;
+
 // What stands in the one word that may be other than a plain number.
 pub(crate) const PLAIN: u8 = 0;
 
@@ -200,6 +206,40 @@ pub(crate) fn words(
         count: k,
         form: form,
     }
+}
+
+// Takes the numbers of a line of rows apart: how many there are.
+pub(crate) fn rows(
+    line: &[u8; lines::LINE_BYTES],
+    from: usize,
+    len: usize,
+    values: &mut [usize; MOST_NUMBERS],
+) -> usize {
+    let mut at = from;
+    let mut k: usize = 0;
+    while at < len {
+        match word(line, at, len, false) {
+            Piece::Off => {
+                return OFF_ROWS;
+            }
+            Piece::Is {
+                value,
+                form: _,
+                next,
+            } => {
+                if MOST_NUMBERS <= k {
+                    return OFF_ROWS;
+                }
+                if next <= at {
+                    return OFF_ROWS;
+                }
+                values[k] = value;
+                k = k + 1;
+                at = next;
+            }
+        }
+    }
+    k
 }
 
 // Only one word can be other than plain.

@@ -33,6 +33,8 @@ pub(crate) enum Reply {
     Two(usize, usize),
     Three(usize, usize, usize),
     Four(usize, usize, usize, usize),
+    Count(usize),
+    Row(usize),
     Refused(Refusal),
     Export(Sent),
 }
@@ -122,6 +124,14 @@ fn words(o: &mut [u8; out::OUT], n: usize, r: Reply) -> usize {
             let l = out::word(o, k, b);
             let e = out::word(o, l, c);
             out::word(o, e, d)
+        }
+        Reply::Count(a) => {
+            let m = out::text(o, n, b"ok count");
+            out::word(o, m, a)
+        }
+        Reply::Row(a) => {
+            let m = out::text(o, n, b"ok row");
+            out::word(o, m, a)
         }
         Reply::Refused(why) => {
             let m = out::text(o, n, b"refused");

@@ -5,13 +5,12 @@ use crate::numbers;
 use crate::reply;
 use crate::reply::Reply;
 use crate::through;
-use model::BINS;
 use model::BLOCK_TABLES;
+use model::ClassesAnswer;
 use model::HEAD_WORDS;
-use model::PagesAnswer;
 use model::Params;
 use model::Refusal;
-use native_ms::block_list;
+use native_ms::classes;
 use native_ms::global;
 ghost use Prim.Native.Nat.{_≤_};
 
@@ -27,9 +26,10 @@ pub(crate) const HEAP: usize = 4194304;
 // Stands for each L that is off: no multiple of 8, or over 64 either way.
 const OFF_LOWER: i64 = 65;
 
-pub(crate) enum Asked {
-    Params(Params),
-    Bad,
+// The parameters of a set-up, if it has its form. The rows are those in force.
+pub(crate) struct Asked {
+    pub ok: bool,
+    pub params: Params,
 }
 
 enum Signed {
@@ -95,30 +95,43 @@ fn flag(x: usize) -> bool {
     x <= 1
 }
 
-// The parameters, whether good or off.
-pub(crate) fn given(v: &[usize; numbers::MOST_WORDS], form: u8) -> Asked {
+fn no_form(now: Params) -> Asked {
+    Asked {
+        ok: false,
+        params: now,
+    }
+}
+
+// The parameters, whether good or off, with the rows of those before.
+pub(crate) fn given(now: Params, v: &[usize; numbers::MOST_WORDS], form: u8) -> Asked {
     let log = v[1];
+    let rows = now.rows;
     if 63 < log {
-        return Asked::Bad;
+        return no_form(now);
     }
     if !flag(v[5]) {
-        return Asked::Bad;
+        return no_form(now);
     }
     if !flag(v[6]) {
-        return Asked::Bad;
+        return no_form(now);
     }
     match lower(form, v[7]) {
-        Signed::Bad => Asked::Bad,
-        Signed::Is(l) => Asked::Params(Params {
-            base: v[0],
-            bytes: 1 << log,
-            blocks: v[2],
-            min: v[3],
-            max: v[4],
-            offsets: v[5] == 1,
-            unified: v[6] == 1,
-            lower: l,
-        }),
+        Signed::Bad => no_form(now),
+        Signed::Is(l) => Asked {
+            ok: true,
+            params: Params {
+                base: v[0],
+                bytes: 1 << log,
+                blocks: v[2],
+                min: v[3],
+                max: v[4],
+                offsets: v[5] == 1,
+                unified: v[6] == 1,
+                lower: l,
+                rows: rows,
+                count: now.count,
+            },
+        },
     }
 }
 
@@ -181,19 +194,27 @@ pub(crate) fn lent(
 
 fn bad_setup(via: usize) -> Reply {
     if via <= reply::MOST_ANSWER {
-        return through::refused(via);
+        return through::refused(1, via);
     }
     Reply::Refused(Refusal::BadSetup)
 }
 
-// Past the capacity: pages used, over words of the right length, says whether the parameters are good.
-pub(crate) fn beyond(p: Params, via: usize, w: &[usize]) -> Reply {
-    let none = [0usize; BINS];
-    match block_list::pages_of_firsts(p, w, &none) {
-        PagesAnswer::Pages(_) => Reply::Bad,
-        PagesAnswer::Refused(r) => match r {
-            Refusal::BadSetup => bad_setup(via),
-            _ => Reply::Bad,
-        },
+// An answer slice of another length than 32 comes first.
+fn bad_classes(via: usize) -> Reply {
+    if via == through::ANSWER_BYTES {
+        return through::refused(12, via);
+    }
+    if via <= reply::MOST_ANSWER {
+        return through::refused(1, via);
+    }
+    Reply::Refused(Refusal::BadClasses)
+}
+
+// Past the capacity: the check of the rows says whether the parameters are good.
+pub(crate) fn beyond(p: Params, via: usize) -> Reply {
+    match classes::check_classes(p) {
+        ClassesAnswer::Accepted => Reply::Bad,
+        ClassesAnswer::Refused(_) => bad_setup(via),
+        _ => bad_classes(via),
     }
 }

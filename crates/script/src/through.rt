@@ -3,6 +3,7 @@ use crate::numbers;
 use crate::reply;
 use crate::reply::Reply;
 use crate::reply::Sent;
+use crate::rows;
 use crate::setup;
 use exports::c;
 use model::Params;
@@ -12,6 +13,9 @@ use words::bytes;
 const WORD_BYTES: usize = 8 * setup::TABLES;
 
 pub(crate) const SETUP: u8 = b'+';
+
+// The answer slice that the exports take.
+pub(crate) const ANSWER_BYTES: usize = 32;
 
 // The number that offers none.
 const NO_OFFER: usize = 18446744073709551615;
@@ -55,6 +59,7 @@ fn set_up(
     st: &mut [u8],
     marks: &mut [u8],
     heap: &mut [u8],
+    rows: &[u8],
     answer: &mut [u8],
 ) -> usize {
     c::native_ms_set_up(
@@ -70,6 +75,7 @@ fn set_up(
         st,
         marks,
         heap,
+        rows,
         answer,
     )
 }
@@ -80,6 +86,7 @@ fn bind(
     st: &mut [u8],
     marks: &mut [u8],
     heap: &mut [u8],
+    rows: &[u8],
     answer: &mut [u8],
     holder: usize,
 ) -> usize {
@@ -96,6 +103,7 @@ fn bind(
         st,
         marks,
         heap,
+        rows,
         answer,
         holder,
     )
@@ -107,6 +115,7 @@ fn destroy(
     st: &mut [u8],
     marks: &mut [u8],
     heap: &mut [u8],
+    rows: &[u8],
     answer: &mut [u8],
     holder: usize,
 ) -> usize {
@@ -123,6 +132,7 @@ fn destroy(
         st,
         marks,
         heap,
+        rows,
         answer,
         holder,
     )
@@ -134,6 +144,7 @@ fn alloc(
     st: &mut [u8],
     marks: &mut [u8],
     heap: &mut [u8],
+    rows: &[u8],
     answer: &mut [u8],
     holder: usize,
     size: usize,
@@ -154,6 +165,7 @@ fn alloc(
         st,
         marks,
         heap,
+        rows,
         answer,
         holder,
         size,
@@ -169,6 +181,7 @@ fn prepare(
     st: &mut [u8],
     marks: &mut [u8],
     heap: &mut [u8],
+    rows: &[u8],
     answer: &mut [u8],
 ) -> usize {
     c::native_ms_prepare(
@@ -184,6 +197,7 @@ fn prepare(
         st,
         marks,
         heap,
+        rows,
         answer,
     )
 }
@@ -194,6 +208,7 @@ fn mark(
     st: &mut [u8],
     marks: &mut [u8],
     heap: &mut [u8],
+    rows: &[u8],
     answer: &mut [u8],
     place: usize,
     block: usize,
@@ -211,6 +226,7 @@ fn mark(
         st,
         marks,
         heap,
+        rows,
         answer,
         place,
         block,
@@ -223,6 +239,7 @@ fn release(
     st: &mut [u8],
     marks: &mut [u8],
     heap: &mut [u8],
+    rows: &[u8],
     answer: &mut [u8],
     holder: usize,
 ) -> usize {
@@ -239,6 +256,7 @@ fn release(
         st,
         marks,
         heap,
+        rows,
         answer,
         holder,
     )
@@ -250,6 +268,7 @@ fn shared_release(
     st: &mut [u8],
     marks: &mut [u8],
     heap: &mut [u8],
+    rows: &[u8],
     answer: &mut [u8],
 ) -> usize {
     c::native_ms_shared_release(
@@ -265,6 +284,7 @@ fn shared_release(
         st,
         marks,
         heap,
+        rows,
         answer,
     )
 }
@@ -284,6 +304,7 @@ fn alloc_line(
     st: &mut [u8],
     marks: &mut [u8],
     heap: &mut [u8],
+    rows: &[u8],
     answer: &mut [u8],
     v: &[usize; numbers::MOST_WORDS],
     form: u8,
@@ -299,6 +320,7 @@ fn alloc_line(
         st,
         marks,
         heap,
+        rows,
         answer,
         v[0],
         v[1],
@@ -315,24 +337,25 @@ fn enter(
     st: &mut [u8],
     marks: &mut [u8],
     heap: &mut [u8],
+    rows: &[u8],
     answer: &mut [u8],
     letter: u8,
     v: &[usize; numbers::MOST_WORDS],
     form: u8,
 ) -> usize {
     match letter {
-        b'b' => bind(p, words, st, marks, heap, answer, v[0]),
-        b'd' => destroy(p, words, st, marks, heap, answer, v[0]),
-        b'a' => alloc_line(p, words, st, marks, heap, answer, v, form),
-        b'p' => prepare(p, words, st, marks, heap, answer),
-        b'm' => mark(p, words, st, marks, heap, answer, v[0], v[1]),
-        b'r' => release(p, words, st, marks, heap, answer, v[0]),
-        b's' => shared_release(p, words, st, marks, heap, answer),
-        _ => set_up(p, words, st, marks, heap, answer),
+        b'b' => bind(p, words, st, marks, heap, rows, answer, v[0]),
+        b'd' => destroy(p, words, st, marks, heap, rows, answer, v[0]),
+        b'a' => alloc_line(p, words, st, marks, heap, rows, answer, v, form),
+        b'p' => prepare(p, words, st, marks, heap, rows, answer),
+        b'm' => mark(p, words, st, marks, heap, rows, answer, v[0], v[1]),
+        b'r' => release(p, words, st, marks, heap, rows, answer, v[0]),
+        b's' => shared_release(p, words, st, marks, heap, rows, answer),
+        _ => set_up(p, words, st, marks, heap, rows, answer),
     }
 }
 
-// Lends so much of the bytes, and of the slice for the answer.
+// Lends so much of the bytes, of the rows, and of the slice for the answer.
 fn send(
     p: Params,
     b: &mut [u8],
@@ -340,6 +363,7 @@ fn send(
     st: &mut [u8],
     marks: &mut [u8],
     heap: &mut [u8],
+    r: &[u8],
     a: &mut [u8],
     via: usize,
     letter: u8,
@@ -347,6 +371,7 @@ fn send(
     form: u8,
 ) -> usize {
     let n = setup::least(count, b.len());
+    let m = setup::least(rows::length(p), r.len());
     let k = setup::least(via, a.len());
     enter(
         p,
@@ -354,6 +379,7 @@ fn send(
         st,
         marks,
         heap,
+        &r[..m],
         &mut a[..k],
         letter,
         v,
@@ -368,13 +394,14 @@ fn send_all(
     st: &mut [u8],
     marks: &mut [u8],
     heap: &mut [u8],
+    r: &[u8; rows::ROOM],
     a: &mut [u8; reply::MOST_ANSWER],
     via: usize,
     letter: u8,
     v: &[usize; numbers::MOST_WORDS],
     form: u8,
 ) -> usize {
-    send(p, b, count, st, marks, heap, a, via, letter, v, form)
+    send(p, b, count, st, marks, heap, r, a, via, letter, v, form)
 }
 
 fn sent(number: usize, via: usize, a: &[u8; reply::MOST_ANSWER]) -> Reply {
@@ -392,10 +419,10 @@ fn sent(number: usize, via: usize, a: &[u8; reply::MOST_ANSWER]) -> Reply {
     })
 }
 
-// BadSetup where nothing can be lent.
-pub(crate) fn refused(via: usize) -> Reply {
+// A refusal where nothing can be lent.
+pub(crate) fn refused(number: usize, via: usize) -> Reply {
     let a = [0xA5u8; reply::MOST_ANSWER];
-    sent(1, via, &a)
+    sent(number, via, &a)
 }
 
 // The bytes that so many words take.
@@ -416,8 +443,10 @@ pub(crate) fn answer(
     form: u8,
 ) -> Reply {
     let mut b = [0u8; WORD_BYTES];
+    let mut r = [0u8; rows::ROOM];
     let mut a = [0xA5u8; reply::MOST_ANSWER];
     encode(&mut b, w);
+    rows::encode(p, &mut r);
     let count = bytes_of(w.len());
     let number = send_all(
         p,
@@ -426,6 +455,7 @@ pub(crate) fn answer(
         st,
         marks,
         heap,
+        &r,
         &mut a,
         via,
         letter,

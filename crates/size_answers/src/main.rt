@@ -9,6 +9,7 @@ use model::Params;
 use native_ms::allocator;
 use native_ms::allocator::Raised;
 use native_ms::allocator::Shifted;
+use native_ms::classes;
 use native_ms::size_class;
 ghost use Prim.Native.Nat.{_<_, _≤_};
 
@@ -149,6 +150,7 @@ fn show_three(min: usize, max: usize, align: usize) -> bool {
 fn line(min: usize, max: usize, align: usize) -> bool
     requires { ⌜ (0 < min) × (min ≤ 8) ⌝ }
 {
+    let rows = classes::no_rows();
     let p = Params {
         base: 65536,
         bytes: 65536,
@@ -158,6 +160,8 @@ fn line(min: usize, max: usize, align: usize) -> bool
         offsets: false,
         unified: true,
         lower: 0,
+        rows,
+        count: 0,
     };
     if !show_three(min, max, align) {
         return false;

@@ -8,9 +8,8 @@ use native.Mathlib.Omega.{arith}
 use lib.ListN.{length, getD}
 use lib.Dec.{ltb}
 use borrow.Author.Tests.{lt-ltb}
-use Rattle.model.specs.declared.Params.{Params}
 use Rattle.model.specs.Base.{if_then_else_}
-use Rattle.model.specs.SizeClasses.{binOf, binOfWords, tabulated, binTable}
+use Rattle.model.specs.SizeClasses.{miBin, binOfWords, tabulated, binTable}
 
 pub tabulated-length : (f : ℕ → ℕ) (n i : ℕ) → length (tabulated f n i) ≡ n
 unfolding tabulated
@@ -24,15 +23,15 @@ tabulated-at f (suc n) i zero h = ap f (sym (add-zero i))
 tabulated-at f (suc n) i (suc k) h = tabulated-at f n (suc i) k (le-of-suc-le-suc h) ∙ ap f (suc-add i k ∙ sym (add-suc i k))
 
 -- a list that is the table: what stands at a count of words, and that there is none past its end
-pub held-at : (p : Params) (l : List ℕ) (words : ℕ) → l ≡ binTable p → words < length l → getD l words 0 ≡ binOfWords p words
+pub held-at : (l : List ℕ) (words : ℕ) → l ≡ binTable → words < length l → getD l words 0 ≡ binOfWords words
 unfolding binTable
-held-at p l words e h =
-    let short : words < 8193 = omega (arith, h, ap length e ∙ tabulated-length (binOfWords p) 8193 0) in
-    ap (λ (t : List ℕ). getD t words 0) e ∙ tabulated-at (binOfWords p) 8193 0 words short ∙ ap (binOfWords p) (zero-add words)
+held-at l words e h =
+    let short : words < 8193 = omega (arith, h, ap length e ∙ tabulated-length binOfWords 8193 0) in
+    ap (λ (t : List ℕ). getD t words 0) e ∙ tabulated-at binOfWords 8193 0 words short ∙ ap binOfWords (zero-add words)
 
-pub held-past : (p : Params) (l : List ℕ) (words : ℕ) → l ≡ binTable p → length l ≤ words → 0 ≡ binOfWords p words
-unfolding binTable binOfWords binOf
-held-past p l words e h =
-    let long : 8193 ≤ words = omega (arith, h, ap length e ∙ tabulated-length (binOfWords p) 8193 0) in
+pub held-past : (l : List ℕ) (words : ℕ) → l ≡ binTable → length l ≤ words → 0 ≡ binOfWords words
+unfolding binTable binOfWords miBin
+held-past l words e h =
+    let long : 8193 ≤ words = omega (arith, h, ap length e ∙ tabulated-length binOfWords 8193 0) in
     let over : ltb 65536 (8 * words) ≡ true = lt-ltb 65536 (8 * words) (omega (arith, long)) in
     rw over

@@ -1,7 +1,6 @@
 // The bin of every count of words from 0 to 8,192: a size class by look-up, with no arithmetic. A constant array is built anew
 // wherever it is named, so a caller with many look-ups takes the table once (`bin_table`) and lends it (`bin_in`).
 ghost use mathlib.Core.Path.{_≡_};
-ghost use Rattle.model.specs.declared.Params.{Params};
 ghost use Rattle.model.specs.SizeClasses.{binOfWords, binTable};
 
 // Word counts 0 to 8,192.
@@ -9,14 +8,14 @@ pub const ENTRIES: usize = 8193;
 
 // The whole table.
 pub fn bin_table() -> [u8; ENTRIES]
-    ensures { λ r. ⌜ ((p : Params) → r ≡ binTable p) ⌝ }
+    ensures { λ r. ⌜ r ≡ binTable ⌝ }
 {
     BIN_OF_WORDS
 }
 
 // The bin of a count of words, by a table that the caller holds: one load, and 0 past the table's end.
 pub fn bin_in(table: &[u8], words: usize) -> u8
-    ensures { λ r. ⌜ ((p : Params) → now (table .entry) ≡ binTable p → r ≡ binOfWords p words) ⌝ }
+    ensures { λ r. ⌜ (now (table .entry) ≡ binTable → r ≡ binOfWords words) ⌝ }
 {
     if words < table.len() {
         return table[words];
@@ -26,7 +25,7 @@ pub fn bin_in(table: &[u8], words: usize) -> u8
 
 // The bin of a count of words; 0 past the largest class, where there is none.
 pub fn bin_of_words(words: usize) -> u8
-    ensures { λ r. ⌜ ((p : Params) → r ≡ binOfWords p words) ⌝ }
+    ensures { λ r. ⌜ r ≡ binOfWords words ⌝ }
 {
     let table = bin_table();
     bin_in(&table, words)

@@ -30,7 +30,6 @@ use Rattle.laws.proofs.Base.{and-left, and-right, or-right}
 use Rattle.laws.proofs.Params.{Bounds, blockAt-start}
 use Rattle.laws.proofs.Stores.{set-at, set-off}
 use Rattle.laws.proofs.Tables.{Sized, sized-same, kept-lengths}
-use Rattle.laws.proofs.Classes.{cellBytes-least}
 use Rattle.laws.proofs.Cells.{whole-isCell, in-chain}
 use Rattle.laws.proofs.Frame.{LinksOnly, links-refl, push-links, pop-links}
 use Rattle.laws.proofs.Walks.{Files, Steps, plain-steps, find-keeps}
@@ -254,7 +253,7 @@ module _ (p : Params) (B : Bounds p) (st ms : List ℕ) (h bin : ℕ) (lo : 1 �
   swept-taken w l x T =
       let s : ℕ = getD (w .size) x 0 in
       let c : ℕ = headD (sweepChain p ms x s) 0 in
-      let word : 8 ≤ s = rw (T .fit .size) (cellBytes-least p {bin = l % 49} (omega arith)) in (
+      let word : 8 ≤ s = T .fit .word in (
         tweak-taken l x w (setFree x c w) T (tweak-free x c w) (free-framed x c w)
             (fit-as p (tablesOf w st ms) (tablesOf (setFree x c w) st ms) l l x (T .fit) refl refl refl
             (chain-link p (setFree x c w) x s _ (keeps p (marked p ms) s) word refl (set-at (w .free) x c (omega (arith, T .out .low, T .sized .free))))
@@ -360,7 +359,7 @@ module _ (p : Params) (B : Bounds p) (st ms : List ℕ) (w : Words) (H : GoodTab
       unused b lb q (yes e) = absurd (omega (arith, sym now ∙ ap (λ (y : ℕ). getD (set st x Unmarked) y 0) (sym e) ∙ q))
       unused b lb q (no f) = H .good .clear b lb (sym (same b f) ∙ q)
 
-  module _ (h bin : ℕ) (lo : 1 ≤ h) (hi : h ≤ 8) (pos : 1 ≤ bin) (low : bin < 49) where
+  module _ (h bin : ℕ) (lo : 1 ≤ h) (hi : h ≤ 8) (pos : 1 ≤ bin) (low : bin < 49) (word : 8 ≤ cellBytes p bin) where
     abbrev av : ℕ
     av = available (localSets h) bin
 
@@ -374,7 +373,8 @@ module _ (p : Params) (B : Bounds p) (st ms : List ℕ) (w : Words) (H : GoodTab
           known = rw (set-at st x Unmarked (omega (arith, H .states))) refl;
           bin = rw (N .bin) pos;
           size = rw (N .bin) size;
-          free = chain-link p (initBlock p x (cellBytes p bin) h w) x (cellBytes p bin) _ (λ a. false) (cellBytes-least p {bin = bin} low) size
+          word = rw size word;
+          free = chain-link p (initBlock p x (cellBytes p bin) h w) x (cellBytes p bin) _ (λ a. false) word size
               (set-at (w .free) x _ (omega (arith, H .sized .free)));
           holder = rw tls (is-holder p B st ms h bin lo hi low w);
           local = λ less. tls ∙ omega (arith, N .owner);
@@ -430,7 +430,7 @@ pub record AllocKeeps (p : Params) (h : ℕ) (t u : Tables) : Type 0 where
   pub frame : Framed (h - 1) 8 (t .words) (u .words)
 
 module _ (p : Params) (B : Bounds p) (t : Tables) (H : GoodTables p (t .marks) (t .words) (t .states))
-    (h bin : ℕ) (lo : 1 ≤ h) (hi : h ≤ 8) (pos : 1 ≤ bin) (low : bin < 49) where
+    (h bin : ℕ) (lo : 1 ≤ h) (hi : h ≤ 8) (pos : 1 ≤ bin) (low : bin < 49) (word : 8 ≤ cellBytes p bin) where
   abbrev Ok : Search → Type 0
   Ok s = AllocKeeps p h t (s .tables)
 
@@ -445,8 +445,8 @@ module _ (p : Params) (B : Bounds p) (t : Tables) (H : GoodTables p (t .marks) (
       let lb = ltb-true _ _ (and-left (ltb (b .0) (p .blocks)) (eqb (getD (t .states) (b .0) 0) 0) e) in
       let z = eqb-true _ _ (and-right (ltb (b .0) (p .blocks)) (eqb (getD (t .states) (b .0) 0) 0) e) in
       record {
-        good = offer-good p B (t .states) (t .marks) (f .words) (S .good) (b .0) lb z h bin lo hi pos low;
-        frame = framed-trans (S .frame) (offer-framed p B (t .states) (t .marks) (f .words) (S .good) (b .0) lb z h bin lo hi pos low);
+        good = offer-good p B (t .states) (t .marks) (f .words) (S .good) (b .0) lb z h bin lo hi pos low word;
+        frame = framed-trans (S .frame) (offer-framed p B (t .states) (t .marks) (f .words) (S .good) (b .0) lb z h bin lo hi pos low word);
       }
 
   pub find-served : (offer : Offer) → goodOffer p t offer ≡ true → Ok (findBlock p h bin offer t)

@@ -1,20 +1,22 @@
 -- Refused calls, computed on the machine, of which the theorems of Refused.antt and Released.antt speak: a mark out of its
 -- phase, an alloc that is Exhausted after it has swept and moved a block, one that meets a bad link in a block that it took over;
 -- and a release that makes one block Unallocated, a destroy and a last release by which one block goes over.
-use Prim.Native.Nat.{ℕ}
+use Prim.Native.Nat.{ℕ, zero, suc}
 use native.Mathlib.Omega.{arith}
 use mathlib.Core.Path.{_≡_, refl, sym, ap, _∙_}
 use mathlib.Core.List.{List, [], _∷_, headD}
 use lib.Count.{leadingZeros}
+use borrow.Author.Tests.{leb-true}
 use lib.ListN.{set, replicate}
 use Rattle.model.specs.declared.Params.{Params}
 use Rattle.model.specs.declared.Refusal.the-variants.{WrongPhase, BadLink, Exhausted}
-use Rattle.model.specs.declared.Offer.the-variants.{Nothing}
+use Rattle.model.specs.declared.Offer.the-variants.{Nothing, Fresh}
 use Rattle.model.specs.Base.{allBelow, anyBelow, member, filter, sumBelow, eachBelow, flag}
 use Rattle.model.specs.Params.{Lent, powerOfTwo, lowerOk, biased, plusLower, minusLower, heapBytes, heapEnd, goodParams, wordCount, fits, start, blockAt, inHeap, isStart, listOf, listWord, localSets, available, unswept, consumed}
 use Rattle.model.specs.Memory.{loadBytes, bytesOf, overwrite, load, store, zeroed, bitOf, setBit, markIndex, marked, setMark, cleared}
 use Rattle.model.specs.Tables.{Words, view, flat, setFirst, setLast, setBound, setReleased, setNext, setPrev, setFree, setSize, setList, setTls, setPhase, withReleased}
-use Rattle.model.specs.SizeClasses.{fours, classWords, cellBytes, wordsIn, highestBit, binInOctave, binOf, raised, shift, alignAllocation}
+use Rattle.model.specs.SizeClasses.{fours, classWords, classBytes, wordsIn, highestBit, binInOctave, miBin, binOf, cellBytes, raised, shift, alignAllocation}
+use Rattle.model.specs.Classes.{classesFit}
 use Rattle.model.specs.BlockList.{push, popHead, pop, removeBetween, remove, relabel, link, append, walk, blocksOn, appended}
 use Rattle.model.specs.Block.{cellCount, isCell, cellsDown, linkAll, initChain, initBlock, simple, keeps, sweepChain, sweptWords, clearBlock}
 use Rattle.model.specs.Events.{eventHeap, eventsHeap, isSweep, isRelease, sweeps, releases}
@@ -22,9 +24,11 @@ use Rattle.model.specs.FreeListAllocator.{findFreeBlockWith, recycleLocalBlocks
 use Rattle.model.specs.Global.{freshWords, freshTables, isHolder, isBound, bindHolder, abandonBin, abandonBlocks, abandonedBin, abandonedBelow, abandonedBlocks, destroyHolder, unmarkedState, prepared, markPlace, releaseFrom, releaseBlocks, appendTo, releaseBin, releaseHolder, sweepLaterBin, sweepLater, hasReleased, allReleased, partReleased, merged}
 use Rattle.model.specs.Sound.{stateOf, stateKnown, blockClear, listNamed, binNamed, setNamed, onListNamed, sizeOk, linkOk, tlsOk, blockSound, linkedFrom, linked, ownerEmpty, unboundEmpty, inGcEmpty, phaseKnown, flagsKnown, releasedFew, releasedSome, releasedEmpty, sound}
 use Rattle.model.specs.Calls.{Reply, Call, alloc, mark, release, Result, refusalNumber, goodRequest, tooBig, goodOffer, goodObject, mayRelease, andThen, phaseTest, bindTests, boundTests, requestTests, markTests, releaseTests, sharedTests, callTests, takePlan, releasePlan, planPassed, ifPassed, planSound, plan, takeCell, finish, step, refused, answered, call, setUp, destroy, sharedRelease, mayLeave, leaveTests}
+use Rattle.model.specs.OwnRows.{withOwnRows, LowBins, OwnRows}
 use Rattle.model.specs.Census.{censusParams}
 use Rattle.model.specs.Refusals.{OfAlloc, KeptExhausted, KeptBadLink, RefusalKeeps, madeUnallocated, blocksOf, wentOver, CountsReleased, ReleasedCounts, DestroyedCounts}
 use Rattle.soundness.proofs.Refused.{refusal-keeps}
+use Rattle.soundness.proofs.OwnRows.{own-rows}
 use Rattle.soundness.proofs.Released.{destroyed-counted, released-counted}
 
 abbrev p : Params
@@ -69,7 +73,7 @@ ask = alloc 2 1024 8 0 Nothing
 
 -- who opens `machine` opens all that its line names
 machine : Params
-unfolding leadingZeros allBelow anyBelow member filter eachBelow flag powerOfTwo lowerOk biased plusLower minusLower heapBytes heapEnd goodParams wordCount fits start blockAt inHeap isStart listOf listWord localSets available unswept consumed loadBytes bytesOf overwrite load store zeroed bitOf setBit markIndex marked setMark cleared view flat setFirst setLast setBound setReleased setNext setPrev setFree setSize setList setTls setPhase withReleased fours classWords cellBytes wordsIn highestBit binInOctave binOf raised shift alignAllocation push pop popHead removeBetween remove relabel link append walk blocksOn cellCount isCell cellsDown headD linkAll initChain initBlock simple keeps sweepChain sweptWords clearBlock eventHeap eventsHeap isSweep isRelease sweeps releases findFreeBlockWith recycleLocalBlocks acquireAbandoned acquireFresh findBlock freshWords freshTables isHolder isBound bindHolder abandonBin abandonBlocks destroyHolder unmarkedState prepared markPlace releaseFrom releaseBlocks appendTo releaseBin releaseHolder sweepLaterBin sweepLater hasReleased allReleased partReleased stateOf stateKnown blockClear listNamed binNamed setNamed onListNamed sizeOk linkOk tlsOk blockSound linkedFrom linked ownerEmpty unboundEmpty inGcEmpty phaseKnown flagsKnown releasedFew releasedSome releasedEmpty sound refusalNumber goodRequest tooBig goodOffer goodObject mayRelease andThen phaseTest bindTests boundTests requestTests markTests releaseTests sharedTests callTests takePlan releasePlan planPassed ifPassed planSound plan takeCell finish step call setUp censusParams heap₀ noMarks allMarked standing lent sumBelow appended abandonedBin abandonedBelow abandonedBlocks merged mayLeave leaveTests
+unfolding leadingZeros allBelow anyBelow member filter eachBelow flag powerOfTwo lowerOk biased plusLower minusLower heapBytes heapEnd goodParams wordCount fits start blockAt inHeap isStart listOf listWord localSets available unswept consumed loadBytes bytesOf overwrite load store zeroed bitOf setBit markIndex marked setMark cleared view flat setFirst setLast setBound setReleased setNext setPrev setFree setSize setList setTls setPhase withReleased fours classWords classBytes wordsIn highestBit binInOctave miBin binOf cellBytes classesFit raised shift alignAllocation push pop popHead removeBetween remove relabel link append walk blocksOn cellCount isCell cellsDown headD linkAll initChain initBlock simple keeps sweepChain sweptWords clearBlock eventHeap eventsHeap isSweep isRelease sweeps releases findFreeBlockWith recycleLocalBlocks acquireAbandoned acquireFresh findBlock freshWords freshTables isHolder isBound bindHolder abandonBin abandonBlocks destroyHolder unmarkedState prepared markPlace releaseFrom releaseBlocks appendTo releaseBin releaseHolder sweepLaterBin sweepLater hasReleased allReleased partReleased stateOf stateKnown blockClear listNamed binNamed setNamed onListNamed sizeOk linkOk tlsOk blockSound linkedFrom linked ownerEmpty unboundEmpty inGcEmpty phaseKnown flagsKnown releasedFew releasedSome releasedEmpty sound refusalNumber goodRequest tooBig goodOffer goodObject mayRelease andThen phaseTest bindTests boundTests requestTests markTests releaseTests sharedTests callTests takePlan releasePlan planPassed ifPassed planSound plan takeCell finish step call setUp censusParams heap₀ noMarks allMarked standing lent sumBelow appended abandonedBin abandonedBelow abandonedBlocks merged mayLeave leaveTests
 machine = censusParams
 
 -- ---- a mark in Running, of a block on the available list (24) of holder 1: nothing changes
@@ -167,3 +171,29 @@ pub merged-counted : (0 ∷ 1 ∷ []) ≡ madeUnallocated p waiting (call p wait
 unfolding ReleasedCounts CountsReleased
 merged-counted =
     sym (ap (λ (r : Reply). r .values) one-merged) ∙ released-counted p waiting .1 (ap (λ (r : Reply). r .number) one-merged)
+
+-- ---- 01's own sizes as rows (02, R-5): block 2 is in bin 24, and the block's own bin is 32. Holder 1 asks for 72 bytes and gets what it got
+-- before, a cell of 80 bytes of the block offered
+
+own-low : LowBins p idle
+unfolding machine LowBins
+own-low zero l ne = absurd (ne refl)
+own-low (suc zero) l ne = absurd (ne refl)
+own-low (suc (suc zero)) l ne = leb-true 24 32 refl
+own-low (suc (suc (suc zero))) l ne = absurd (ne refl)
+own-low (suc (suc (suc (suc b)))) l ne = absurd (omega arith)
+
+abbrev entry : Call
+entry = alloc 1 72 8 0 (Fresh (record { 0 = 1 }))
+
+plain-served : call p idle entry .reply ≡ answered (24480 ∷ 80 ∷ 1 ∷ 0 ∷ [])
+unfolding machine
+plain-served = refl
+
+plain : p .count ≡ 0
+unfolding machine
+plain = refl
+
+pub own-served : call (withOwnRows p) idle entry .reply ≡ answered (24480 ∷ 80 ∷ 1 ∷ 0 ∷ [])
+unfolding OwnRows
+own-served = ap (λ (r : Result). r .reply) (own-rows p plain .1 idle own-low entry) ∙ plain-served

@@ -51,6 +51,7 @@ fit-as p t u l m b F es ez bin f h o =
       known = rw es (F .known);
       bin = rw bin (F .bin);
       size = ez ∙ F .size ∙ ap (cellBytes p) (sym bin);
+      word = rw ez (F .word);
       free = f;
       holder = h;
       local = o;

@@ -19,7 +19,8 @@ use Rattle.model.specs.Global.{Running, isHolder, isBound, unmarkedState, fresh
 use Rattle.model.specs.Memory.{marked}
 use Rattle.model.specs.Sound.{stateOf, linkOk, ownerEmpty, unboundEmpty, inGcEmpty, phaseKnown, flagsKnown, releasedFew, releasedSome, releasedEmpty, sound}
 use Rattle.model.specs.BlockList.{blocksOn}
-use Rattle.model.specs.SizeClasses.{binOf, raised}
+use Rattle.model.specs.SizeClasses.{binOf, cellBytes, raised}
+use Rattle.model.specs.Classes.{classesFit}
 use Rattle.model.specs.Block.{isCell}
 use Rattle.model.specs.Events.{Event}
 use Rattle.model.specs.FreeListAllocator.{findBlock}
@@ -158,11 +159,12 @@ module _ (p : Params) (B : Bounds p) where
         (λ l lt ne. R .first l (omega (arith, lt)) (omega (arith, lt))) (λ l e. absurd (omega (arith, e))))
 
     -- the search of an alloc
-    find-kept : (h bin : ℕ) (offer : Offer) → t .words .phase ≡ 0 → isBound (t .words) h ≡ true → 1 ≤ bin → bin < 49 → goodOffer p t offer ≡ true
+    find-kept : (h bin : ℕ) (offer : Offer) → t .words .phase ≡ 0 → isBound (t .words) h ≡ true → 1 ≤ bin → bin < 49 → 8 ≤ cellBytes p bin
+        → goodOffer p t offer ≡ true
         → Kept (findBlock p h bin offer t .tables)
-    find-kept h bin offer e o pos low fine =
+    find-kept h bin offer e o pos low word fine =
         let P = bound-at (t .words) h o in
-        let S = find-served p B t H h bin (P .low) (P .high) pos low offer fine in
+        let S = find-served p B t H h bin (P .low) (P .high) pos low word offer fine in
         good-kept _ (S .good) (same-flags (t .words) _ F e h o (S .frame))
 
   -- ---- the end of a call: the cell taken
@@ -216,7 +218,7 @@ module _ (p : Params) (B : Bounds p) where
 
   -- ---- every call
 
-  module _ (t : Tables) (K : Kept t) where
+  module _ (rows : classesFit p ≡ true) (t : Tables) (K : Kept t) where
     abbrev Leaves : Plan → Type 0
     Leaves q = Kept (q .tables)
 
@@ -235,8 +237,8 @@ module _ (p : Params) (B : Bounds p) where
     passed-kept (destroy h) e = let b = leave-passed (t .words) h e in destroy-kept t K h (b .0) (b .1)
     passed-kept (alloc h size align offset offer) e =
         let a = alloc-passed p t h size align offset offer e in
-        let n = chosen p (raised p size align) (omega (arith, fits-raised p size align (a .small), B .bytes-high)) in
-        find-kept t K h (binOf p (raised p size align)) offer (a .running) (a .bound) (n .from) (omega (arith, n .to)) (a .offered)
+        let n = chosen p B rows (raised p size align) (fits-raised p size align (a .small)) in
+        find-kept t K h (binOf p (raised p size align)) offer (a .running) (a .bound) (n .from) (omega (arith, n .to)) (n .word) (a .offered)
     passed-kept prepare e = prepare-kept t K (phase-passed (t .words) Running e)
     passed-kept (mark place b) e = mark-kept t K place b (object-occupied place b (mark-passed p t place b e .1))
     passed-kept (release h) e = release-kept t K h (release-passed (t .words) h e .1)
@@ -245,6 +247,6 @@ module _ (p : Params) (B : Bounds p) where
     plan-kept : (c : Call) → Leaves (planSound p t c)
     plan-kept c = plan-cases Leaves p t c (λ r b. K) (λ e. passed-kept c e)
 
-  pub step-kept : (t : Tables) (h : List ℕ) (c : Call) → Kept t → Kept (step p t h c .tables)
+  pub step-kept : classesFit p ≡ true → (t : Tables) (h : List ℕ) (c : Call) → Kept t → Kept (step p t h c .tables)
   unfolding step plan
-  step-kept t h c K = rw (K .passes, plan) (finish-kept _ _ _ _ (plan-kept t K c))
+  step-kept rows t h c K = rw (K .passes, plan) (finish-kept _ _ _ _ (plan-kept rows t K c))

@@ -16,4 +16,8 @@ pub mod Released
 pub mod Searches
 pub mod Refused
 pub mod Printed
+pub mod Elsewhere
+pub mod OwnTable
+pub mod OwnRows
+pub mod RowsExample
 pub mod Example

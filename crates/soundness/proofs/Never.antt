@@ -12,6 +12,7 @@ use Rattle.model.specs.Memory.{marked, zeroed}
 use Rattle.model.specs.Tables.{Tables}
 use Rattle.model.specs.Events.{Event, initialised, swept, released, taken, eventHeap, eventsHeap}
 use Rattle.model.specs.SizeClasses.{binOf, raised}
+use Rattle.model.specs.Classes.{classesFit}
 use Rattle.model.specs.Global.{freshTables, bindHolder, destroyHolder, prepared, markPlace}
 use Rattle.model.specs.Sound.{linkOk, sound}
 use Rattle.model.specs.Calls.{refusalNumber, Reply, Call, bind, destroy, alloc, prepare, mark, release, sharedRelease, End, says, takes, Plan, takePlan, releasePlan, planPassed, planSound, plan, Step, takeCell, finish, step, Result, lentOf, resultFrom, call}
@@ -22,7 +23,7 @@ use Rattle.laws.proofs.Params.{Bounds, good-bounds}
 use Rattle.laws.proofs.Memory.{length-overwrite}
 use Rattle.laws.proofs.Marks.{length-setMark, length-cleared}
 use Rattle.laws.proofs.Cells.{length-linkAll}
-use Rattle.laws.proofs.Lent.{fits-parts, answered-fits, set-up-is, call-is}
+use Rattle.laws.proofs.Lent.{fits-parts, answered-fits, answered-classes, set-up-is, call-is}
 use Rattle.laws.proofs.Tests.{plan-cases}
 use Rattle.soundness.proofs.Alloc.{find-marks}
 use Rattle.soundness.proofs.Replies.{never-bad}
@@ -85,7 +86,7 @@ module _ (p : Params) where
 
 -- ---- runs
 
-module _ (p : Params) (fine : goodParams p ≡ true) where
+module _ (p : Params) (fine : goodParams p ≡ true) (rows : classesFit p ≡ true) where
   abbrev B : Bounds p
   B = good-bounds p fine
 
@@ -98,7 +99,7 @@ module _ (p : Params) (fine : goodParams p ≡ true) where
   module _ (t : Tables) (h : List ℕ) (K : Fits t h) where
     step-fits : (c : Call) → Fits (step p t h c .tables) (step p t h c .heap)
     step-fits c =
-        record { kept = step-kept p B t h c (K .kept); marks = step-marks p t h c ∙ K .marks; heap = step-heap p t h c ∙ K .heap }
+        record { kept = step-kept p B rows t h c (K .kept); marks = step-marks p t h c ∙ K .marks; heap = step-heap p t h c ∙ K .heap }
 
   length-written : (ws : List Write) (h : List ℕ) → length (written p ws h) ≡ length h
   unfolding written
@@ -123,7 +124,7 @@ module _ (p : Params) (fine : goodParams p ≡ true) where
       → resultOf p s u ≡ resultFrom (step p t (written p (u .writes) h) (u .call))
   unfolding resultOf foundBy
   turn-is u t h s e K =
-      ap (λ (l : Lent). call p (foundBy p l u) (u .call)) e ∙ call-is p t (written p (u .writes) h) fine (K .kept .sized) (K .kept .states) (K .marks) (length-written (u .writes) h ∙ K .heap) (u .call)
+      ap (λ (l : Lent). call p (foundBy p l u) (u .call)) e ∙ call-is p t (written p (u .writes) h) fine rows (K .kept .sized) (K .kept .states) (K .marks) (length-written (u .writes) h ∙ K .heap) (u .call)
 
   turn-never : (u : Turn) (t : Tables) (h : List ℕ) (s : State) → s .lent ≡ lentOf t h → Fits t h
       → (x : Seen) → x .reply ≡ resultOf p s u .reply → x .reply .number ≢ 2
@@ -146,4 +147,5 @@ unfolding NoBadTables begun refusalNumber
 no-bad-tables p l us e x m =
     let f : fits p l ≡ true = answered-fits p l e in
     let fine : goodParams p ≡ true = fits-parts p l f .0 in
-    run-never p fine us (freshTables p) (l .heap) (begun p l) (ap (λ (r : Result). r .lent) (set-up-is p l f)) (set-up-fits p fine l f) x m
+    let rows : classesFit p ≡ true = answered-classes p l e in
+    run-never p fine rows us (freshTables p) (l .heap) (begun p l) (ap (λ (r : Result). r .lent) (set-up-is p l f rows)) (set-up-fits p fine rows l f) x m

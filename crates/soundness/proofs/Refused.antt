@@ -19,12 +19,13 @@ use Rattle.model.specs.Params.{goodParams, Lent, fits, wordCount, heapBytes, st
 use Rattle.model.specs.Memory.{load}
 use Rattle.model.specs.Tables.{Words, Tables, tablesOf, view, flat, setFree, setSize, setTls}
 use Rattle.model.specs.SizeClasses.{binOf, raised, cellBytes}
+use Rattle.model.specs.Classes.{classesFit}
 use Rattle.model.specs.BlockList.{blocksOn, push}
 use Rattle.model.specs.Block.{initChain, initBlock, linkAll}
 use Rattle.model.specs.Events.{Event, initialised, eventHeap, eventsHeap}
 use Rattle.model.specs.FreeListAllocator.{Found, Search, inFound, acquireFresh, findBlock}
 use Rattle.model.specs.Sound.{linkOk, sound}
-use Rattle.model.specs.Calls.{refusalNumber, Call, bind, destroy, alloc, prepare, mark, release, sharedRelease, Plan, refuses, changes, goodOffer, takePlan, releasePlan, callTests, planPassed, planSound, plan, Step, takeCell, finish, step, Result, tablesIn, lentOf, resultFrom, badSetup, call, setUp}
+use Rattle.model.specs.Calls.{refusalNumber, Call, bind, destroy, alloc, prepare, mark, release, sharedRelease, Plan, refuses, changes, goodOffer, takePlan, releasePlan, callTests, planPassed, planSound, plan, Step, takeCell, finish, step, Result, tablesIn, lentOf, resultFrom, badSetup, badClasses, call, setUp}
 use Rattle.model.specs.Refusals.{PassedOver, Unmoved, TakenOver, SearchKeeps, KeptExhausted, KeptBadLink, OfAlloc, Refused, RefusalKeeps, SetUpKeeps}
 use Rattle.laws.proofs.Below.{and-five}
 use Rattle.laws.proofs.Base.{if-cases, and-left, not-both}
@@ -32,7 +33,7 @@ use Rattle.laws.proofs.Good.{good}
 use Rattle.laws.proofs.Params.{Bounds, good-bounds, some-start, blockAt-start}
 use Rattle.laws.proofs.Stores.{set-at}
 use Rattle.laws.proofs.Tables.{Sized, sized-same, sized-view, flat-view, view-flat}
-use Rattle.laws.proofs.Classes.{chosen, fits-raised, cell-in-block, cellBytes-least}
+use Rattle.laws.proofs.Classes.{chosen, fits-raised}
 use Rattle.laws.proofs.Cells.{chain-in}
 use Rattle.laws.proofs.Frame.{links-refl, push-links}
 use Rattle.laws.proofs.Walks.{find-keeps}
@@ -124,7 +125,7 @@ module _ (p : Params) (l : Lent) where
 module _ (p : Params) (l : Lent) (B : Bounds p) (len : length (l .heap) ≡ heapBytes p)
     (H : GoodTables p (l .marks) (view (l .words)) (l .states))
     (h size align offset : ℕ) (offer : Offer) (lo : 1 ≤ h) (hi : h ≤ 8) (low : binOf p (raised p size align) < 49)
-    (room : cellBytes p (binOf p (raised p size align)) ≤ p .bytes) where
+    (word : 8 ≤ cellBytes p (binOf p (raised p size align))) (room : cellBytes p (binOf p (raised p size align)) ≤ p .bytes) where
   abbrev bin : ℕ
   bin = binOf p (raised p size align)
 
@@ -181,9 +182,6 @@ module _ (p : Params) (l : Lent) (B : Bounds p) (len : length (l .heap) ≡ heap
     abbrev s : ℕ
     s = cellBytes p bin
 
-    word : 8 ≤ s
-    word = cellBytes-least p {bin = bin} low
-
     abbrev u : Words
     u = push p (available (localSets h) bin) b (g .words)
 
@@ -230,7 +228,7 @@ module _ (p : Params) (l : Lent) (B : Bounds p) (len : length (l .heap) ≡ heap
 
 -- ---- every call
 
-module _ (p : Params) (l : Lent) (f : fits p l ≡ true) where
+module _ (p : Params) (l : Lent) (f : fits p l ≡ true) (rows : classesFit p ≡ true) where
   parts : (goodParams p ≡ true) × (length (l .words) ≡ wordCount p) × (length (l .states) ≡ p .blocks) × (length (l .heap) ≡ heapBytes p)
   unfolding fits
   parts =
@@ -260,9 +258,8 @@ module _ (p : Params) (l : Lent) (f : fits p l ≡ true) where
         let a = alloc-passed p (tablesIn l) h size align offset offer e in
         let P = bound-at w h (a .bound) in
         let f = fits-raised p size align (a .small) in
-        let n = chosen p (raised p size align) (omega (arith, f, B .bytes-high)) in
-        alloc-fine p l B (parts .3) H h size align offset offer (P .low) (P .high) (omega (arith, n .to))
-        (cell-in-block p (good p (parts .0)) (raised p size align) f) (a .offered)
+        let n = chosen p B rows (raised p size align) f in
+        alloc-fine p l B (parts .3) H h size align offset offer (P .low) (P .high) (omega (arith, n .to)) (n .word) (n .room) (a .offered)
     passed-fine prepare e = done p l prepare _ []
     passed-fine (mark place b) e = done p l (mark place b) _ _
     passed-fine (release h) e = λ z. absurd (z refl)
@@ -276,10 +273,15 @@ pub refusal-keeps : RefusalKeeps
 unfolding RefusalKeeps call step plan refusalNumber
 refusal-keeps p l c =
     if-cases (Ok p l c) (fits p l)
-    (λ f. if-cases (Fine p l c) (sound p (tablesIn l)) (λ s. plan-fine p l f s c)
-    (λ s. plain p l (parts p l f .1) c BadTables (λ q. omega (arith, q)) (λ q. omega (arith, q))))
+    (λ f. if-cases (Ok p l c) (classesFit p)
+    (λ k. if-cases (Fine p l c) (sound p (tablesIn l)) (λ s. plan-fine p l f k s c)
+    (λ s. plain p l (parts p l f k .1) c BadTables (λ q. omega (arith, q)) (λ q. omega (arith, q))))
+    (λ k z. record { values = refl; nothing = λ a b. refl; badLink = λ q. absurd (omega (arith, q)); exhausted = λ q. absurd (omega (arith, q)) }))
     (λ f z. record { values = refl; nothing = λ a b. refl; badLink = λ q. absurd (omega (arith, q)); exhausted = λ q. absurd (omega (arith, q)) })
 
 pub set-up-keeps : SetUpKeeps
 unfolding SetUpKeeps setUp
-set-up-keeps p l = if-cases (λ (r : Result). r .reply .number ≢ 0 → r ≡ badSetup l) (fits p l) (λ e z. absurd (z refl)) (λ e z. refl)
+set-up-keeps p l = if-cases Left (fits p l) (λ e. if-cases Left (classesFit p) (λ k z. absurd (z refl)) (λ k z. inr refl)) (λ e z. inl refl)
+  where
+    Left : Result → Type 0
+    Left r = r .reply .number ≢ 0 → (r ≡ badSetup l) ⊎ (r ≡ badClasses l)

@@ -18,6 +18,7 @@ use Rattle.model.specs.declared.Tested.the-variants.{Passed}
 use Rattle.model.specs.Base.{filter, flag, sumBelow}
 use Rattle.model.specs.Params.{goodParams, Lent, fits, wordCount, heapBytes, localSets}
 use Rattle.model.specs.Tables.{Words, view, tablesOf, setBound, setPhase, setReleased}
+use Rattle.model.specs.Classes.{classesFit}
 use Rattle.model.specs.BlockList.{blocksOn}
 use Rattle.model.specs.Events.{Event, released, eventsHeap, isRelease, releases}
 use Rattle.model.specs.Global.{abandonBlocks, abandonedBlocks, destroyHolder, Freed, freed, releaseBlocks, appendTo, isBound, releaseHolder, sweepLater, partReleased, merged}
@@ -218,9 +219,11 @@ module _ (p : Params) (l : Lent) where
     unfolding call step plan refusalNumber
     call-counts c h =
         if-cases (Counts v) (fits p l)
-        (λ e. if-cases (Planned v) (sound p (tablesIn l))
+        (λ e. if-cases (Counts v) (classesFit p)
+        (λ k. if-cases (Planned v) (sound p (tablesIn l))
         (λ s. plan-cases (Planned v) p (tablesIn l) c (λ r b. refused-counts v r (λ z. omega (arith, z, b .from))) (h e s))
         (λ s. refused-counts v BadTables (λ z. omega (arith, z))))
+        (λ k z. absurd (omega (arith, z))))
         (λ e z. absurd (omega (arith, z)))
 
     destroy-counts : (h : ℕ) → (fits p l ≡ true → sound p (tablesIn l) ≡ true → isBound w h ≡ true → Planned v (destroyed h)) → Counts v (call p l (destroy h))

@@ -25,7 +25,6 @@ use Rattle.model.specs.Refusals.{OnList, searches, HadNone, Unmoved, TakenOver,
 use Rattle.laws.proofs.Base.{if-cases, not-both, or-left, or-right}
 use Rattle.laws.proofs.Params.{Bounds, blockAt-start, word-same}
 use Rattle.laws.proofs.Stores.{set-at, set-off}
-use Rattle.laws.proofs.Classes.{cellBytes-least}
 use Rattle.laws.proofs.Cells.{Whole, whole-isCell, whole-nonzero, in-chain, desc-less, desc-cellsDown, chainStands, stands-linkAll, whole-placed}
 use Rattle.laws.proofs.Walks.{Numbered, available-numbered, unswept-numbered, Files, Steps}
 use Rattle.laws.proofs.Tables.{Sized, lengths, sized-same, lengths-setFree, lengths-setTls}
@@ -388,7 +387,7 @@ module _ (p : Params) (B : Bounds p) (st ms : List ℕ) (h bin : ℕ) (lo : 1 �
       v = sweptWords p ms y u
 
       word : 8 ≤ s
-      word = rw (ap (λ (x : List ℕ). getD x y 0) z, fit .size) (cellBytes-least p {bin = l % 49} (omega arith))
+      word = rw (ap (λ (x : List ℕ). getD x y 0) z) (fit .word)
 
       T′ : Tweaked y u₁ v
       unfolding sweptWords

@@ -73,6 +73,7 @@ module _ (p : Params) where
           known = known-by (tablesOf w′ st′ ms′) b (S .known b o (known-as t b (F .known) o));
           bin = F .bin;
           size = words-stay b .size ∙ F .size;
+          word = rw (words-stay b .size) (F .word);
           free = rw (words-stay b .size, words-stay b .free) (F .free);
           holder = rw (words-stay b .tls) (F .holder);
           local = λ k. words-stay b .tls ∙ F .local k;

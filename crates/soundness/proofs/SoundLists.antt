@@ -7,9 +7,9 @@ use mathlib.Core.List.{List, [], _∷_}
 use Prim.Native.Nat.{ℕ, zero, suc, _+_, _-_, _/_, _%_, _≤_, _<_}
 use native.Mathlib.Omega.{arith}
 use native.Mathlib.Decide.{ℕ-discrete}
-use lib.Dec.{eqb, leb}
+use lib.Dec.{eqb, ltb, leb}
 use lib.ListN.{length, getD}
-use borrow.Author.Tests.{eqb-true, eqb-false, leb-true, leb-false, eq-eqb, ne-eqb, le-leb, not-true}
+use borrow.Author.Tests.{eqb-true, eqb-false, ltb-true, leb-true, leb-false, eq-eqb, ne-eqb, lt-ltb, le-leb, not-true}
 use Rattle.model.specs.declared.Params.{Params}
 use Rattle.model.specs.Base.{allBelow, In, member}
 use Rattle.model.specs.Params.{start, blockAt, isStart, listWord, lists}
@@ -21,6 +21,7 @@ use Rattle.model.specs.Global.{isHolder}
 use Rattle.model.specs.Sound.{stateOf, stateKnown, blockClear, listNamed, binNamed, setNamed, onListNamed, sizeOk, linkOk, tlsOk, blockSound, linkedFrom, linked, unboundEmpty, inGcEmpty, phaseKnown, flagsKnown, releasedFew, releasedSome, releasedEmpty, sound}
 use Rattle.laws.proofs.Base.{and-left, and-right, or-cases, all-below, below-all, in-member, member-in}
 use Rattle.laws.proofs.Below.{true-not-false, and-both, and-three, and-five, and-seven}
+use Rattle.laws.proofs.Classes.{cellBytes-some}
 use Rattle.laws.proofs.Params.{Bounds, start-pos, start-blockAt, blockAt-start, blockAt-isStart, isStart-start}
 use Rattle.laws.proofs.Linked.{linked-end, linked-long, linked-on, walk-end, walk-on}
 use Rattle.soundness.proofs.Lists.{Seg, Lists, AllOn, seg-short, on-list}
@@ -123,6 +124,7 @@ pub record Fit (p : Params) (t : Tables) (l b : ℕ) : Type 0 where
   pub known : stateKnown t b ≡ true
   pub bin : 1 ≤ l % 49
   pub size : getD (t .words .size) b 0 ≡ cellBytes p (l % 49)
+  pub word : 8 ≤ getD (t .words .size) b 0
   pub free : linkOk p (t .words) b (getD (t .words .free) b 0) ≡ true
   pub holder : isHolder (getD (t .words .tls) b 0) ≡ true
   pub local : l < 1176 → getD (t .words .tls) b 0 ≡ l / 49 / 3 + 1
@@ -141,12 +143,15 @@ module _ (p : Params) (t : Tables) (l b : ℕ) (named : listNamed (t .words) b �
   unfolding sizeOk tlsOk binNamed setNamed
   parts-fit P =
       let w : Words = t .words in
-      let z = rw named at (P .size) in
+      let s : ℕ = getD (w .size) b 0 in
+      let z = and-three (leb 1 (l % 49)) (ltb 0 s) (eqb s (cellBytes p (l % 49))) (rw named at (P .size)) in
+      let size : s ≡ cellBytes p (l % 49) = eqb-true _ _ (z .2) in
       let v = rw named at (P .tls) in
       record {
         known = P .known;
-        bin = leb-true 1 (l % 49) (and-left (leb 1 (l % 49)) (eqb (getD (w .size) b 0) (cellBytes p (l % 49))) z);
-        size = eqb-true _ _ (and-right (leb 1 (l % 49)) (eqb (getD (w .size) b 0) (cellBytes p (l % 49))) z);
+        bin = leb-true 1 (l % 49) (z .0);
+        size = size;
+        word = rw size (cellBytes-some p (l % 49) (rw size at (ltb-true 0 s (z .1))));
         free = P .free;
         holder = and-left (isHolder (getD (w .tls) b 0)) (leb 24 (l / 49) || eqb (getD (w .tls) b 0) (l / 49 / 3 + 1)) v;
         local = λ h.
@@ -158,7 +163,7 @@ module _ (p : Params) (t : Tables) (l b : ℕ) (named : listNamed (t .words) b �
   -- Fit passes the test of sizes
   fit-size : Fit p t l b → sizeOk p (t .words) b ≡ true
   unfolding sizeOk binNamed
-  fit-size F = rw named (and-both (le-leb 1 (l % 49) (F .bin)) (eq-eqb _ _ (F .size)))
+  fit-size F = rw named (and-both (and-both (le-leb 1 (l % 49) (F .bin)) (lt-ltb 0 (getD (t .words .size) b 0) (omega (arith, F .word)))) (eq-eqb _ _ (F .size)))
 
   -- Fit passes the test of holders
   fit-tls : Fit p t l b → tlsOk (t .words) b ≡ true

@@ -11,24 +11,25 @@ use native.Mathlib.Nat.{pow-suc, suc-mul, div-mul-le-self, div-le-of-le-mul}
 use native.Mathlib.Omega.{arith}
 use lib.Dec.{eqb, ltb, leb}
 use lib.ListN.{length, getD, take, length-append, length-take}
-use borrow.Author.Tests.{lt-ltb, leb-true, eqb-true, eq-eqb}
+use borrow.Author.Tests.{lt-ltb, ltb-true, leb-true, eqb-true, eq-eqb}
 use Rattle.model.specs.declared.Refusal.{Refusal}
-use Rattle.model.specs.declared.Refusal.the-variants.{BadSetup, BadTables, WrongPhase, BadHolder, BadRequest, TooBig, BadOffer, BadLink, Exhausted, BadObject, BadLine}
+use Rattle.model.specs.declared.Refusal.the-variants.{BadSetup, BadTables, WrongPhase, BadHolder, BadRequest, TooBig, BadOffer, BadLink, Exhausted, BadObject, BadLine, BadClasses}
 use Rattle.model.specs.Base.{filter, In}
 use Rattle.model.specs.Params.{Lent, heapBytes, fits, start}
 use Rattle.model.specs.Memory.{load, marked}
 use Rattle.model.specs.Tables.{Tables, tablesOf, view, flat}
 use Rattle.model.specs.SizeClasses.{cellBytes}
+use Rattle.model.specs.Classes.{classesFit}
 use Rattle.model.specs.Block.{cellCount, isCell, cellsDown, keeps, sweepChain, chainFrom, freeChain}
 use Rattle.model.specs.Global.{Marking, freshWords, freshTables}
 use Rattle.model.specs.Sound.{stateOf, binNamed, sizeOk, sound}
 use Rattle.model.specs.Calls.{refusalNumber, Call, says, step, Result, tablesIn, call, setUp}
 use Rattle.model.specs.Census.{digits, decimal, spaced, section, RefusedLine, refusedRow, upTo, occupied, blockRow, awaitsSweep, printedChain, freeRows, freeSection, censusParams, linesOf, Ran, runLines, lineResult, lineOf, pieces, newline, space, dropBlankEnd, censusLent, listing, census}
 use Rattle.laws.proofs.Base.{if-cases, and-right, in-append, in-filter}
-use Rattle.laws.proofs.Below.{true-not-false}
+use Rattle.laws.proofs.Below.{true-not-false, and-three}
 use Rattle.laws.proofs.Params.{Bounds, good-bounds, start-in}
 use Rattle.laws.proofs.Tables.{view-flat}
-use Rattle.laws.proofs.Classes.{cellBytes-least}
+use Rattle.laws.proofs.Classes.{cellBytes-some}
 use Rattle.listing.proofs.SectionsLaws.{fine, flatten-append}
 use Rattle.soundness.proofs.SoundLists.{sound-parts, block-parts}
 use Rattle.soundness.proofs.Replies.{fair-reply, bad-reply}
@@ -125,7 +126,7 @@ section-few name rows =
 -- ---- refused lines
 
 -- a refusal's number has two digits
-refusal-few : (r : Refusal) → refusalNumber r ≤ 11
+refusal-few : (r : Refusal) → refusalNumber r ≤ 12
 unfolding refusalNumber
 refusal-few BadSetup = omega arith
 refusal-few BadTables = omega arith
@@ -138,20 +139,23 @@ refusal-few BadLink = omega arith
 refusal-few Exhausted = omega arith
 refusal-few BadObject = omega arith
 refusal-few BadLine = omega arith
+refusal-few BadClasses = omega arith
 
 -- each call's number
-step-says : (t : Tables) (h : List ℕ) (c : Call) → step censusParams t h c .reply .number ≤ 11
+step-says : (t : Tables) (h : List ℕ) (c : Call) → step censusParams t h c .reply .number ≤ 12
 step-says t h c = go (sound censusParams t) refl
   where
-    go : (b : Bool) → sound censusParams t ≡ b → step censusParams t h c .reply .number ≤ 11
+    go : (b : Bool) → sound censusParams t ≡ b → step censusParams t h c .reply .number ≤ 12
     go true e = omega (arith, fair-reply censusParams t h c e .0)
     go false e = rw (bad-reply censusParams t h c e) (refusal-few BadTables)
 
 -- each line, a bad one too
-line-says : (l : Lent) (o : Option Call) → lineResult l o .reply .number ≤ 11
+line-says : (l : Lent) (o : Option Call) → lineResult l o .reply .number ≤ 12
 unfolding lineResult call
 line-says l (some c) =
-    if-cases (λ (r : Result). r .reply .number ≤ 11) (fits censusParams l) (λ e. step-says (tablesIn l) (l .heap) c) (λ e. refusal-few BadSetup)
+    if-cases (λ (r : Result). r .reply .number ≤ 12) (fits censusParams l)
+    (λ e. if-cases (λ (r : Result). r .reply .number ≤ 12) (classesFit censusParams) (λ k. step-says (tablesIn l) (l .heap) c) (λ k. refusal-few BadClasses))
+    (λ e. refusal-few BadSetup)
 line-says l none = refusal-few BadLine
 
 -- the rows of the lines from number i on, whose numbers have at most 3 digits
@@ -186,7 +190,8 @@ lent-sound t K = rw (view-flat (censusParams .blocks) (t .words) (K .sized)) K
 set-up-sound : Sound (setUp censusParams censusLent .lent)
 unfolding setUp censusLent freshTables freshWords heapBytes censusParams
 set-up-sound =
-    if-cases (λ (r : Result). Sound (r .lent)) (fits censusParams censusLent) (λ e. lent-sound _ (fresh-kept censusParams B))
+    if-cases (λ (r : Result). Sound (r .lent)) (fits censusParams censusLent)
+    (λ e. if-cases (λ (r : Result). Sound (r .lent)) (classesFit censusParams) (λ k. lent-sound _ (fresh-kept censusParams B)) (λ k. fresh-kept censusParams B))
     (λ e. fresh-kept censusParams B)
 
 -- after a line. Where the lengths do not fit, nothing is changed
@@ -194,7 +199,9 @@ line-sound : (l : Lent) (o : Option Call) → Sound l → Sound (lineResult l o 
 unfolding lineResult call
 line-sound l (some c) K =
     if-cases (λ (r : Result). Sound (r .lent)) (fits censusParams l)
-    (λ e. lent-sound _ (step-kept censusParams B (tablesIn l) (l .heap) c K)) (λ e. K)
+    (λ e. if-cases (λ (r : Result). Sound (r .lent)) (classesFit censusParams)
+    (λ k. lent-sound _ (step-kept censusParams B k (tablesIn l) (l .heap) c K)) (λ k. K))
+    (λ e. K)
 line-sound l none K = K
 
 -- after all lines
@@ -243,8 +250,9 @@ occupied-size t b K i =
     let bin : ℕ = binNamed (t .words) b in
     let low : b < censusParams .blocks = unfold censusParams in (occupied-low t b i) in
     let ok = block-parts censusParams t b (sound-parts censusParams t (K .passes) .blocks b low) (occupied-state t b i) .size in
-    let is : s ≡ cellBytes censusParams bin = eqb-true s (cellBytes censusParams bin) (and-right (leb 1 bin) (eqb s (cellBytes censusParams bin)) ok) in
-    rw is (cellBytes-least censusParams (omega arith))
+    let q = and-three (leb 1 bin) (ltb 0 s) (eqb s (cellBytes censusParams bin)) ok in
+    let is : s ≡ cellBytes censusParams bin = eqb-true s (cellBytes censusParams bin) (q .2) in
+    rw is (cellBytes-some censusParams bin (rw is at (ltb-true 0 s (q .1))))
 
 -- ---- their free cells
 

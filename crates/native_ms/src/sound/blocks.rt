@@ -13,10 +13,10 @@ ghost use Prim.Native.Nat.{_+_, _*_, _<_};
 ghost use lib.ListN.{length};
 ghost use Rattle.model.specs.Params.{headWords, blockTables};
 ghost use Rattle.model.specs.Tables.{view};
-ghost use Rattle.model.specs.SizeClasses.{classWords};
 ghost use Rattle.model.specs.Sound.{blockClear, listNamed, sizeOk, tlsOk};
 ghost use Rattle.native_ms.specs.SoundWalk.{inUse, namesList, blockFits, unusedIfFit};
 ghost use Rattle.native_ms.specs.SoundLent.{Lengths};
+ghost use Rattle.native_ms.specs.Borders.{Sizes};
 
 fn block_clear(words: &[usize], blocks: usize, b: Block) -> bool
     requires { ⌜ (length (now words) ≡ headWords + blockTables * blocks) × (b .0 < blocks) ⌝ }
@@ -65,7 +65,7 @@ fn list_named(words: &[usize], blocks: usize, b: Block) -> usize
 
 // The class sizes are lent: a constant array would be built anew for each block.
 fn size_ok(p: Params, words: &[usize], b: Block, classes: &[usize; BINS]) -> bool
-    requires { ⌜ (length (now words) ≡ headWords + blockTables * p .blocks) × (b .0 < p .blocks) × (now classes ≡ classWords) ⌝ }
+    requires { ⌜ (length (now words) ≡ headWords + blockTables * p .blocks) × (b .0 < p .blocks) × (Sizes p (now classes)) ⌝ }
     ensures { λ r. ⌜ r ≡ sizeOk p (view (now (words .entry))) (b .0) ⌝ }
 {
     let blocks = p.blocks;
@@ -75,6 +75,9 @@ fn size_ok(p: Params, words: &[usize], b: Block, classes: &[usize; BINS]) -> boo
         return false;
     }
     let size = known::size(words, blocks, b);
+    if size == 0 {
+        return false;
+    }
     size == classes[bin] * 8
 }
 
@@ -96,7 +99,7 @@ fn tls_ok(words: &[usize], blocks: usize, b: Block) -> bool
 
 // The block by itself.
 fn block_fits(p: Params, words: &[usize], states: &[u8], b: Block, classes: &[usize; BINS]) -> bool
-    requires { ⌜ (Lengths p (now words) (now states)) × (b .0 < p .blocks) × (now classes ≡ classWords) ⌝ }
+    requires { ⌜ (Lengths p (now words) (now states)) × (b .0 < p .blocks) × (Sizes p (now classes)) ⌝ }
     ensures { λ r. ⌜ r ≡ blockFits p (view (now (words .entry))) (now (states .entry)) (b .0) ⌝ }
 {
     let blocks = p.blocks;
@@ -123,7 +126,7 @@ fn block_fits(p: Params, words: &[usize], states: &[u8], b: Block, classes: &[us
 
 // How many blocks are Unallocated, if each fits.
 pub(crate) fn unused(p: Params, words: &[usize], states: &[u8], classes: &[usize; BINS]) -> Walked
-    requires { ⌜ (Lengths p (now words) (now states)) × (now classes ≡ classWords) ⌝ }
+    requires { ⌜ (Lengths p (now words) (now states)) × (Sizes p (now classes)) ⌝ }
     ensures { λ r. ⌜ r ≡ unusedIfFit p (view (now (words .entry))) (now (states .entry)) ⌝ }
 {
     let mut unused: usize = 0;

@@ -9,6 +9,9 @@ Inv-loop input₀ line₀ o₀ w₀ st₀ marks₀ heap₀ r₀ turns₀ input l
 abbrev μ-loop : tie.MeasureT-loop
 μ-loop input₀ line₀ o₀ w₀ st₀ marks₀ heap₀ r₀ turns₀ input line o w st marks heap r turns = turns
 
+no-params-requires : tie.Need-no-params-requires Inv-loop μ-loop
+no-params-requires c κs = search needs
+
 no-space-requires : tie.Need-no-space-requires Inv-loop μ-loop
 no-space-requires c κs = search needs
 
@@ -42,6 +45,7 @@ drive-spec =
     (tie.spec
     Inv-loop
     μ-loop
+    no-params-requires
     no-space-requires
     loop-holds
     finish-requires

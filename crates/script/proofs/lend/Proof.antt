@@ -20,17 +20,8 @@ least-requires-3 c κs = search needs
 least-requires-4 : tie.Need-least-requires-4
 least-requires-4 c κs = search needs
 
-slice-reshare-prefix-beyond : tie.Need-slice-reshare-prefix-beyond
-slice-reshare-prefix-beyond c = search needs
-
-slice-aggregate-beyond : tie.Need-slice-aggregate-beyond
-slice-aggregate-beyond c = sym (length-take-le _ _ (search needs))
-
 beyond-requires : tie.Need-beyond-requires
 beyond-requires c κs = search needs
-
-same-length : tie.Need-same-length
-same-length c = search needs
 
 returns : tie.Need-returns
 returns c = search needs
@@ -62,6 +53,9 @@ slice-aggregate-lent-4 c = sym (length-take-le _ _ (search needs))
 lent-requires : tie.Need-lent-requires
 lent-requires c κs = search needs
 
+same-length : tie.Need-same-length
+same-length c = search needs
+
 same-length-2 : tie.Need-same-length-2
 same-length-2 c = search needs
 
@@ -70,9 +64,6 @@ same-length-3 c = search needs
 
 same-length-4 : tie.Need-same-length-4
 same-length-4 c = search needs
-
-same-length-5 : tie.Need-same-length-5
-same-length-5 c = search needs
 
 returns-2 : tie.Need-returns-2
 returns-2 c = search needs
@@ -86,10 +77,7 @@ lend-spec =
     least-requires-2
     least-requires-3
     least-requires-4
-    slice-reshare-prefix-beyond
-    slice-aggregate-beyond
     beyond-requires
-    same-length
     returns
     slice-relend-prefix-lent
     slice-aggregate-lent
@@ -100,8 +88,8 @@ lend-spec =
     slice-relend-prefix-lent-4
     slice-aggregate-lent-4
     lent-requires
+    same-length
     same-length-2
     same-length-3
     same-length-4
-    same-length-5
     returns-2)

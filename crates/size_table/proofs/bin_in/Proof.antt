@@ -8,10 +8,10 @@ shared-slice-read-result : tie.Need-shared-slice-read-result
 shared-slice-read-result c = search needs
 
 returns : tie.Need-returns
-returns c = λ p e. held-at p _ _ e (c .before .if1 .taken)
+returns c = λ e. held-at _ _ e (c .before .if1 .taken)
 
 returns-2 : tie.Need-returns-2
-returns-2 c = λ p e. held-past p _ _ e (c .if1 .left)
+returns-2 c = λ e. held-past _ _ e (c .if1 .left)
 
 pub bin-in-spec : {M : Type 1} → statement M
 bin-in-spec = tie.close (tie.spec shared-slice-read-result returns returns-2)

@@ -12,9 +12,9 @@ slice-aggregate-bin-in c = search needs
 bin-in-requires : tie.Need-bin-in-requires
 bin-in-requires c κs = search needs
 
---@ returns c = λ p. @bin-in .ensures p (@bin-table .ensures p)
+--@ returns c = @bin-in .ensures (@bin-table .ensures)
 returns : tie.Need-returns
-returns c = λ p. c .bin-in .ensures p (c .before .before .bin-table .ensures p)
+returns c = c .bin-in .ensures (c .before .before .bin-table .ensures)
 
 pub bin-of-words-spec : {M : Type 1} → statement M
 bin-of-words-spec = tie.close (tie.spec bin-table-requires slice-aggregate-bin-in bin-in-requires returns)

@@ -2,13 +2,13 @@
 -- one computation; no entry is written a second time.
 use mathlib.Core.Path.{refl}
 use lib.Count.{leadingZeros}
-use Rattle.model.specs.SizeClasses.{binOf, wordsIn, highestBit, binInOctave, binOfWords, tabulated, binTable}
+use Rattle.model.specs.SizeClasses.{miBin, wordsIn, highestBit, binInOctave, binOfWords, tabulated, binTable}
 use Rattle.size_table.proofs.bin_table.Statement.{statement}
 use Rattle.size_table.proofs.bin_table.Tie as tie
 
 returns : tie.Need-returns
-unfolding binTable binOfWords tabulated binOf wordsIn binInOctave highestBit leadingZeros
-returns c = λ p. refl
+unfolding binTable binOfWords tabulated miBin wordsIn binInOctave highestBit leadingZeros
+returns c = refl
 
 pub bin-table-spec : {M : Type 1} → statement M
 bin-table-spec = tie.close (tie.spec returns)

@@ -28,7 +28,7 @@ same-length-5 c = search needs
 --@ returns c = rw (toZ-ofZ w64 (@args .lower) (@fits .lower)) at (@export .ensures)
 returns : tie.Need-returns
 unfolding innerOf callOf
-returns c = rw (toZ-ofZ w64 (c .before .before .before .before .before .before .before .before .before .before .before .before .before .before .before .before .before .before .before .before .before .args .lower) (c .before .before .before .before .before .before .before .before .before .before .before .before .before .before .before .before .before .before .before .before .before .fits .lower)) at (c .before .before .before .before .before .before .before .before .before .before .export .ensures)
+returns c = rw (toZ-ofZ w64 (c .before .before .before .before .before .before .before .before .before .before .before .before .before .before .before .before .before .before .before .before .before .before .args .lower) (c .before .before .before .before .before .before .before .before .before .before .before .before .before .before .before .before .before .before .before .before .before .before .fits .lower)) at (c .before .before .before .before .before .before .before .before .before .before .export .ensures)
 
 pub native-ms-bind-spec : {M : Type 1} → statement M
 native-ms-bind-spec =

@@ -27,7 +27,7 @@ same-length-5 c = search needs
 --@ returns c = rw (toZ-ofZ w64 (@args .lower) (@fits .lower)) at (@export .ensures)
 returns : tie.Need-returns
 unfolding innerOf
-returns c = rw (toZ-ofZ w64 (c .before .before .before .before .before .before .before .before .before .before .before .before .before .before .before .before .before .before .before .before .before .args .lower) (c .before .before .before .before .before .before .before .before .before .before .before .before .before .before .before .before .before .before .before .before .before .fits .lower)) at (c .before .before .before .before .before .before .before .before .before .before .export .ensures)
+returns c = rw (toZ-ofZ w64 (c .before .before .before .before .before .before .before .before .before .before .before .before .before .before .before .before .before .before .before .before .before .before .args .lower) (c .before .before .before .before .before .before .before .before .before .before .before .before .before .before .before .before .before .before .before .before .before .before .fits .lower)) at (c .before .before .before .before .before .before .before .before .before .before .export .ensures)
 
 pub native-ms-set-up-spec : {M : Type 1} → statement M
 native-ms-set-up-spec =

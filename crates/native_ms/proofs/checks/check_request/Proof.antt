@@ -30,16 +30,16 @@ good-offer-requires c κs = c .before .before .before .before .before .before .b
 returns-2 : tie.Need-returns-2
 returns-2 c = λ w m. check-offer _ w _ m _ _ _ _ (c .before .before .before .before .before .before .before .good-request .ensures) (not-false _ (c .before .before .before .before .before .before .if1 .left)) (c .before .before .before .before .before .get-maximum-aligned-size .ensures) (c .before .before .before .size .given .1) (c .before .good-offer .ensures) (not-true _ (c .if2 .taken))
 
-mi-bin-from-size-requires : tie.Need-mi-bin-from-size-requires
-mi-bin-from-size-requires c κs = tt
+bin-of-requires : tie.Need-bin-of-requires
+bin-of-requires c κs = tt
 
 --@ returns-3 c = λ w m. check-size _ w _ m _ _ _ _ (@good-request .ensures) (not-false _ (@if1 .left)) (@get-maximum-aligned-size .ensures) (@enum-told .given .1)
 returns-3 : tie.Need-returns-3
 returns-3 c = λ w m. check-size _ w _ m _ _ _ _ (c .before .before .before .before .good-request .ensures) (not-false _ (c .before .before .before .if1 .left)) (c .before .before .get-maximum-aligned-size .ensures) (c .enum-told .given .1)
 
---@ returns-4 c = λ w m. check-bin _ w _ m _ _ _ _ (@good-request .ensures) (not-false _ (@if1 .left)) (@get-maximum-aligned-size .ensures) (@size .given .1) (@good-offer .ensures) (not-false _ (@if2 .left)) (@mi-bin-from-size .ensures)
+--@ returns-4 c = λ w m. check-bin _ w _ m _ _ _ _ (@good-request .ensures) (not-false _ (@if1 .left)) (@get-maximum-aligned-size .ensures) (@size .given .1) (@good-offer .ensures) (not-false _ (@if2 .left)) (@bin-of .ensures)
 returns-4 : tie.Need-returns-4
-returns-4 c = λ w m. check-bin _ w _ m _ _ _ _ (c .before .before .before .before .before .before .before .before .good-request .ensures) (not-false _ (c .before .before .before .before .before .before .before .if1 .left)) (c .before .before .before .before .before .before .get-maximum-aligned-size .ensures) (c .before .before .before .before .size .given .1) (c .before .before .good-offer .ensures) (not-false _ (c .before .if2 .left)) (c .mi-bin-from-size .ensures)
+returns-4 c = λ w m. check-bin _ w _ m _ _ _ _ (c .before .before .before .before .before .before .before .before .good-request .ensures) (not-false _ (c .before .before .before .before .before .before .before .if1 .left)) (c .before .before .before .before .before .before .get-maximum-aligned-size .ensures) (c .before .before .before .before .size .given .1) (c .before .before .good-offer .ensures) (not-false _ (c .before .if2 .left)) (c .bin-of .ensures)
 
 pub check-request-spec : {M : Type 1} → statement M
 check-request-spec =
@@ -52,6 +52,6 @@ check-request-spec =
     enum-known-size
     good-offer-requires
     returns-2
-    mi-bin-from-size-requires
+    bin-of-requires
     returns-3
     returns-4)

@@ -3,7 +3,6 @@ use mathlib.Core.Path.{_∙_}
 use Rattle.native_ms.proofs.Search.{sets-low}
 use Rattle.native_ms.proofs.Ending.{freshened}
 use native.Mathlib.Omega.{arith}
-use Rattle.laws.proofs.Classes.{cellBytes-least}
 use Rattle.native_ms.proofs.Offsets.{standing-on}
 use Rattle.native_ms.proofs.free_list_allocator.acquire_fresh.Statement.{statement}
 use Rattle.native_ms.proofs.free_list_allocator.acquire_fresh.Tie as tie
@@ -16,16 +15,17 @@ local-sets-requires c κs = (c .before .before .before .pre .1, c .before .befor
 available-requires : tie.Need-available-requires
 available-requires c κs = (sets-low _ (c .before .before .before .before .pre .2) (c .local-sets .ensures), c .before .before .before .before .pre .3)
 
-class-bytes-requires : tie.Need-class-bytes-requires
-class-bytes-requires c κs = tt
+--@ cell-bytes-requires c κs = (@pre .3, @pre .4 .most)
+cell-bytes-requires : tie.Need-cell-bytes-requires
+cell-bytes-requires c κs = (c .before .before .before .before .before .pre .3, c .before .before .before .before .before .pre .4 .most)
 
 --@ push-requires c κs = (@pre .0 .good, @available .ensures .low)
 push-requires : tie.Need-push-requires
 push-requires c κs = (c .before .before .before .before .before .before .before .pre .0 .good, c .before .before .available .ensures .low)
 
---@ init-block-requires c κs = (standing-on _ (@pre .0) (@push .kept .1 .0), omega (arith, @class-bytes .ensures (@args .p), cellBytes-least (@args .p) (@pre .3)))
+--@ init-block-requires c κs = (standing-on _ (@pre .0) (@push .kept .1 .0), omega (arith, @cell-bytes .ensures, @pre .4 .word))
 init-block-requires : tie.Need-init-block-requires
-init-block-requires c κs = (standing-on _ (c .before .before .before .before .before .before .before .before .before .before .before .before .pre .0) (c .before .before .before .before .push .kept .1 .0), omega (arith, c .before .before .before .before .before .before .class-bytes .ensures (c .before .before .before .before .before .before .before .before .before .before .before .before .args .p), cellBytes-least (c .before .before .before .before .before .before .before .before .before .before .before .before .args .p) (c .before .before .before .before .before .before .before .before .before .before .before .before .pre .3)))
+init-block-requires c κs = (standing-on _ (c .before .before .before .before .before .before .before .before .before .before .before .before .pre .0) (c .before .before .before .before .push .kept .1 .0), omega (arith, c .before .before .before .before .before .before .cell-bytes .ensures, c .before .before .before .before .before .before .before .before .before .before .before .before .pre .4 .word))
 
 set-state-requires : tie.Need-set-state-requires
 set-state-requires c κs = tt
@@ -42,9 +42,9 @@ same-length-2 c = c .before .before .set-state .kept .0
 same-length-3 : tie.Need-same-length-3
 same-length-3 c = c .before .before .before .before .before .before .before .before .init-block .kept .1 .1 .0
 
---@ returns c = freshened _ _ _ _ _ _ _ (@local-sets .ensures) (@available .ensures .same) (@class-bytes .ensures (@args .p)) (@push .ensures) (@init-block .ensures) (@set-state .ensures)
+--@ returns c = freshened _ _ _ _ _ _ _ (@local-sets .ensures) (@available .ensures .same) (@cell-bytes .ensures) (@push .ensures) (@init-block .ensures) (@set-state .ensures)
 returns : tie.Need-returns
-returns c = freshened _ _ _ _ _ _ _ (c .before .before .before .before .before .before .before .before .before .before .before .before .before .before .before .before .before .local-sets .ensures) (c .before .before .before .before .before .before .before .before .before .before .before .before .before .before .before .before .available .ensures .same) (c .before .before .before .before .before .before .before .before .before .before .before .before .before .before .before .class-bytes .ensures (c .before .before .before .before .before .before .before .before .before .before .before .before .before .before .before .before .before .before .before .before .before .args .p)) (c .before .before .before .before .before .before .before .before .before .before .before .before .before .push .ensures) (c .before .before .before .before .before .before .before .before .init-block .ensures) (c .before .before .set-state .ensures)
+returns c = freshened _ _ _ _ _ _ _ (c .before .before .before .before .before .before .before .before .before .before .before .before .before .before .before .before .before .local-sets .ensures) (c .before .before .before .before .before .before .before .before .before .before .before .before .before .before .before .before .available .ensures .same) (c .before .before .before .before .before .before .before .before .before .before .before .before .before .before .before .cell-bytes .ensures) (c .before .before .before .before .before .before .before .before .before .before .before .before .before .push .ensures) (c .before .before .before .before .before .before .before .before .init-block .ensures) (c .before .before .set-state .ensures)
 
 pub acquire-fresh-spec : {M : Type 1} → statement M
 acquire-fresh-spec =
@@ -52,7 +52,7 @@ acquire-fresh-spec =
     (tie.spec
     local-sets-requires
     available-requires
-    class-bytes-requires
+    cell-bytes-requires
     push-requires
     init-block-requires
     set-state-requires

@@ -27,9 +27,9 @@ enum-told c = search needs
 enum-known-offer : tie.Need-enum-known-offer
 enum-known-offer c = search needs
 
---@ acquire-fresh-requires c κs = (known-standing _ _ (@pre .0) (@acquire-abandoned .kept .1 .0) (@acquire-abandoned .kept .1 .1 .1 .0) (@pre .5 .block _ (@offer .given .1)), @pre .1, @pre .2, @pre .3)
+--@ acquire-fresh-requires c κs = (known-standing _ _ (@pre .0) (@acquire-abandoned .kept .1 .0) (@acquire-abandoned .kept .1 .1 .1 .0) (@pre .5 .block _ (@offer .given .1)), @pre .1, @pre .2, @pre .3, @pre .5 .class)
 acquire-fresh-requires : tie.Need-acquire-fresh-requires
-acquire-fresh-requires c κs = (known-standing _ _ (c .before .before .before .before .before .before .before .before .before .before .before .before .before .before .before .before .before .before .before .pre .0) (c .before .before .before .before .before .before .before .before .before .before .before .before .acquire-abandoned .kept .1 .0) (c .before .before .before .before .before .before .before .before .before .before .before .before .acquire-abandoned .kept .1 .1 .1 .0) (c .before .before .before .before .before .before .before .before .before .before .before .before .before .before .before .before .before .before .before .pre .5 .block _ (c .before .before .before .before .offer .given .1)), c .before .before .before .before .before .before .before .before .before .before .before .before .before .before .before .before .before .before .before .pre .1, c .before .before .before .before .before .before .before .before .before .before .before .before .before .before .before .before .before .before .before .pre .2, c .before .before .before .before .before .before .before .before .before .before .before .before .before .before .before .before .before .before .before .pre .3)
+acquire-fresh-requires c κs = (known-standing _ _ (c .before .before .before .before .before .before .before .before .before .before .before .before .before .before .before .before .before .before .before .pre .0) (c .before .before .before .before .before .before .before .before .before .before .before .before .acquire-abandoned .kept .1 .0) (c .before .before .before .before .before .before .before .before .before .before .before .before .acquire-abandoned .kept .1 .1 .1 .0) (c .before .before .before .before .before .before .before .before .before .before .before .before .before .before .before .before .before .before .before .pre .5 .block _ (c .before .before .before .before .offer .given .1)), c .before .before .before .before .before .before .before .before .before .before .before .before .before .before .before .before .before .before .before .pre .1, c .before .before .before .before .before .before .before .before .before .before .before .before .before .before .before .before .before .before .before .pre .2, c .before .before .before .before .before .before .before .before .before .before .before .before .before .before .before .before .before .before .before .pre .3, c .before .before .before .before .before .before .before .before .before .before .before .before .before .before .before .before .before .before .before .pre .5 .class)
 
 --@ start-requires c κs = @pre .0 .good
 start-requires : tie.Need-start-requires

@@ -15,9 +15,9 @@ enum-known-r c = search needs
 enum-known-bin : tie.Need-enum-known-bin
 enum-known-bin c = search needs
 
---@ serve-requires c κs = (call-ready (@args .p) (@args .w .now) (@args .st .now) (@args .m .now) (@args .h .now) _ _ _ _ _ (@check-alloc .ensures) (@bin .given .1) (@pre), call-known (@args .p) (@args .w .now) (@args .st .now) (@args .m .now) (@args .h .now) _ _ _ _ _ (@check-alloc .ensures) (@bin .given .1) (@pre), call-offered (@args .p) (@args .w .now) (@args .st .now) (@args .m .now) (@args .h .now) _ _ _ _ _ (@check-alloc .ensures) (@bin .given .1))
+--@ serve-requires c κs = (call-ready (@args .p) (@args .w .now) (@args .st .now) (@args .m .now) (@args .h .now) _ _ _ _ _ (@check-alloc .ensures) (@bin .given .1) (@pre), call-known (@args .p) (@args .w .now) (@args .st .now) (@args .m .now) (@args .h .now) _ _ _ _ _ (@check-alloc .ensures) (@bin .given .1) (@pre), call-offered (@args .p) (@args .w .now) (@args .st .now) (@args .m .now) (@args .h .now) _ _ _ _ _ (@check-alloc .ensures) (@bin .given .1) (@pre))
 serve-requires : tie.Need-serve-requires
-serve-requires c κs = (call-ready (c .before .before .before .before .before .before .before .before .before .before .before .before .before .args .p) (c .before .before .before .before .before .before .before .before .before .before .before .before .before .args .w .now) (c .before .before .before .before .before .before .before .before .before .before .before .before .before .args .st .now) (c .before .before .before .before .before .before .before .before .before .before .before .before .before .args .m .now) (c .before .before .before .before .before .before .before .before .before .before .before .before .before .args .h .now) _ _ _ _ _ (c .before .before .before .before .before .before .check-alloc .ensures) (c .before .before .before .before .bin .given .1) ((c .before .before .before .before .before .before .before .before .before .before .before .before .before .pre)), call-known (c .before .before .before .before .before .before .before .before .before .before .before .before .before .args .p) (c .before .before .before .before .before .before .before .before .before .before .before .before .before .args .w .now) (c .before .before .before .before .before .before .before .before .before .before .before .before .before .args .st .now) (c .before .before .before .before .before .before .before .before .before .before .before .before .before .args .m .now) (c .before .before .before .before .before .before .before .before .before .before .before .before .before .args .h .now) _ _ _ _ _ (c .before .before .before .before .before .before .check-alloc .ensures) (c .before .before .before .before .bin .given .1) ((c .before .before .before .before .before .before .before .before .before .before .before .before .before .pre)), call-offered (c .before .before .before .before .before .before .before .before .before .before .before .before .before .args .p) (c .before .before .before .before .before .before .before .before .before .before .before .before .before .args .w .now) (c .before .before .before .before .before .before .before .before .before .before .before .before .before .args .st .now) (c .before .before .before .before .before .before .before .before .before .before .before .before .before .args .m .now) (c .before .before .before .before .before .before .before .before .before .before .before .before .before .args .h .now) _ _ _ _ _ (c .before .before .before .before .before .before .check-alloc .ensures) (c .before .before .before .before .bin .given .1))
+serve-requires c κs = (call-ready (c .before .before .before .before .before .before .before .before .before .before .before .before .before .args .p) (c .before .before .before .before .before .before .before .before .before .before .before .before .before .args .w .now) (c .before .before .before .before .before .before .before .before .before .before .before .before .before .args .st .now) (c .before .before .before .before .before .before .before .before .before .before .before .before .before .args .m .now) (c .before .before .before .before .before .before .before .before .before .before .before .before .before .args .h .now) _ _ _ _ _ (c .before .before .before .before .before .before .check-alloc .ensures) (c .before .before .before .before .bin .given .1) ((c .before .before .before .before .before .before .before .before .before .before .before .before .before .pre)), call-known (c .before .before .before .before .before .before .before .before .before .before .before .before .before .args .p) (c .before .before .before .before .before .before .before .before .before .before .before .before .before .args .w .now) (c .before .before .before .before .before .before .before .before .before .before .before .before .before .args .st .now) (c .before .before .before .before .before .before .before .before .before .before .before .before .before .args .m .now) (c .before .before .before .before .before .before .before .before .before .before .before .before .before .args .h .now) _ _ _ _ _ (c .before .before .before .before .before .before .check-alloc .ensures) (c .before .before .before .before .bin .given .1) ((c .before .before .before .before .before .before .before .before .before .before .before .before .before .pre)), call-offered (c .before .before .before .before .before .before .before .before .before .before .before .before .before .args .p) (c .before .before .before .before .before .before .before .before .before .before .before .before .before .args .w .now) (c .before .before .before .before .before .before .before .before .before .before .before .before .before .args .st .now) (c .before .before .before .before .before .before .before .before .before .before .before .before .before .args .m .now) (c .before .before .before .before .before .before .before .before .before .before .before .before .before .args .h .now) _ _ _ _ _ (c .before .before .before .before .before .before .check-alloc .ensures) (c .before .before .before .before .bin .given .1) ((c .before .before .before .before .before .before .before .before .before .before .before .before .before .pre)))
 
 same-length : tie.Need-same-length
 same-length c = search needs

@@ -8,8 +8,14 @@ use Rattle.script.proofs.through.send.Tie as tie
 least-requires : tie.Need-least-requires
 least-requires c κs = search needs
 
+length-requires : tie.Need-length-requires
+length-requires c κs = search needs
+
 least-requires-2 : tie.Need-least-requires-2
 least-requires-2 c κs = search needs
+
+least-requires-3 : tie.Need-least-requires-3
+least-requires-3 c κs = search needs
 
 slice-relend-prefix-enter : tie.Need-slice-relend-prefix-enter
 slice-relend-prefix-enter c = search needs
@@ -17,11 +23,14 @@ slice-relend-prefix-enter c = search needs
 slice-aggregate-enter : tie.Need-slice-aggregate-enter
 slice-aggregate-enter c = sym (length-take-le _ _ (search needs))
 
+slice-aggregate-enter-2 : tie.Need-slice-aggregate-enter-2
+slice-aggregate-enter-2 c = sym (length-take-le _ _ (search needs))
+
 slice-relend-prefix-enter-2 : tie.Need-slice-relend-prefix-enter-2
 slice-relend-prefix-enter-2 c = search needs
 
-slice-aggregate-enter-2 : tie.Need-slice-aggregate-enter-2
-slice-aggregate-enter-2 c = sym (length-take-le _ _ (search needs))
+slice-aggregate-enter-3 : tie.Need-slice-aggregate-enter-3
+slice-aggregate-enter-3 c = sym (length-take-le _ _ (search needs))
 
 enter-requires : tie.Need-enter-requires
 enter-requires c κs = search needs
@@ -49,11 +58,14 @@ send-spec =
     tie.close
     (tie.spec
     least-requires
+    length-requires
     least-requires-2
+    least-requires-3
     slice-relend-prefix-enter
     slice-aggregate-enter
-    slice-relend-prefix-enter-2
     slice-aggregate-enter-2
+    slice-relend-prefix-enter-2
+    slice-aggregate-enter-3
     enter-requires
     same-length
     same-length-2
