@@ -141,7 +141,39 @@ fn check(bench: &mut Bench) {
         let state = if used { "used" } else { "empty" };
         let what = format!("{} blocks {state}, {holders} bound", commas(blocks));
         let read: Piece = times!(|w, _| { black_box(bare_read(w)); 1 });
-        line(&what, goal, bench.pair(&space, &what, ANY, &|_| (), times!(|w, _| w.port.check()), read));
+        line(&what, goal, bench.pair(&space, &what, ANY, &|_| (), times!(|w, _| w.port.tables()), read));
+    }
+}
+
+/// The free cells of all blocks, by the links in the port's heap.
+fn bare_walk(w: &World) -> usize {
+    let (n, mut free) = (w.port.p.blocks, 0);
+    for b in 0..n {
+        let mut cell = w.port.words[2958 + 2 * n + b];
+        while cell != 0 {
+            let at = cell - w.port.p.base;
+            cell = usize::from_le_bytes(w.port.heap[at..at + 8].try_into().unwrap());
+            free += 1;
+        }
+    }
+    free
+}
+
+/// R-7's part of the check, over a walk that follows the same links and tests nothing.
+fn chains(bench: &mut Bench) {
+    table(&["the test of the chains over a bare walk along them", "free cells", "ratio", "test", "walk"]);
+    for (log, blocks, cell) in [(12, 64, 4096), (12, 1024, 4096), (12, 64, 8), (12, 64, 64), (12, 1024, 64), (16, 64, 8), (16, 64, 1024)] {
+        let space = || {
+            let mut w = World::new(log, blocks, true, 0);
+            w.bind(1);
+            (0..blocks).for_each(|b| { w.alloc(1, 1 << log, b); });
+            (0..blocks).filter(|_| cell < 1 << log).for_each(|b| w.init(b, cell));
+            w
+        };
+        let free = if cell < 1 << log { blocks * ((1 << log) / cell) } else { 0 };
+        let what = format!("{} blocks of {}, {}", commas(blocks), commas(1 << log), if free == 0 { "full".into() } else { format!("cells of {cell} all free") });
+        let walk: Piece = times!(|w, _| bare_walk(w) == free);
+        line(&what, &commas(free), bench.pair(&space, &what, ANY, &|_| (), times!(|w, _| w.port.chains()), walk));
     }
 }
 
@@ -302,6 +334,7 @@ fn main() {
     let bench = &mut Bench::new(dumps);
     println!("Ratios of {}; in brackets, or in the last two columns, {} of one.", bench.unit(), bench.unit());
     check(bench);
+    chains(bench);
     rows(bench);
     init(bench);
     sweeps(bench);

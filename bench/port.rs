@@ -38,7 +38,8 @@ pub type Call = unsafe extern "C" fn(P, W, N, B, N, B, N, B, N, N, N, N) -> N;
 // A slice is its place and its length.
 extern "C" {
     pub fn port_classes(p: P) -> N;
-    fn port_check(p: P, w: W, wn: N, st: B, stn: N, m: B, mn: N, h: B, hn: N) -> bool;
+    fn port_tables(p: P, w: W, wn: N, st: B, stn: N, m: B, mn: N, h: B, hn: N) -> bool;
+    fn port_chains(p: P, w: W, wn: N, st: B, stn: N, m: B, mn: N, h: B, hn: N) -> bool;
     fn port_init(p: P, w: W, wn: N, st: B, stn: N, h: B, hn: N, b: N, s: N);
     fn port_sweep(p: P, w: W, wn: N, m: B, mn: N, h: B, hn: N, b: N);
     fn port_take(p: P, w: W, wn: N, h: B, hn: N, b: N) -> N;
@@ -66,8 +67,11 @@ macro_rules! call {
 }
 
 impl Port {
-    pub fn check(&mut self) -> bool {
-        call!(self, port_check, (words states marks heap))
+    pub fn tables(&mut self) -> bool {
+        call!(self, port_tables, (words states marks heap))
+    }
+    pub fn chains(&mut self) -> bool {
+        call!(self, port_chains, (words states marks heap))
     }
     pub fn init(&mut self, block: usize, cell: usize) {
         call!(self, port_init, (words states heap) block, cell)

@@ -58,7 +58,7 @@ impl World {
         let p = Params { base: BASE, bytes, blocks, min, max, offsets: false, unified, lower: lower as i64, rows: NO_ROWS, count: 0 };
         let port = Port {
             p,
-            words: vec![0; 2958 + 6 * blocks],
+            words: vec![0; 2958 + 7 * blocks],
             states: vec![0; blocks],
             marks: vec![0; blocks * bytes / 64],
             heap: unsafe { from_raw_parts_mut(PORT_HEAP as *mut u8, blocks * bytes) },
@@ -76,6 +76,17 @@ impl World {
 
     fn rust_state(&self, block: usize) -> *mut u8 {
         table(lent::STATE, self.log, 3, self.start(block)) as *mut u8
+    }
+
+    /// How many cells the block's chain has in the Rust's heap; the Rust keeps no count.
+    fn rust_chain(&self, block: usize) -> usize {
+        let mut cell = self.rust_word(lent::FREE, block);
+        let mut count = 0;
+        while cell != 0 {
+            cell = unsafe { *(cell as *const usize) };
+            count += 1;
+        }
+        count
     }
 
     fn rust_marks(&self) -> &'static mut [u8] {
@@ -161,6 +172,7 @@ impl World {
                 }
                 assert_eq!(self.port.words[2958 + (t - lent::NEXT) * n + b], word, "{what}: table {t} at {b}");
             }
+            assert_eq!(self.port.words[2958 + 6 * n + b], self.rust_chain(b), "{what}: count of {b}");
         }
         for list in 0..1470 {
             let (first, last) = self.rust.list(1 + list);

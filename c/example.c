@@ -105,7 +105,8 @@ static void collect(struct native_ms_space *s, const uint64_t *live, size_t coun
            (unsigned long long)answered(s, NATIVE_MS_RELEASE_MERGED));
 }
 
-/* The free cells of each block in use, along its chain. A block that awaits a sweep still has its chain of before. */
+/* The free cells of each block in use, along its chain, which is as long as the block's count. A block that awaits a sweep still
+ * has its chain and its count of before. */
 static void list_free(struct native_ms_space *s)
 {
     for (size_t b = 0; b < s->blocks; b++) {
@@ -113,9 +114,10 @@ static void list_free(struct native_ms_space *s)
             continue;
         uint64_t size = native_ms_word(s->words, NATIVE_MS_SIZE(s->blocks, b));
         uint64_t cell = native_ms_word(s->words, NATIVE_MS_FREE(s->blocks, b));
-        printf("block %zu, cells of %llu, holder %llu, free:", b, (unsigned long long)size,
-               (unsigned long long)native_ms_word(s->words, NATIVE_MS_TLS(s->blocks, b)));
-        for (uint64_t i = 0; cell != 0 && i < s->bytes / size; i++) {
+        uint64_t count = native_ms_word(s->words, NATIVE_MS_CELLS(s->blocks, b));
+        printf("block %zu, cells of %llu, holder %llu, %llu free:", b, (unsigned long long)size,
+               (unsigned long long)native_ms_word(s->words, NATIVE_MS_TLS(s->blocks, b)), (unsigned long long)count);
+        for (uint64_t i = 0; i < count; i++) {
             printf(" %llu", (unsigned long long)cell);
             cell = native_ms_word(native_ms_pointer(s->heap, s->base, cell), 0);
         }
@@ -190,6 +192,9 @@ int main(void)
     printf("the second cell %s handed out again\n", again == second ? "was" : "wasn't");
     printf("kept: %s\n", (char *)native_ms_pointer(s->heap, s->base, first));
     list_free(s);
+
+    /* Bin 24 has cells of 1024 bytes. */
+    printf("free cells of 1024 bytes: %llu\n", (unsigned long long)native_ms_free_cells(s->words, s->blocks, 24));
 
     must("destroy", native_ms_destroy(NATIVE_MS_LENT(s), 1));
     printf("holder 1 left %llu blocks behind\n", (unsigned long long)answered(s, NATIVE_MS_DESTROY_BLOCKS));

@@ -1,8 +1,9 @@
 /* Damaged input from C: random calls on slices that lie between guard pages, so that a byte read or written outside a slice ends
  * the program. Slices are sound, damaged, or of a wrong length; parameters are now and then off.
  * Half of the spaces have rows, which are damaged for single calls.
- * After each call: bytes beside a slice are as before, and so are the rows; a wrong length or flag is 1; a refusal but 8 and 9 changed
- * nothing, and none wrote the answer; an answer's last words are 0.
+ * After each call: bytes beside a slice are as before, and so are the rows; a wrong length or flag is 1; a refusal but 9 changed
+ * nothing, and none wrote the answer; none is 8, and a chain that is a ring or shorter than its count is not accepted; an answer's
+ * last words are 0.
  * Use: guard CALLS SEED */
 #include <stdio.h>
 #include <stdlib.h>
@@ -235,27 +236,14 @@ static void damage(struct slice *s)
     }
 }
 
-/* The link of a free cell overwritten: another cell of the block, or any number. */
-static void damage_link(void)
-{
-    size_t b = below(good.blocks);
-    uint64_t cell = native_ms_word(slices[WORDS].at, NATIVE_MS_FREE(good.blocks, b));
-    uint64_t size = native_ms_word(slices[WORDS].at, NATIVE_MS_SIZE(good.blocks, b));
-    if (cell < good.base || cell - good.base + 8 > right[HEAP])
-        return;
-    uint64_t link = one_in(2) ? good.base + b * good.bytes + size * below(8) : any();
-    for (int i = 0; i < 8; i++)
-        slices[HEAP].at[cell - good.base + (uint64_t)i] = (uint8_t)(link >> 8 * i);
-}
-
 static uint64_t tally[13];
 
-static void one_call(int which, int off)
+static size_t one_call(int which, int off)
 {
     size_t values;
     remember();
     size_t r = make(which, &values);
-    if (r > 12 || r == 11)
+    if (r > 12 || r == 11 || r == NATIVE_MS_BAD_LINK)
         fail("a number that is none");
     tally[r]++;
     if (off && r != 1)
@@ -265,12 +253,41 @@ static void one_call(int which, int off)
             fail("a byte beside a slice changed");
         if (i == ROWS && !same(&slices[i]))
             fail("a row changed");
-        if (r != 0 && (i == ANSWER || (r != 8 && r != 9)) && !same(&slices[i]))
+        if (r != 0 && (i == ANSWER || r != 9) && !same(&slices[i]))
             fail("a refusal changed a byte");
     }
     for (size_t k = values; r == 0 && k < 4; k++)
         if (native_ms_word(slices[ANSWER].at, k) != 0)
             fail("a word behind the answer is not 0");
+    return r;
+}
+
+/* A call on a block of which the free head's link or the count is another: another cell of the block, the cell itself, any number.
+ * Then as before, if the call was refused. A ring or too high a count is accepted by no call but set-up, which reads no tables. */
+static void damaged_chain(int which)
+{
+    size_t b = below(good.blocks), counted = NATIVE_MS_CELLS(good.blocks, b);
+    uint8_t *words = slices[WORDS].at;
+    uint64_t cell = native_ms_word(words, NATIVE_MS_FREE(good.blocks, b));
+    uint64_t size = native_ms_word(words, NATIVE_MS_SIZE(good.blocks, b)), count = native_ms_word(words, counted);
+    if (cell < good.base || cell - good.base + 8 > right[HEAP]) {
+        one_call(which, 0);
+        return;
+    }
+    uint8_t *at = slices[HEAP].at + (cell - good.base);
+    uint64_t link = native_ms_word(at, 0);
+    int ring = one_in(3), high = !ring && one_in(2);
+    if (high)
+        native_ms_put_word(words, counted, one_in(2) ? good.bytes + count : any() | 1 << 14);
+    else
+        native_ms_put_word(at, 0, ring ? cell : one_in(2) ? good.base + b * good.bytes + size * below(8) : any());
+    size_t r = one_call(which, 0);
+    if ((ring || high) && which != 0 && r == 0)
+        fail("a ring or too high a count was accepted");
+    if (r == 0)
+        return;
+    native_ms_put_word(at, 0, link);
+    native_ms_put_word(words, counted, count);
 }
 
 /* A call on slices of which one has another length, then as before. Fewer rows may be 12, and more of them are bytes that were
@@ -357,8 +374,9 @@ int main(int count, char **words)
             if (one_in(80))
                 damage(&slices[below(ROWS)]);
             if (one_in(6))
-                damage_link();
-            one_call(usual_call(), 0);
+                damaged_chain(usual_call());
+            else
+                one_call(usual_call(), 0);
         }
     }
     printf("guard: %llu calls, seed %llu, no byte outside\n", (unsigned long long)calls, (unsigned long long)seed);

@@ -34,7 +34,7 @@ macro_rules! call {
 }
 
 fn main() {
-    let (mut words, mut states, mut marks) = (vec![0u8; 8 * (2958 + 6 * 4)], vec![0u8; 4], vec![0u8; 256]);
+    let (mut words, mut states, mut marks) = (vec![0u8; 8 * (2958 + 7 * 4)], vec![0u8; 4], vec![0u8; 256]);
     let (mut heap, mut answer) = (vec![0u8; 16384], [0u8; 32]);
     println!("set-up {}", call!(native_ms_set_up, words, states, marks, heap, answer));
     println!("bind {}", call!(native_ms_bind, words, states, marks, heap, answer, 1));

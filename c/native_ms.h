@@ -5,7 +5,7 @@
  * call can test.
  *
  * A call returns 0, or the number of its refusal. A refusal leaves the answer slice alone, and everything else too, save that
- * after 8 and 9 the block moves and sweeps already made stand.
+ * after 9 the block moves and sweeps already made stand.
  *
  * DUTIES OF THE HOST
  * - Each slice is a pointer and the length of what is really there. No pointer is null, not even for length 0.
@@ -13,7 +13,8 @@
  * - A call uses up to NATIVE_MS_STACK bytes of stack.
  * - Between calls only holders write, each only in cells it holds then: from the address answered on, as many bytes as it asked
  *   for (the whole cell, if it asked for an align of MIN). Nobody writes words, states or marks. A call on damaged tables stays
- *   inside its slices and ends, but what it answers is then of no use.
+ *   inside its slices and ends, but what it answers is then of no use. A write into a free cell breaks its block's chain: every
+ *   call is then refused as 2, whichever block it is about, and nothing mends that.
  * - Every call is given the parameters, the rows and the slices that set-up was given. The answer slice alone may be another each
  *   time.
  *
@@ -30,7 +31,7 @@ extern "C" {
 #endif
 
 /* This interface. It changes whenever a signature, a length or an answer does. */
-#define NATIVE_MS_VERSION 3
+#define NATIVE_MS_VERSION 4
 
 #if SIZE_MAX != UINT64_MAX
 #error "size_t must have 64 bits"
@@ -38,7 +39,7 @@ extern "C" {
 
 /* ---- lengths, in bytes; a slice of any other length is refused as 1 */
 
-#define NATIVE_MS_WORDS_LEN(blocks) ((size_t)8 * (2958 + 6 * (size_t)(blocks)))
+#define NATIVE_MS_WORDS_LEN(blocks) ((size_t)8 * (2958 + 7 * (size_t)(blocks)))
 #define NATIVE_MS_STATES_LEN(blocks) ((size_t)(blocks))
 #define NATIVE_MS_MARKS_LEN(bytes, blocks) ((size_t)(bytes) * (size_t)(blocks) / 64)
 #define NATIVE_MS_HEAP_LEN(bytes, blocks) ((size_t)(bytes) * (size_t)(blocks))
@@ -99,13 +100,13 @@ size_t native_ms_check_classes(NATIVE_MS_PARAMS, NATIVE_MS_ROWS, uint8_t *answer
 /* ---- refusals, in the order in which they are tested; 12 is tested right after 1 */
 
 #define NATIVE_MS_BAD_SETUP 1   /* a parameter or a length is off */
-#define NATIVE_MS_BAD_TABLES 2  /* the tables aren't sound */
+#define NATIVE_MS_BAD_TABLES 2  /* the tables aren't sound, or a chain of free cells isn't as long as its block's count */
 #define NATIVE_MS_WRONG_PHASE 3 /* the call isn't of this phase, or released already */
 #define NATIVE_MS_BAD_HOLDER 4  /* not 1 to 8; bound already (bind); not bound (others) */
 #define NATIVE_MS_BAD_REQUEST 5 /* size or offset no multiple of min, offset over 65536, align no power of two in min to max */
 #define NATIVE_MS_TOO_BIG 6     /* the raised size is over the block size */
 #define NATIVE_MS_BAD_OFFER 7   /* the offered block isn't there or isn't Unallocated */
-#define NATIVE_MS_BAD_LINK 8    /* the cell's link is neither 0 nor a whole cell of its block */
+#define NATIVE_MS_BAD_LINK 8    /* never occurs: a bad link is 2 since version 4 */
 #define NATIVE_MS_EXHAUSTED 9   /* no cell found and no offer */
 #define NATIVE_MS_BAD_OBJECT 10 /* no place of the heap, or not in that block */
 #define NATIVE_MS_BAD_CLASSES 12 /* rows that the check does not accept */
@@ -165,6 +166,21 @@ static inline uint64_t native_ms_address(const uint8_t *heap, uint64_t base, con
 #define NATIVE_MS_SIZE(blocks, block) (2958 + 3 * (size_t)(blocks) + (block)) /* its cells' size */
 #define NATIVE_MS_LIST(blocks, block) (2958 + 4 * (size_t)(blocks) + (block)) /* 1 + 49 * set + bin, or 0 */
 #define NATIVE_MS_TLS(blocks, block) (2958 + 5 * (size_t)(blocks) + (block))  /* its holder */
+#define NATIVE_MS_CELLS(blocks, block) (2958 + 6 * (size_t)(blocks) + (block)) /* how many cells its free chain has */
+
+/* The total free cells of a bin, 1 to 48, over all lists: the sum of the counts of its blocks, whatever the phase. It is no call: it
+ * tests nothing, and reads what the last call left. Blocks that await a sweep have the count of before. */
+static inline uint64_t native_ms_free_cells(const uint8_t *words, size_t blocks, size_t bin)
+{
+    uint64_t total = 0;
+    for (size_t b = 0; b < blocks; b++) {
+        uint64_t list = native_ms_word(words, NATIVE_MS_LIST(blocks, b));
+        if (list != 0 && (list - 1) % 49 == bin)
+            total += native_ms_word(words, NATIVE_MS_CELLS(blocks, b));
+    }
+    return total;
+}
+
 #define NATIVE_MS_UNALLOCATED 0                             /* state bytes */
 #define NATIVE_MS_UNMARKED 255
 #define NATIVE_MS_MARKED 254

@@ -21,13 +21,14 @@ import generate  # noqa: E402
 import reference  # noqa: E402
 from check_hand import SCRIPTS, agrees  # noqa: E402
 
-SEEDS = (1, 7, 22, 24, 27, 33, 36, 44)   # both sweeps, MIN 4 and 8, small and large blocks, L below and above 0, destroys in Marking
+# both sweeps, MIN 4 and 8, small and large blocks, L below and above 0, destroys in Marking, free cells asked in each phase
+SEEDS = (1, 7, 22, 27, 33, 36, 44, 51)
 CALLS = 60
 ARENA = 1 << 16         # small heaps, since each dump prints every mark byte
 LAST = 'no_newline'     # its last line has no newline, so it stands last
 THROUGH = ('example', 'exhausted', 'bad_link', 'refused_1', 'refused_2_order', 'refused_3', 'refused_4', 'refused_5', 'refused_6',
            'refused_7', 'refused_10', 'release_walk', 'merge', 'leaves_marking', 'sweep_negative_L', 'rows', 'rows_refused',
-           'rows_office')   # told again through the exports
+           'rows_office', 'free_counts', 'free_counts_refused')   # told again through the exports
 ROW_SEEDS = (3, 12)     # with rows, good and damaged
 VALUES = {'setup': 0, 'b': 0, 'd': 1, 'p': 0, 'a': 4, 'm': 1, 'r': 2, 's': 2}
 NO_OFFER = str(2 ** 64 - 1)     # directly a block that isn't there, through an export none
@@ -114,7 +115,7 @@ def through_part(name, lines):
 
 def through_parts():
     named = [through_part(name, (SCRIPTS / (name + '.script')).read_text().split('\n')) for name in THROUGH]
-    drawn = through_part('random, seed 24', random_part(24)[1])
+    drawn = through_part('random, seed 51', random_part(51)[1])
     rows = through_part('random rows, seed 5', rows_part(5)[1])
     off = ['x 31', 'setup 16384 12 4 8 8 0 1 0 0', 'x 0', 'setup 16384 12 4 8 8 0 1 0 0', 'x 64', 'setup 16384 12 4 8 8 0 1 0 0', 'x 32',
            'setup 16384 12 4 8 8 0 1 0 0', 'b 1', 'a 1 8 8 0 ' + NO_OFFER, 'a 1 8 8 0 1', 'x 40', 'a 1 8 8 0 -', 'x -', 'a 1 8 8 0 -']

@@ -37,7 +37,7 @@ def every_line_kind():
 def every_refusal():
     """3 to 7, 9, 10 and 11, in this order of lines; a trace reaches no other.
 
-    1 and 2 need other buffers or tables, 8 a chain that a holder broke."""
+    1 and 2 need other buffers, tables or chains; 8 is said no more (02, R-7)."""
     return joined('s', 'b 9', 'b 1', 'b 1', 'd 2', 'a 1 12 8 0 0',
                   'a 1 8 16 0 0', 'a 1 8 8 4 0', 'a 1 8 8 65544 0',
                   'a 1 4104 8 0 0', 'a 1 8 8 0 4', alloc('-'), alloc(0),

@@ -21,6 +21,7 @@ UNALLOCATED, UNMARKED, MARKED = 0, 255, 254
 BAD_SETUP, BAD_TABLES, WRONG_PHASE, BAD_HOLDER, BAD_REQUEST = 1, 2, 3, 4, 5
 TOO_BIG, BAD_OFFER, BAD_LINK, EXHAUSTED, BAD_OBJECT = 6, 7, 8, 9, 10
 BAD_CLASSES = 12    # R-5 of document 02; tested right after 1
+# BAD_LINK never occurs since R-7 of document 02: chains are part of sound tables.
 
 
 class Refused(Exception):
@@ -200,14 +201,20 @@ def align_allocation(region, align, offset):
 class Heap:
     """The arena, read and written by address."""
 
-    def __init__(self, base, length, seed):
+    def __init__(self, base, length, seed, block_bytes):
         self.base = base
+        self.block_bytes = block_bytes
+        self.chains = {}    # what was found of a block's chain, until a write
         self.bytes = filled(length, seed)
         # The hash before each page, as far as nothing was written since.
         self.hashes = [14695981039346656037]
 
-    def touch(self, address):
-        del self.hashes[(address - self.base) // PAGE + 1:]
+    def touch(self, address, length):
+        at = address - self.base
+        del self.hashes[at // PAGE + 1:]
+        for b in range(at // self.block_bytes,
+                       (at + length - 1) // self.block_bytes + 1):
+            self.chains.pop(b, None)
 
     def load(self, address):
         at = address - self.base
@@ -216,12 +223,12 @@ class Heap:
     def store(self, address, value):
         at = address - self.base
         self.bytes[at:at + WORD] = value.to_bytes(WORD, 'little')
-        self.touch(address)
+        self.touch(address, WORD)
 
     def zero(self, address, length):
         at = address - self.base
         self.bytes[at:at + length] = bytes(length)
-        self.touch(address)
+        self.touch(address, length)
 
     def hash(self):
         """FNV-1a over all bytes."""
@@ -274,11 +281,12 @@ class Space:
         self.size = [0] * n
         self.list = [0] * n
         self.tls = [0] * n
+        self.cells = [0] * n                # R-7: the free count of a block
         self.first = [0] * (LISTS + 1)      # by list number, from 1
         self.last = [0] * (LISTS + 1)
         length = n * p.block_bytes
         self.marks = bytearray(length // 64)
-        self.heap = Heap(p.base, length, seed)
+        self.heap = Heap(p.base, length, seed, p.block_bytes)
         self.phase = RUNNING
         self.bound = 0                      # bit h for holder h
         self.released = 0                   # bit 0 for the shared part
@@ -394,12 +402,14 @@ class Space:
     # Block: init, sweep
 
     def link_cells(self, b, cells):
-        """Chain the cells, given ascending, so that the highest is first."""
+        """Chain the cells, given ascending, so that the highest is first;
+        the count is the chain's length."""
         below = 0
         for cell in cells:
             self.heap.store(cell, below)
             below = cell
         self.free[b] = below
+        self.cells[b] = len(cells)
 
     def init_block(self, b, cell_size, h):
         self.state[b] = UNMARKED
@@ -477,12 +487,13 @@ class Space:
         return offer, True
 
     def take_cell(self, b):
-        """The link is read, and tested, before the whole cell is zeroed."""
+        """The link is read before the whole cell is zeroed. It needs no test:
+        the tables are sound, and so the chain is one of whole cells."""
         cell = self.free[b]
         link = self.heap.load(cell)
-        refuse_unless(link == 0 or self.is_whole_cell(b, link), BAD_LINK)
         self.heap.zero(cell, self.size[b])
         self.free[b] = link
+        self.cells[b] -= 1
         self.events.append(('take', cell, self.size[b]))
         return cell
 
@@ -572,7 +583,7 @@ class Space:
         return 1
 
     def release_block(self, b):
-        self.next[b] = self.prev[b] = self.free[b] = 0
+        self.next[b] = self.prev[b] = self.free[b] = self.cells[b] = 0
         self.size[b] = self.list[b] = self.tls[b] = 0
         self.state[b] = UNALLOCATED
         self.events.append(('release', b))
@@ -640,17 +651,27 @@ class Space:
             blocks += passed
         return blocks * (self.p.block_bytes // PAGE)
 
+    def free_cells(self, bin):
+        """R-7 of document 02: the total free cells of a bin over all lists;
+        in every phase. The bin is tested after the tables."""
+        self.begin()
+        refuse_unless(1 <= bin < BINS, BAD_REQUEST)
+        return sum(self.cells[b] for b in range(self.p.blocks)
+                   if self.state[b] != UNALLOCATED
+                   and bin_of_list(self.list[b]) == bin)
+
     # Sound tables, clause by clause
 
     def is_sound(self):
         return (all(map(self.is_sound_block, range(self.p.blocks)))
                 and self.are_sound_lists() and self.is_sound_phase()
-                and self.are_due_lists_empty())
+                and self.are_due_lists_empty()
+                and all(map(self.is_sound_chain, range(self.p.blocks))))
 
     def is_sound_block(self, b):
         """State byte and words; the walk of its list is another clause."""
         words = (self.next[b], self.prev[b], self.free[b], self.size[b],
-                 self.list[b], self.tls[b])
+                 self.list[b], self.tls[b], self.cells[b])
         if self.state[b] == UNALLOCATED:
             return not any(words)
         if self.state[b] not in (UNMARKED, MARKED):
@@ -663,6 +684,28 @@ class Space:
                 and (self.free[b] == 0 or self.is_whole_cell(b, self.free[b]))
                 and self.is_holder(self.tls[b])
                 and (not self.is_holder(owner) or self.tls[b] == owner))
+
+    def is_sound_chain(self, b):
+        """R-7: "each word equals its chain's length, with the chain in whole
+        cells of its block and none repeated". Kept until the block's words
+        or its heap bytes change, since each call asks."""
+        if self.state[b] == UNALLOCATED:
+            return True
+        key = self.free[b], self.size[b], self.cells[b]
+        if self.heap.chains.get(b, (None, None))[0] != key:
+            self.heap.chains[b] = key, self.chain_length(b) == self.cells[b]
+        return self.heap.chains[b][1]
+
+    def chain_length(self, b):
+        """None where it leaves the block's whole cells or repeats one."""
+        met = set()
+        cell = self.free[b]
+        while cell != 0:
+            if cell in met or not self.is_whole_cell(b, cell):
+                return None
+            met.add(cell)
+            cell = self.heap.load(cell)
+        return len(met)
 
     def are_sound_lists(self):
         """Links agree both ways; each occupied block is on its list."""
@@ -757,10 +800,11 @@ class Driver:
             'b': (1, self.do_bind), 'd': (1, self.do_destroy),
             'p': (0, self.do_prepare), 'm': (2, self.do_mark),
             'r': (1, self.do_release), 's': (0, self.do_shared_release),
-            'u': (1, self.do_pages_used), 'n': (1, self.do_bin),
+            'u': (1, self.do_pages_used), 'v': (1, self.do_free_cells),
+            'n': (1, self.do_bin),
             't': (1, self.do_bin_of_words),
             'q': (2, self.do_raise), 'g': (3, self.do_align),
-            'w': (2, self.do_write), 'T': (8, self.do_block_words),
+            'w': (2, self.do_write),
             'F': (3, self.do_list_words), 'G': (3, self.do_phase_words),
             'D': (0, self.do_dump), 'H': (0, self.do_heap),
         }
@@ -790,6 +834,8 @@ class Driver:
             return self.do_alloc(rest)
         if kind == 'K':
             return self.do_mark_bytes(rest)
+        if kind == 'T':
+            return self.do_block_words(rest)
         bad_unless(kind in self.lines)
         count, action = self.lines[kind]
         bad_unless(len(rest) == count)
@@ -858,6 +904,9 @@ class Driver:
         bad_unless(set < SETS)
         return 'ok %d' % self.space.pages_used(set)
 
+    def do_free_cells(self, bin):
+        return 'ok %d' % self.space.free_cells(bin)
+
     def accepted_classes(self):
         """The rows in force; a leaf that asks for a bin needs good ones."""
         classes = self.space.classes
@@ -894,11 +943,17 @@ class Driver:
         self.space.heap.store(address, value)
         return 'ok'
 
-    def do_block_words(self, b, state, next, prev, free, size, list, tls):
+    def do_block_words(self, words):
+        """Without the count, its word is left as it stands."""
+        bad_unless(len(words) in (8, 9))
+        b, state, next, prev, free, size, list, tls, *count = map(number,
+                                                                  words)
         s = self.space
         bad_unless(b < s.p.blocks and state <= 255)
         s.state[b], s.next[b], s.prev[b] = state, next, prev
         s.free[b], s.size[b], s.list[b], s.tls[b] = free, size, list, tls
+        if count:
+            s.cells[b] = count[0]
         return 'ok'
 
     def do_list_words(self, l, first, last):
@@ -923,7 +978,8 @@ class Driver:
         s = self.space
         out = ['phase %d bound %d released %d' % (s.phase, s.bound,
                                                   s.released)]
-        rows = zip(s.state, s.next, s.prev, s.free, s.size, s.list, s.tls)
+        rows = zip(s.state, s.next, s.prev, s.free, s.size, s.list, s.tls,
+                   s.cells)
         for b, row in enumerate(rows):
             out.append('block %d ' % b + ' '.join(map(str, row)))
         for l in range(1, LISTS + 1):

@@ -61,7 +61,7 @@ class ZeroSizeWanted(ref.Space):
 
 class AscendingChain(ref.Space):
     def link_cells(self, b, cells):
-        super().link_cells(b, reversed(cells))
+        super().link_cells(b, list(reversed(cells)))
 
 
 class ShortTail(ref.Space):
@@ -290,23 +290,13 @@ class OfferOnlyIfNeeded(ref.Space):
         return super().alloc(h, size, align, offset, offer if good else None)
 
 
-class BadLinkTakesCell(ref.Space):
-    """BadLink zeroes the cell's link first, as the Rust does."""
-
-    def take_cell(self, b):
-        try:
-            return super().take_cell(b)
-        except ref.Refused:
-            self.heap.store(self.free[b], 0)
-            raise
-
-
 class UndoneMoves(ref.Space):
     """An exhausted alloc takes its moves back."""
 
     def alloc(self, h, size, align, offset, offer):
         kept = {n: list(getattr(self, n)) for n in
-                ('next', 'prev', 'list', 'tls', 'free', 'first', 'last')}
+                ('next', 'prev', 'list', 'tls', 'free', 'cells', 'first',
+                 'last')}
         try:
             return super().alloc(h, size, align, offset, offer)
         except ref.Refused:
@@ -328,18 +318,13 @@ def with_block_clause(keep):
     """Soundness of a block that trusts some words."""
     class Trusts(ref.Space):
         def is_sound_block(self, b):
-            before = (self.free[b], self.tls[b], self.size[b])
+            before = (self.cells[b], self.tls[b], self.size[b])
             keep(self, b)
             try:
                 return super().is_sound_block(b)
             finally:
-                self.free[b], self.tls[b], self.size[b] = before
+                self.cells[b], self.tls[b], self.size[b] = before
     return Trusts
-
-
-def trust_free(space, b):
-    if space.state[b] != ref.UNALLOCATED:
-        space.free[b] = 0
 
 
 def trust_tls(space, b):
@@ -353,6 +338,151 @@ def trust_size(space, b):
     if 1 <= space.list[b] <= ref.LISTS and space.size[b] != 0:
         bin = ref.bin_of_list(space.list[b])
         space.size[b] = space.classes.cell_bytes(bin)
+
+
+# ---- Mutants of R-7 of document 02: free counts. That a free head is 0 or a
+# whole cell has none: the chain's clause says it too.
+
+class CountKept(ref.Space):
+    """An alloc leaves the count."""
+
+    def take_cell(self, b):
+        before = self.cells[b]
+        cell = super().take_cell(b)
+        self.cells[b] = before
+        return cell
+
+
+class CountNotSwept(ref.Space):
+    """A sweep leaves the count of the old chain."""
+
+    def sweep(self, b):
+        before = self.cells[b]
+        super().sweep(b)
+        self.cells[b] = before
+
+
+class CountNotReleased(ref.Space):
+    """A released block keeps its count."""
+
+    def release_block(self, b):
+        before = self.cells[b]
+        super().release_block(b)
+        self.cells[b] = before
+
+
+def with_chain(bent):
+    """A reference that bends the clause of chains."""
+    class Bent(ref.Space):
+        def is_sound_chain(self, b):
+            return (self.state[b] == ref.UNALLOCATED
+                    or bent(self, b, self.chain_length(b)))
+    Bent.__doc__ = bent.__doc__
+    return Bent
+
+
+def chains_not_read(space, b, length):
+    """Only the free head is tested, as before R-7."""
+    return True
+
+
+def ring_accepted(space, b, length):
+    """Counts the cells until one comes again."""
+    met, cell = set(), space.free[b]
+    while cell != 0 and cell not in met and space.is_whole_cell(b, cell):
+        met.add(cell)
+        cell = space.heap.load(cell)
+    return len(met) == space.cells[b] and (cell == 0 or cell in met)
+
+
+def end_not_tested(space, b, length):
+    """As many whole cells as are counted, whatever follows them."""
+    cell = space.free[b]
+    for _ in range(min(space.cells[b], space.p.block_bytes)):
+        if not space.is_whole_cell(b, cell):
+            return False
+        cell = space.heap.load(cell)
+    return True
+
+
+def neighbour_accepted(space, b, length):
+    """Links to whole cells of any block of the heap pass."""
+    cell, size = space.free[b], space.size[b]
+    for _ in range(min(space.cells[b], space.p.block_bytes // size)):
+        at = (cell - space.p.base) % space.p.block_bytes
+        if (not space.p.base <= cell < space.p.end or at % size != 0
+                or at + size > space.p.block_bytes):
+            return False
+        cell = space.heap.load(cell)
+    return cell == 0 and space.cells[b] <= space.p.block_bytes // size
+
+
+def shorter_accepted(space, b, length):
+    """A chain of more cells than are counted passes."""
+    return length is not None and space.cells[b] <= length
+
+
+def trust_count(space, b):
+    """An Unallocated block may have a count."""
+    if space.state[b] == ref.UNALLOCATED:
+        space.cells[b] = 0
+
+
+class OneListOnly(ref.Space):
+    """Sums over the available lists."""
+
+    def free_cells(self, bin):
+        super().free_cells(bin)
+        return sum(self.cells[b] for b in range(self.p.blocks)
+                   if self.state[b] != ref.UNALLOCATED
+                   and ref.bin_of_list(self.list[b]) == bin
+                   and ref.kind_of(self.list[b]) == ref.AVAILABLE)
+
+
+class AbandonedNotSummed(ref.Space):
+    """Sums over the holders' lists."""
+
+    def free_cells(self, bin):
+        super().free_cells(bin)
+        return sum(self.cells[b] for b in range(self.p.blocks)
+                   if self.state[b] != ref.UNALLOCATED
+                   and ref.bin_of_list(self.list[b]) == bin
+                   and ref.owner_of(self.list[b]) <= 8)
+
+
+class AskedInRunning(ref.Space):
+    """Answers the question in Running only."""
+
+    def free_cells(self, bin):
+        total = super().free_cells(bin)
+        ref.refuse_unless(self.phase == ref.RUNNING, ref.WRONG_PHASE)
+        return total
+
+
+class BinFirst(ref.Space):
+    """Tests the bin before the tables."""
+
+    def free_cells(self, bin):
+        ref.refuse_unless(1 <= bin < ref.BINS, ref.BAD_REQUEST)
+        return super().free_cells(bin)
+
+
+class BinZeroAnswered(ref.Space):
+    """Bin 0 is a bin."""
+
+    def free_cells(self, bin):
+        return 0 if bin == 0 and not super().free_cells(1) < 0 else (
+            super().free_cells(bin))
+
+
+class QuestionWithoutTables(ref.Space):
+    """Sums whatever the tables are."""
+
+    def free_cells(self, bin):
+        ref.test_classes(self.classes, self.p)
+        ref.refuse_unless(1 <= bin < ref.BINS, ref.BAD_REQUEST)
+        return sum(self.cells[b] for b in range(self.p.blocks)
+                   if self.list[b] % ref.BINS == (bin + 1) % ref.BINS)
 
 
 # ---- Mutants of R-5 of document 02: rows
@@ -533,13 +663,26 @@ MUTANTS = {
     'merged-early': ('rust', MergedEarly),
     'one-for-each-list': ('rust', OneForEachList),
     'offer-only-if-needed': ('all', OfferOnlyIfNeeded),
-    'bad-link-takes-cell': ('all', BadLinkTakesCell),
     'undone-moves': ('rust', UndoneMoves),
     'sound-phase': ('all', without('is_sound_phase')),
     'sound-empty-lists': ('all', without('are_due_lists_empty')),
-    'sound-free-head': ('all', with_block_clause(trust_free)),
     'sound-holder': ('all', with_block_clause(trust_tls)),
     'sound-cell-size': ('all', with_block_clause(trust_size)),
+    'count-kept': ('rust', CountKept),
+    'count-not-swept': ('rust', CountNotSwept),
+    'count-not-released': ('rust', CountNotReleased),
+    'chains-not-read': ('all', with_chain(chains_not_read)),
+    'ring-accepted': ('all', with_chain(ring_accepted)),
+    'end-not-tested': ('all', with_chain(end_not_tested)),
+    'neighbour-accepted': ('all', with_chain(neighbour_accepted)),
+    'shorter-accepted': ('all', with_chain(shorter_accepted)),
+    'unallocated-count': ('all', with_block_clause(trust_count)),
+    'one-list-only': ('rust', OneListOnly),
+    'abandoned-not-summed': ('rust', AbandonedNotSummed),
+    'asked-in-running': ('rust', AskedInRunning),
+    'bin-first': ('all', BinFirst),
+    'bin-zero-answered': ('all', BinZeroAnswered),
+    'question-without-tables': ('all', QuestionWithoutTables),
     'greatest-count': ('rows', with_classes(GreatestCount)),
     'row-before-count': ('rows', with_classes(RowBeforeCount)),
     'covered-twice': ('rows', with_classes(CoveredTwice)),

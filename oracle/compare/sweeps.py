@@ -74,6 +74,16 @@ class Sweeps:
             marked |= {g for g in range(bits) if rng.random() < share}
         return {g for g in marked if 0 <= g < bits}
 
+    def chain(self, start, cell):
+        """An old chain, which the sweep does not read: its head and length."""
+        rng, head = self.rng, 0
+        cells = range(start, start + self.size // cell * cell, cell)
+        chosen = rng.sample(cells, min(len(cells), rng.choice([0, 1, 1, 3])))
+        for at in chosen:
+            self.put('w %d %d' % (at, head))
+            head = at
+        return head, len(chosen)
+
     def sweep(self):
         rng = self.rng
         bins = [b for b in range(1, 49) if CELL_SIZES[b] <= self.size]
@@ -88,14 +98,15 @@ class Sweeps:
         unswept = list_number(1, number)
         for b in range(self.blocks):
             if b not in swept:
-                self.put('T %d 0 0 0 0 0 0 0' % b)
+                self.put('T %d 0 0 0 0 0 0 0 0' % b)
                 continue
             at = swept.index(b)
             after = starts[at + 1] if at + 1 < len(starts) else 0
             before = starts[at - 1] if at else 0
-            head = rng.choice([0, starts[at]])
-            self.put('T %d %d %d %d %d %d %d 1' % (
-                b, rng.choice([254, 255]), after, before, head, cell, unswept))
+            head, count = self.chain(starts[at], cell)
+            self.put('T %d %d %d %d %d %d %d 1 %d' % (
+                b, rng.choice([254, 255]), after, before, head, cell, unswept,
+                count))
         self.put('F %d %d %d' % (unswept, starts[0], starts[-1]))
         self.used = {list_number(s, number) for s in range(3)}
         marked = self.marks(cell)

@@ -22,6 +22,14 @@ const ABANDONED: usize = 24;
 const HOLDER_BITS: u64 = 0x1fe;
 const MOST_OFFSET: u64 = 65536;
 
+/// The free counts of document 02's R-7, which the Rust does not keep. After a call each is the
+/// length of its block's chain, counted in the Rust's memory; a `T` line may put any number there.
+struct Counts {
+    words: Vec<u64>,
+    /// A call was made since they were counted.
+    due: bool,
+}
+
 /// A good set-up: the Rust for it, and what document 01 adds (phase, bound, released).
 struct Space {
     params: Params,
@@ -30,6 +38,7 @@ struct Space {
     phase: u64,
     bound: u64,
     released: u64,
+    counts: Counts,
 }
 
 pub struct Run {
@@ -93,7 +102,8 @@ impl Run {
         // Leaves don't depend on the block in document 01; in the Rust its size bounds the bins.
         let leaves = ms16::machine::leaves(&params);
         let (phase, bound, released) = (RUNNING, 0, 0);
-        self.space = Some(Space { params, machine, leaves, phase, bound, released });
+        let counts = Counts { words: vec![0; params.blocks], due: false };
+        self.space = Some(Space { params, machine, leaves, phase, bound, released, counts });
         Ok("ok".into())
     }
 }
@@ -101,6 +111,11 @@ impl Run {
 impl Space {
     /// `None` is `bad`.
     fn answer(&mut self, line: Line, options: Options) -> Option<Answer> {
+        match line {
+            Line::Bind(_) | Line::Destroy(_) | Line::Alloc { .. } | Line::Prepare => self.counts.due = true,
+            Line::Mark(..) | Line::Release(_) | Line::Shared => self.counts.due = true,
+            _ => self.count(),
+        }
         lent::begin(None, 0);
         let answer = match line {
             Line::Setup(..) | Line::OffSetup => unreachable!("answered by the run"),
@@ -116,6 +131,7 @@ impl Space {
             Line::Pages(set) if set < SETS => {
                 try_rust(|| self.machine.pages_used(set as usize)).and_then(ok)
             }
+            Line::FreeCells(bin) => ok(self.free_cells(bin)),
             Line::Bin(size) => ok(self.bin(size)),
             Line::BinOfWords(words) => ok(words.checked_mul(8).map_or("-".into(), |size| self.bin(size))),
             Line::Raise(size, align) => return self.raise(size, align),
@@ -150,8 +166,13 @@ impl Space {
     /// The blocks on the abandoned lists, by address.
     fn abandoned(&self) -> BTreeSet<u64> {
         let first_list = 1 + BINS * ABANDONED;
+        self.blocks_on(first_list..first_list + 3 * BINS)
+    }
+
+    /// The blocks on these lists, by address.
+    fn blocks_on(&self, lists: impl Iterator<Item = usize>) -> BTreeSet<u64> {
         let mut met = BTreeSet::new();
-        for number in first_list..first_list + 3 * BINS {
+        for number in lists {
             let mut link = self.machine.list(number).0;
             while let Some(block) = self.block_at(link) {
                 // A block met before ends the walk: a ring, which loaded tables may have.
@@ -232,6 +253,53 @@ impl Space {
         ok(format_args!("{} {}", lent::call().released, self.went_over(&before)))
     }
 
+    /// Counts the chains, if a call was made since. Where one does not come to 0 the word stays.
+    fn count(&mut self) {
+        if !std::mem::take(&mut self.counts.due) {
+            return;
+        }
+        for block in 0..self.params.blocks {
+            if let Some(cells) = self.chain_length(block) {
+                self.counts.words[block] = cells;
+            }
+        }
+    }
+
+    /// The length of a block's free chain, if it runs through whole cells of the block to 0 and
+    /// has no more of them than the block; 0 for a block that is Unallocated.
+    fn chain_length(&self, block: usize) -> Option<u64> {
+        if lent::entry(lent::STATE, block) == 0 {
+            return Some(0);
+        }
+        let size = lent::entry(lent::SIZE, block) as usize;
+        let whole = self.params.block_bytes().checked_div(size)?;
+        let first = block * self.params.block_bytes();
+        let mut link = lent::entry(lent::FREE, block);
+        lent::heap(|heap| {
+            for cells in 0..=whole {
+                if link == 0 {
+                    return Some(cells as u64);
+                }
+                let at = (link as usize).checked_sub(self.params.base + first)?;
+                if at % size != 0 || at / size >= whole {
+                    return None;
+                }
+                link = u64::from_le_bytes(heap[first + at..][..8].try_into().ok()?);
+            }
+            None
+        })
+    }
+
+    /// The free cells of a bin: the counts of the blocks on its lists, of each set.
+    fn free_cells(&self, bin: u64) -> u64 {
+        if bin >= BINS as u64 {
+            return 0;
+        }
+        let lists = (0..SETS as usize).map(|set| 1 + BINS * set + bin as usize);
+        let blocks = self.blocks_on(lists);
+        blocks.iter().filter_map(|link| self.block_at(*link)).map(|b| self.counts.words[b]).sum()
+    }
+
     /// The bin, or `-` where the Rust's assertion says that there is none.
     fn bin(&self, size: u64) -> String {
         let bin = try_rust(|| self.leaves.bin(size as usize));
@@ -273,7 +341,7 @@ impl Space {
     fn load(&mut self, line: Line) -> Option<()> {
         match line {
             Line::Write(address, value) => self.write(address, value),
-            Line::Table([block, state, words @ ..]) => self.table(block, state, words),
+            Line::Table([block, state, words @ ..], count) => self.table(block, state, words, count),
             Line::List(list, first, last) if (1..=LISTS).contains(&list) => {
                 self.machine.set_list(list as usize, first, last);
                 Some(())
@@ -296,13 +364,16 @@ impl Space {
         })
     }
 
-    fn table(&mut self, block: u64, state: u64, words: [u64; 6]) -> Option<()> {
+    fn table(&mut self, block: u64, state: u64, words: [u64; 6], count: Option<u64>) -> Option<()> {
         if block >= self.params.blocks as u64 || state > 255 {
             return None;
         }
         lent::set_entry(lent::STATE, block as usize, state);
         for (i, word) in words.iter().enumerate() {
             lent::set_entry(lent::NEXT + i, block as usize, *word);
+        }
+        if let Some(count) = count {
+            self.counts.words[block as usize] = count;
         }
         Some(())
     }
@@ -332,7 +403,7 @@ impl Space {
             for table in lent::STATE..lent::MARKS {
                 text += &format!(" {}", lent::entry(table, block));
             }
-            text.push('\n');
+            text += &format!(" {}\n", self.counts.words[block]);
         }
         for number in 1..=LISTS {
             let (first, last) = self.machine.list(number as usize);

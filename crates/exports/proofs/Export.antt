@@ -97,11 +97,11 @@ unfolding fits wordCount
 too-long p l h = go (test (goodParams p))
   where
     go : (goodParams p ≡ true) ⊎ (goodParams p ≡ false)
-        → (goodParams p && eqb (length (l .words)) (2958 + 6 * p .blocks) && eqb (length (l .states)) (p .blocks)
+        → (goodParams p && eqb (length (l .words)) (2958 + 7 * p .blocks) && eqb (length (l .states)) (p .blocks)
         && eqb (length (l .marks)) (heapBytes p / 64) && eqb (length (l .heap)) (heapBytes p)) ≡ false
     go (inl g) =
-        let z : eqb (length (l .words)) (2958 + 6 * p .blocks) ≡ false =
-        ne-eqb (length (l .words)) (2958 + 6 * p .blocks) (λ e. omega (arith, e, h, good-bounds p g .blocks-high)) in
+        let z : eqb (length (l .words)) (2958 + 7 * p .blocks) ≡ false =
+        ne-eqb (length (l .words)) (2958 + 7 * p .blocks) (λ e. omega (arith, e, h, good-bounds p g .blocks-high)) in
         rw (g, z)
     go (inr f) = rw f
 

@@ -24,10 +24,10 @@ use Rattle.laws.proofs.Base.{if-cases}
 use Rattle.laws.proofs.Below.{test, and-both}
 use Rattle.laws.proofs.Params.{good-bounds}
 use Rattle.laws.proofs.Lent.{fits-parts, answered-fits, answered-classes, set-up-is}
-use Rattle.soundness.proofs.Kept.{fresh-kept}
+use Rattle.soundness.proofs.Kept.{fresh-sound}
 use Rattle.runs.proofs.Demand3.{demand3}
 use Rattle.exports.proofs.Coding.{length-encoded, decoded-encoded}
-use Rattle.exports.proofs.Small.{Small, kept-small, call-small}
+use Rattle.exports.proofs.Small.{Small, sound-small, call-small}
 
 -- the host's bytes carry what is lent
 record Carries (b : LentBytes) (l : Lent) : Type 0 where
@@ -100,7 +100,7 @@ set-up-small p l e =
     let f : fits p l ≡ true = answered-fits p l e in
     let fine : goodParams p ≡ true = fits-parts p l f .0 in
     let rows : classesFit p ≡ true = answered-classes p l e in
-    rw (set-up-is p l f rows) (kept-small p (good-bounds p fine) rows (freshTables p) (fresh-kept p (good-bounds p fine)))
+    rw (set-up-is p l f rows) (sound-small p (good-bounds p fine) rows (freshTables p) (l .heap) (fresh-sound p (good-bounds p fine) (l .heap) (fits-parts p l f .1)))
 
 -- what returns 0 had flags and lengths that are right
 module _ (g : Given) (r : List ℕ) (b : LentBytes) (f : Inner) (e : called g r b f .number ≡ 0) where

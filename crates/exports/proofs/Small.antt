@@ -6,6 +6,7 @@ use mathlib.Core.Bool.{Bool, true, false, _&&_, _||_}
 use mathlib.Core.List.{List, [], _∷_, _++_}
 use Prim.Native.Nat.{ℕ, zero, suc, _+_, _*_, _/_, _%_, _^_, _≤_, _<_}
 use native.Mathlib.Omega.{arith}
+use native.Mathlib.Nat.{div-le-self}
 use native.Mathlib.Decide.{decLt, ℕ-discrete}
 use lib.Dec.{eqb, leb}
 use lib.ListN.{length, getD, List·getD-eq-default}
@@ -16,20 +17,21 @@ use Rattle.model.specs.Params.{goodParams, Lent, fits, wordCount, heapBytes, st
 use Rattle.model.specs.Tables.{Words, Tables, view, flat}
 use Rattle.model.specs.Classes.{classesFit}
 use Rattle.model.specs.BlockList.{blocksOn}
-use Rattle.model.specs.Block.{isCell}
+use Rattle.model.specs.Block.{cellCount, isCell}
 use Rattle.model.specs.Global.{isHolder}
-use Rattle.model.specs.Sound.{stateOf, blockClear, linkOk, phaseKnown, flagsKnown, sound}
+use Rattle.model.specs.Sound.{stateOf, blockClear, linkOk, phaseKnown, flagsKnown, sound, chained, soundOn}
 use Rattle.model.specs.Calls.{Call, plan, finish, step, Result, tablesIn, call}
 use Rattle.laws.proofs.Base.{if-cases}
 use Rattle.laws.proofs.Below.{test, and-left, and-right, and-five, or-cases, allBelow-at}
 use Rattle.laws.proofs.Params.{Bounds, good-bounds, start-end}
 use Rattle.laws.proofs.Classes.{cellBytes-most}
-use Rattle.laws.proofs.Cells.{isCell-whole, whole-to}
+use Rattle.laws.proofs.Cells.{isCell-whole, whole-isCell, whole-to}
+use Rattle.laws.proofs.ChainTest.{cells-few}
 use Rattle.laws.proofs.Tables.{Sized, sized-view, flat-view}
 use Rattle.soundness.proofs.Lists.{Seg, AllOn, on-list}
 use Rattle.soundness.proofs.SoundLists.{Good, Fit, sound-good}
 use Rattle.soundness.proofs.Flags.{Flags, sound-flags}
-use Rattle.soundness.proofs.Kept.{Kept, step-kept}
+use Rattle.soundness.proofs.Kept.{Kept, Sound, kept-sound, step-sound}
 
 abbrev pub Small : List ℕ → Type 0
 Small ws = (i : ℕ) → getD ws i 0 < 2 ^ 64
@@ -76,7 +78,7 @@ module _ (p : Params) (B : Bounds p) (rows : classesFit p ≡ true) where
         prev = λ b m. ⊎-elim (λ e. subst (λ (y : ℕ). getD (w .prev) y 0 ≤ 2 ^ 47) (sym e) (omega (arith, H .prev, h))) (λ i. r .prev b i) m;
       }
 
-  -- the six words of a block
+  -- the words of a block but its free count
   record Block (w : Words) (b : ℕ) : Type 0 where
     next : getD (w .next) b 0 < 2 ^ 64
     prev : getD (w .prev) b 0 < 2 ^ 64
@@ -93,14 +95,15 @@ module _ (p : Params) (B : Bounds p) (rows : classesFit p ≡ true) where
       let f = eqb (getD (w .free) b 0) 0 in
       let s = eqb (getD (w .size) b 0) 0 in
       let l = eqb (getD (w .list) b 0) 0 in
-      let h = and-five n r f s l (and-left (n && r && f && s && l) _ e) in
+      let t = eqb (getD (w .tls) b 0) 0 in
+      let h = and-five n r f s l (and-left (n && r && f && s && l) t (and-left (n && r && f && s && l && t) _ e)) in
       record {
         next = omega (arith, eqb-true (getD (w .next) b 0) 0 (h .0));
         prev = omega (arith, eqb-true (getD (w .prev) b 0) 0 (h .1));
         free = omega (arith, eqb-true (getD (w .free) b 0) 0 (h .2));
         size = omega (arith, eqb-true (getD (w .size) b 0) 0 (h .3));
         list = omega (arith, eqb-true (getD (w .list) b 0) 0 (h .4));
-        tls = omega (arith, eqb-true (getD (w .tls) b 0) 0 (and-right (n && r && f && s && l) _ e));
+        tls = omega (arith, eqb-true (getD (w .tls) b 0) 0 (and-right (n && r && f && s && l) t (and-left (n && r && f && s && l && t) _ e)));
       }
 
   link-small : (w : Words) (b a : ℕ) → b < p .blocks → 8 ≤ getD (w .size) b 0 → linkOk p w b a ≡ true → a < 2 ^ 64
@@ -160,10 +163,20 @@ module _ (p : Params) (B : Bounds p) (rows : classesFit p ≡ true) where
         λ i l. omega (arith, leb-true (getD (w .released) i 0) 1 (allBelow-at 9 (zeroOrOne (w .released)) (and-right a b e) i l)),
       )
 
+  -- a chain's cells are distinct whole cells of its block, so that there are no more of them than the block has bytes
+  cells-small : (t : Tables) (h : List ℕ) (S : Sound p B t h) (b : ℕ) → b < p .blocks → getD (t .words .cells) b 0 < 2 ^ 64
+  unfolding cellCount
+  cells-small t h S b low =
+      let K = S .chains .blocks b low in
+      let s : ℕ = getD (t .words .size) b 0 in
+      let few : length (getD (S .shadow) b []) ≤ p .bytes / s = cells-few p h b s (getD (S .shadow) b []) (λ x m. whole-isCell p b s x (K .cells x m)) (K .once) in
+      omega (arith, K .count, few, div-le-self (p .bytes) s, B .bytes-high)
+
   -- all words of sound tables
-  pub kept-small : (t : Tables) → Kept p B t → Small (flat (t .words))
+  pub sound-small : (t : Tables) (h : List ℕ) → Sound p B t h → Small (flat (t .words))
   unfolding flat
-  kept-small t K =
+  sound-small t h S =
+      let K : Kept p B t = S .kept in
       let w : Words = t .words in
       let n : ℕ = p .blocks in
       let G = sound-good p B t (K .passes) in
@@ -171,7 +184,8 @@ module _ (p : Params) (B : Bounds p) (rows : classesFit p ≡ true) where
       let Z : Sized n w = K .sized in
       let links = list-links t G in
       let b = block-small t G in
-      let of-list : List ℕ = w .list ++ w .tls in
+      let of-tls : List ℕ = w .tls ++ w .cells in
+      let of-list : List ℕ = w .list ++ of-tls in
       let of-size : List ℕ = w .size ++ of-list in
       let of-free : List ℕ = w .free ++ of-size in
       let of-prev : List ℕ = w .prev ++ of-free in
@@ -187,35 +201,38 @@ module _ (p : Params) (B : Bounds p) (rows : classesFit p ≡ true) where
       (small-append (w .prev) of-free (small-below (w .prev) n (Z .prev) (λ i l. b i l .prev))
       (small-append (w .free) of-size (small-below (w .free) n (Z .free) (λ i l. b i l .free))
       (small-append (w .size) of-list (small-below (w .size) n (Z .size) (λ i l. b i l .size))
-      (small-append (w .list) (w .tls) (small-below (w .list) n (Z .list) (λ i l. b i l .list))
-      (small-below (w .tls) n (Z .tls) (λ i l. b i l .tls)))))))))))
+      (small-append (w .list) of-tls (small-below (w .list) n (Z .list) (λ i l. b i l .list))
+      (small-append (w .tls) (w .cells) (small-below (w .tls) n (Z .tls) (λ i l. b i l .tls))
+      (small-below (w .cells) n (Z .cells) (λ i l. cells-small t h S i l))))))))))))
 
 -- ---- a call
 
 -- on tables that aren't sound nothing is touched
-unsound-step : (p : Params) (t : Tables) (h : List ℕ) (c : Call) → sound p t ≡ false → step p t h c .tables ≡ t
+unsound-step : (p : Params) (t : Tables) (h : List ℕ) (c : Call) → soundOn p t h ≡ false → step p t h c .tables ≡ t
 unfolding step plan finish
 unsound-step p t h c e = rw e
 
 module _ (p : Params) (l : Lent) (c : Call) (h : Small (l .words)) where
   fit-small : fits p l ≡ true → classesFit p ≡ true → Small (flat (step p (tablesIn l) (l .heap) c .tables .words))
   unfolding fits wordCount
-  fit-small f rows = go (test (sound p (tablesIn l)))
+  fit-small f rows = go (test (soundOn p (tablesIn l) (l .heap)))
     where
-      r : (goodParams p ≡ true) × (eqb (length (l .words)) (2958 + 6 * p .blocks) ≡ true) × (eqb (length (l .states)) (p .blocks) ≡ true)
+      r : (goodParams p ≡ true) × (eqb (length (l .words)) (2958 + 7 * p .blocks) ≡ true) × (eqb (length (l .states)) (p .blocks) ≡ true)
           × (eqb (length (l .marks)) (heapBytes p / 64) ≡ true) × (eqb (length (l .heap)) (heapBytes p) ≡ true)
-      r = and-five (goodParams p) (eqb (length (l .words)) (2958 + 6 * p .blocks)) (eqb (length (l .states)) (p .blocks)) (eqb (length (l .marks)) (heapBytes p / 64)) (eqb (length (l .heap)) (heapBytes p)) f
+      r = and-five (goodParams p) (eqb (length (l .words)) (2958 + 7 * p .blocks)) (eqb (length (l .states)) (p .blocks)) (eqb (length (l .marks)) (heapBytes p / 64)) (eqb (length (l .heap)) (heapBytes p)) f
 
       B : Bounds p
       B = good-bounds p (r .0)
 
-      long : length (l .words) ≡ 2958 + 6 * p .blocks
+      long : length (l .words) ≡ 2958 + 7 * p .blocks
       long = eqb-true _ _ (r .1)
 
-      go : (sound p (tablesIn l) ≡ true) ⊎ (sound p (tablesIn l) ≡ false) → Small (flat (step p (tablesIn l) (l .heap) c .tables .words))
+      go : (soundOn p (tablesIn l) (l .heap) ≡ true) ⊎ (soundOn p (tablesIn l) (l .heap) ≡ false) → Small (flat (step p (tablesIn l) (l .heap) c .tables .words))
       go (inl s) =
-          kept-small p B rows _ (step-kept p B rows (tablesIn l) (l .heap) c
-          (record { sized = sized-view (p .blocks) (l .words) long; states = eqb-true _ _ (r .2); passes = s }))
+          sound-small p B rows _ _ (step-sound p B rows (tablesIn l) (l .heap) c
+          (kept-sound p B (tablesIn l) (l .heap)
+          (record { sized = sized-view (p .blocks) (l .words) long; states = eqb-true _ _ (r .2); passes = and-left (sound p (tablesIn l)) (chained p (tablesIn l) (l .heap)) s })
+          (eqb-true _ _ (r .4)) (and-right (sound p (tablesIn l)) (chained p (tablesIn l) (l .heap)) s)))
       go (inr n) = subst Small (sym (ap (λ (t : Tables). flat (t .words)) (unsound-step p (tablesIn l) (l .heap) c n) ∙ flat-view (p .blocks) (l .words) long)) h
 
   pub call-small : Small (call p l c .lent .words)

@@ -3,6 +3,7 @@
 use crate::Entry;
 use crate::codec;
 use model::Ask;
+use model::BLOCK_TABLES;
 use model::Block;
 use model::Given;
 use model::HEAD_WORDS;
@@ -36,13 +37,10 @@ const ROW_BYTES: usize = 24;
 // 2^64 − 1 offers none.
 const NO_OFFER: usize = 18446744073709551615;
 
-// The words of the largest tables: those of lists, phase and holders, and those of each block. A block has six; the room is for
-// seven, which request R-7 will need.
-const MOST_BLOCK_WORDS: usize = 7;
-
+// The words of the largest tables: those of lists, phase and holders, and those of each block.
 const MOST_BLOCKS: usize = 1024;
 
-const MOST_WORDS: usize = HEAD_WORDS + MOST_BLOCK_WORDS * MOST_BLOCKS;
+const MOST_WORDS: usize = HEAD_WORDS + BLOCK_TABLES * MOST_BLOCKS;
 
 // Makes the inner call.
 fn enter(

@@ -26,7 +26,7 @@ const UNIFIED: usize = 1;
 
 const LOWER: i64 = 0;
 
-const WORDS_LEN: usize = 23856;
+const WORDS_LEN: usize = 23888;
 
 const HEAP: usize = 16384;
 

@@ -16,7 +16,7 @@ use Rattle.model.specs.declared.Params.{Params}
 use Rattle.model.specs.Base.{if_then_else_, In, Pairwise}
 use Rattle.model.specs.Params.{start, blockAt, inHeap, heapBytes}
 use Rattle.model.specs.Memory.{load, store}
-use Rattle.model.specs.Block.{cellCount, isCell, cellsDown, linkAll, chainFrom}
+use Rattle.model.specs.Block.{cellCount, isCell, cellsDown, linkAll, chainFrom, chainStands}
 use Rattle.laws.proofs.Below.{and-four, and-both}
 use Rattle.laws.proofs.Base.{if-cases, below-last, pairwise-more}
 use Rattle.laws.proofs.Params.{Bounds, start-in, start-end, blockAt-within, inHeap-yes}
@@ -178,6 +178,12 @@ length-cellsDown kept from s (suc n) =
     let ih : length (cellsDown kept from s n) ≤ n = length-cellsDown kept from s n in
     if-cases (λ (c : List ℕ). length c ≤ suc n) (kept (from + n * s)) (λ t. omega arith) (λ t. omega arith)
 
+-- all of them, where none is kept
+pub length-all : (from s n : ℕ) → length (cellsDown (λ a. false) from s n) ≡ n
+unfolding cellsDown
+length-all from s zero = refl
+length-all from s (suc n) = ap suc (length-all from s n)
+
 -- one cell more, kept or not
 pub cellsDown-kept : (kept : ℕ → Bool) (from s k : ℕ) {a : ℕ} → a ≡ from + k * s → kept a ≡ true
     → cellsDown kept from s k ≡ cellsDown kept from s (k + 1)
@@ -212,11 +218,6 @@ module _ (p : Params) (kept : ℕ → Bool) (b s a : ℕ) where
       (record { k = w .k; low = le-div-iff-mul-le {k = s} (omega (arith, w .word)) .1 room; at = w .at; free = e })
 
 -- ---- a chain in the heap
-
--- from a on, the words at the cells of the chain lead from each to the next, and the last to 0
-unfoldable pub chainStands : Params → List ℕ → ℕ → List ℕ → Type 0
-chainStands p h a [] = a ≡ 0
-chainStands p h a (x ∷ l) = (a ≡ x) × chainStands p h (load p h x) l
 
 -- every cell of the list has its first word in the heap h
 abbrev pub Placed : Params → List ℕ → List ℕ → Type 0

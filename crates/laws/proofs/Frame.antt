@@ -26,15 +26,17 @@ pub record LinksOnly (t t′ : Words) : Type 0 where
   pub free : t′ .free ≡ t .free
   pub size : t′ .size ≡ t .size
   pub tls : t′ .tls ≡ t .tls
+  pub cells : t′ .cells ≡ t .cells
   pub lengths : lengths t′ ≡ lengths t
 
 pub links-refl : (t : Words) → LinksOnly t t
-links-refl t = record { phase = refl; bound = refl; released = refl; free = refl; size = refl; tls = refl; lengths = refl }
+links-refl t = record { phase = refl; bound = refl; released = refl; free = refl; size = refl; tls = refl; cells = refl; lengths = refl }
 
 -- a store that leaves all these leaves them still
 stored : {t u : Words} (v : Words) → LinksOnly t u → v .phase ≡ u .phase → v .bound ≡ u .bound → v .released ≡ u .released
-    → v .free ≡ u .free → v .size ≡ u .size → v .tls ≡ u .tls → lengths v ≡ lengths u → LinksOnly t v
-stored v a ph bo re fr si tl le =
+    → v .free ≡ u .free → v .size ≡ u .size → v .tls ≡ u .tls → v .cells ≡ u .cells → lengths v ≡ lengths u
+    → LinksOnly t v
+stored v a ph bo re fr si tl ce le =
     record {
       phase = ph ∙ a .phase;
       bound = bo ∙ a .bound;
@@ -42,29 +44,30 @@ stored v a ph bo re fr si tl le =
       free = fr ∙ a .free;
       size = si ∙ a .size;
       tls = tl ∙ a .tls;
+      cells = ce ∙ a .cells;
       lengths = le ∙ a .lengths;
     }
 
 -- one link or list word stored
 pub first-links : {t u : Words} (i v : ℕ) → LinksOnly t u → LinksOnly t (setFirst i v u)
 unfolding setFirst
-first-links i v a = stored _ a refl refl refl refl refl refl (lengths-setFirst i v _)
+first-links i v a = stored _ a refl refl refl refl refl refl refl (lengths-setFirst i v _)
 
 pub last-links : {t u : Words} (i v : ℕ) → LinksOnly t u → LinksOnly t (setLast i v u)
 unfolding setLast
-last-links i v a = stored _ a refl refl refl refl refl refl (lengths-setLast i v _)
+last-links i v a = stored _ a refl refl refl refl refl refl refl (lengths-setLast i v _)
 
 pub next-links : {t u : Words} (i v : ℕ) → LinksOnly t u → LinksOnly t (setNext i v u)
 unfolding setNext
-next-links i v a = stored _ a refl refl refl refl refl refl (lengths-setNext i v _)
+next-links i v a = stored _ a refl refl refl refl refl refl refl (lengths-setNext i v _)
 
 pub prev-links : {t u : Words} (i v : ℕ) → LinksOnly t u → LinksOnly t (setPrev i v u)
 unfolding setPrev
-prev-links i v a = stored _ a refl refl refl refl refl refl (lengths-setPrev i v _)
+prev-links i v a = stored _ a refl refl refl refl refl refl refl (lengths-setPrev i v _)
 
 pub list-links : {t u : Words} (i v : ℕ) → LinksOnly t u → LinksOnly t (setList i v u)
 unfolding setList
-list-links i v a = stored _ a refl refl refl refl refl refl (lengths-setList i v _)
+list-links i v a = stored _ a refl refl refl refl refl refl refl (lengths-setList i v _)
 
 -- either way of a test
 pub if-links : {t x y : Words} (b : Bool) → LinksOnly t x → LinksOnly t y → LinksOnly t (if b then x else y)

@@ -214,22 +214,22 @@ module _ (p : Params) (words states marks heap : ℕ) where
   abbrev pub lengths : Bool
   lengths = eqb words (wordCount p) && eqb states (p .blocks) && eqb marks (heapBytes p / 64) && eqb heap (heapBytes p)
 
-  pub lengths-words : (words ≡ 2958 + 6 * p .blocks → ⊥) → false ≡ lengths
+  pub lengths-words : (words ≡ 2958 + 7 * p .blocks → ⊥) → false ≡ lengths
   unfolding wordCount
-  lengths-words n = rw (ne-eqb words (2958 + 6 * p .blocks) n)
+  lengths-words n = rw (ne-eqb words (2958 + 7 * p .blocks) n)
 
-  module _ (e : words ≡ 2958 + 6 * p .blocks) where
+  module _ (e : words ≡ 2958 + 7 * p .blocks) where
     pub lengths-states : (states ≡ p .blocks → ⊥) → false ≡ lengths
     unfolding wordCount
-    lengths-states n = rw (eq-eqb words (2958 + 6 * p .blocks) e, ne-eqb states (p .blocks) n)
+    lengths-states n = rw (eq-eqb words (2958 + 7 * p .blocks) e, ne-eqb states (p .blocks) n)
 
     module _ (f : states ≡ p .blocks) where
       pub lengths-marks : (marks ≡ p .blocks * p .bytes / 64 → ⊥) → false ≡ lengths
       unfolding wordCount heapBytes
       lengths-marks n =
-          rw (eq-eqb words (2958 + 6 * p .blocks) e, eq-eqb states (p .blocks) f, ne-eqb marks (p .blocks * p .bytes / 64) n)
+          rw (eq-eqb words (2958 + 7 * p .blocks) e, eq-eqb states (p .blocks) f, ne-eqb marks (p .blocks * p .bytes / 64) n)
 
       pub lengths-heap : marks ≡ p .blocks * p .bytes / 64 → eqb heap (p .blocks * p .bytes) ≡ lengths
       unfolding wordCount heapBytes
       lengths-heap m =
-          rw (eq-eqb words (2958 + 6 * p .blocks) e, eq-eqb states (p .blocks) f, eq-eqb marks (p .blocks * p .bytes / 64) m)
+          rw (eq-eqb words (2958 + 7 * p .blocks) e, eq-eqb states (p .blocks) f, eq-eqb marks (p .blocks * p .bytes / 64) m)

@@ -17,13 +17,24 @@ use Rattle.laws.proofs.Base.{if-true, if-false}
 use Rattle.laws.proofs.Below.{and-both, and-five}
 use Rattle.laws.proofs.Tables.{Sized, view-flat, length-flat}
 
--- what `fits` says of the parameters and the heap
-pub fits-parts : (p : Params) (l : Lent) → fits p l ≡ true → (goodParams p ≡ true) × (length (l .heap) ≡ heapBytes p)
+-- what `fits` says
+pub record Fitting (p : Params) (l : Lent) : Type 0 where
+  pub good : goodParams p ≡ true
+  pub words : length (l .words) ≡ wordCount p
+  pub states : length (l .states) ≡ p .blocks
+  pub marks : length (l .marks) ≡ heapBytes p / 64
+  pub heap : length (l .heap) ≡ heapBytes p
+
+pub fitting : (p : Params) (l : Lent) → fits p l ≡ true → Fitting p l
 unfolding fits
-fits-parts p l f =
+fitting p l f =
     let r = and-five (goodParams p) (eqb (length (l .words)) (wordCount p)) (eqb (length (l .states)) (p .blocks))
     (eqb (length (l .marks)) (heapBytes p / 64)) (eqb (length (l .heap)) (heapBytes p)) f in
-    (r .0, eqb-true _ _ (r .4))
+    record { good = r .0; words = eqb-true _ _ (r .1); states = eqb-true _ _ (r .2); marks = eqb-true _ _ (r .3); heap = eqb-true _ _ (r .4) }
+
+-- of the parameters and the heap
+pub fits-parts : (p : Params) (l : Lent) → fits p l ≡ true → (goodParams p ≡ true) × (length (l .heap) ≡ heapBytes p)
+fits-parts p l f = (fitting p l f .good, fitting p l f .heap)
 
 -- a set-up that is answered had buffers that fit, and rows that are accepted
 pub answered-fits : (p : Params) (l : Lent) → setUp p l .reply ≡ answered [] → fits p l ≡ true
@@ -55,12 +66,18 @@ set-up-is p l f k = if-true (fits p l) _ _ f ∙ if-true (classesFit p) _ _ k
 pub lent-tables : (n : ℕ) (t : Tables) (h : List ℕ) → Sized n (t .words) → tablesIn (lentOf t h) ≡ t
 lent-tables n t h z = ap (λ (w : Words). tablesOf w (t .states) (t .marks)) (view-flat n (t .words) z)
 
--- a call on buffers that fit is its step on what they hold
+-- buffers with tables and a heap of the right lengths fit
+pub lent-fits : (p : Params) (t : Tables) (h : List ℕ) → goodParams p ≡ true → Sized (p .blocks) (t .words) → length (t .states) ≡ p .blocks
+    → length (t .marks) ≡ heapBytes p / 64 → length h ≡ heapBytes p → fits p (lentOf t h) ≡ true
+unfolding fits wordCount
+lent-fits p t h fine z es em eh =
+    and-both (and-both (and-both (and-both fine (eq-eqb _ _ (length-flat (p .blocks) (t .words) z))) (eq-eqb _ _ es)) (eq-eqb _ _ em)) (eq-eqb _ _ eh)
+
+-- a call on them is its step on what they hold
 pub call-is : (p : Params) (t : Tables) (h : List ℕ) → goodParams p ≡ true → classesFit p ≡ true → Sized (p .blocks) (t .words) → length (t .states) ≡ p .blocks
     → length (t .marks) ≡ heapBytes p / 64 → length h ≡ heapBytes p → (c : Call) → call p (lentOf t h) c ≡ resultFrom (step p t h c)
-unfolding call fits wordCount
+unfolding call
 call-is p t h fine rows z es em eh c =
-    if-true (fits p (lentOf t h)) _ _
-    (and-both (and-both (and-both (and-both fine (eq-eqb _ _ (length-flat (p .blocks) (t .words) z))) (eq-eqb _ _ es)) (eq-eqb _ _ em)) (eq-eqb _ _ eh))
+    if-true (fits p (lentOf t h)) _ _ (lent-fits p t h fine z es em eh)
     ∙ if-true (classesFit p) _ _ rows
     ∙ ap (λ (x : Tables). resultFrom (step p x h c)) (lent-tables (p .blocks) t h z)

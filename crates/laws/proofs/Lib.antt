@@ -14,6 +14,7 @@ pub mod BlockList
 pub mod Frame
 pub mod Walks
 pub mod Pigeon
+pub mod ChainTest
 pub mod Linked
 pub mod Text
 pub mod Stores

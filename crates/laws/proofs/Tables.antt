@@ -1,6 +1,6 @@
 -- The words of all tables in one list, taken apart by `view`: a store in one table is that table's store in the view, and
 -- changes no other; `view` and `flat` undo one another; no store changes how long a table is.
--- The eleven parts follow each other, so all of it is one induction over their lengths (`cuts`). Assumes nothing.
+-- The twelve parts follow each other, so all of it is one induction over their lengths (`cuts`). Assumes nothing.
 use Prim.Native.Nat.{ℕ, zero, suc, _+_, _-_, _*_, _/_, _<_, _≤_}
 use mathlib.Core.Path.{_≡_, refl, sym, ap, _∙_}
 use mathlib.Core.Bool.{Bool, true, false}
@@ -13,7 +13,7 @@ use lib.Seq.{set-out, set-getD, getD-take, getD-drop, getD-set-same, take-set-le
 use borrow.Author.Tests.{lt-ltb, le-ltb, ltb-true, ltb-false}
 use Rattle.model.specs.Base.{if_then_else_}
 use Rattle.model.specs.Params.{lists, holders, parts, phaseWord, boundWords, releasedWords, headWords, blockTables}
-use Rattle.model.specs.Tables.{Words, part, blocksIn, blockTable, view, flat, putIn, putFirst, putLast, putBound, putReleased, putNext, putPrev, putFree, putSize, putList, putTls, putPhase, setFirst, setLast, setBound, setReleased, setNext, setPrev, setFree, setSize, setList, setTls, setPhase}
+use Rattle.model.specs.Tables.{Words, part, blocksIn, blockTable, view, flat, putIn, putFirst, putLast, putBound, putReleased, putNext, putPrev, putFree, putSize, putList, putTls, putCells, putPhase, setFirst, setLast, setBound, setReleased, setNext, setPrev, setFree, setSize, setList, setTls, setCells, setPhase}
 use Rattle.laws.proofs.Memory.{getD-zeros}
 
 -- the two cases of a test
@@ -95,10 +95,10 @@ cut-at : (k : ℕ) (ks x y : List ℕ) → length x ≡ k → cuts (k ∷ ks) (x
 unfolding cuts
 cut-at k ks x y e = rw (take-at x y k e, drop-at x y k e)
 
--- ---- the eleven parts of the words of n blocks, and the view from them
+-- ---- the twelve parts of the words of n blocks, and the view from them
 
 spans : ℕ → List ℕ
-spans n = 1470 ∷ 1470 ∷ 1 ∷ 8 ∷ 9 ∷ n ∷ n ∷ n ∷ n ∷ n ∷ n ∷ []
+spans n = 1470 ∷ 1470 ∷ 1 ∷ 8 ∷ 9 ∷ n ∷ n ∷ n ∷ n ∷ n ∷ n ∷ n ∷ []
 
 assemble : List (List ℕ) → Words
 assemble cs =
@@ -114,13 +114,14 @@ assemble cs =
       size = getD cs 8 [];
       list = getD cs 9 [];
       tls = getD cs 10 [];
+      cells = getD cs 11 [];
     }
 
 -- the parts, at their places in the words
 inPlace : ℕ → List ℕ → List (List ℕ)
 inPlace n w =
     part 0 1470 w ∷ part 1470 1470 w ∷ part 2940 1 w ∷ part 2941 8 w ∷ part 2949 9 w ∷ blockTable n 0 w ∷ blockTable n 1 w
-    ∷ blockTable n 2 w ∷ blockTable n 3 w ∷ blockTable n 4 w ∷ blockTable n 5 w ∷ []
+    ∷ blockTable n 2 w ∷ blockTable n 3 w ∷ blockTable n 4 w ∷ blockTable n 5 w ∷ blockTable n 6 w ∷ []
 
 -- from one block table to the next
 next-table : (n j : ℕ) (w : List ℕ) → drop n (drop (2958 + j * n) w) ≡ drop (2958 + suc j * n) w
@@ -133,7 +134,7 @@ unfolding cuts spans inPlace
 cuts-parts n w =
     let zeroth : drop 2958 w ≡ drop (2958 + 0 * n) w = rw (zero-mul n) in
     rw (drop-drop 1470 1470 w, drop-drop 1 2940 w, drop-drop 8 2941 w, drop-drop 9 2949 w, zeroth)
-    (rw (next-table n 0 w, next-table n 1 w, next-table n 2 w, next-table n 3 w, next-table n 4 w))
+    (rw (next-table n 0 w, next-table n 1 w, next-table n 2 w, next-table n 3 w, next-table n 4 w, next-table n 5 w))
 
 view-parts : (w : List ℕ) → view w ≡ assemble (inPlace (blocksIn w) w)
 unfolding view assemble inPlace
@@ -145,7 +146,7 @@ view-cuts : (w : List ℕ) → view w ≡ assemble (cuts (spans (blocksIn w)) w)
 view-cuts w = view-parts w ∙ ap assemble (sym (cuts-parts (blocksIn w) w))
 
 pub blocks-same : (u w : List ℕ) → length u ≡ length w → blocksIn u ≡ blocksIn w
-blocks-same u w e = ap (λ (m : ℕ). (m - 2958) / 6) e
+blocks-same u w e = ap (λ (m : ℕ). (m - 2958) / 7) e
 
 -- ---- a store in the part j, that starts at o and is m words long
 
@@ -201,6 +202,10 @@ module _ (i v : ℕ) (w : List ℕ) {u : List ℕ} where
   unfolding assemble cuts cutStart spans putTls setTls
   put-tls e = ap view e ∙ view-put 10 (2958 + 5 * blocksIn w) (blocksIn w) i v w (omega arith) refl ∙ ap (setTls i v) (sym (view-cuts w))
 
+  pub put-cells : u ≡ putCells i v w → view u ≡ setCells i v (view w)
+  unfolding assemble cuts cutStart spans putCells setCells
+  put-cells e = ap view e ∙ view-put 11 (2958 + 6 * blocksIn w) (blocksIn w) i v w (omega arith) refl ∙ ap (setCells i v) (sym (view-cuts w))
+
 -- the phase is one word, and no list: a store of it is seen only where the word is there
 pub put-phase : (v : ℕ) (w : List ℕ) {u : List ℕ} → 2940 < length w → u ≡ putPhase v w → view u ≡ setPhase v (view w)
 unfolding assemble cuts cutStart spans putPhase setPhase
@@ -223,12 +228,13 @@ pub record Sized (n : ℕ) (t : Words) : Type 0 where
   pub size : length (t .size) ≡ n
   pub list : length (t .list) ≡ n
   pub tls : length (t .tls) ≡ n
+  pub cells : length (t .cells) ≡ n
 
 -- the lengths as one list: that a step keeps them is one equation
 unfoldable pub lengths : Words → List ℕ
 lengths t =
     length (t .first) ∷ length (t .last) ∷ length (t .bound) ∷ length (t .released) ∷ length (t .next) ∷ length (t .prev)
-    ∷ length (t .free) ∷ length (t .size) ∷ length (t .list) ∷ length (t .tls) ∷ []
+    ∷ length (t .free) ∷ length (t .size) ∷ length (t .list) ∷ length (t .tls) ∷ length (t .cells) ∷ []
 
 pub sized-same : {n : ℕ} {t u : Words} → lengths u ≡ lengths t → Sized n t → Sized n u
 unfolding lengths
@@ -245,6 +251,7 @@ sized-same {n} {t} {u} e s =
       size = at 7 ∙ s .size;
       list = at 8 ∙ s .list;
       tls = at 9 ∙ s .tls;
+      cells = at 10 ∙ s .cells;
     }
 
 module _ (i v : ℕ) (t : Words) where
@@ -288,17 +295,21 @@ module _ (i v : ℕ) (t : Words) where
   unfolding lengths setTls
   lengths-setTls = simp length-set
 
+  pub lengths-setCells : lengths (setCells i v t) ≡ lengths t
+  unfolding lengths setCells
+  lengths-setCells = simp length-set
+
 pub lengths-setPhase : (v : ℕ) (t : Words) → lengths (setPhase v t) ≡ lengths t
 unfolding lengths setPhase
 lengths-setPhase v t = refl
 
 -- for a step that is made of stores: `sized-same (simp kept-lengths)` under the step's `unfolding`
-pub ruleset kept-lengths = (lengths-setFirst, lengths-setLast, lengths-setBound, lengths-setReleased, lengths-setNext, lengths-setPrev, lengths-setFree, lengths-setSize, lengths-setList, lengths-setTls, lengths-setPhase)
+pub ruleset kept-lengths = (lengths-setFirst, lengths-setLast, lengths-setBound, lengths-setReleased, lengths-setNext, lengths-setPrev, lengths-setFree, lengths-setSize, lengths-setList, lengths-setTls, lengths-setCells, lengths-setPhase)
 
 sized-part : (o k : ℕ) (w : List ℕ) → o + k ≤ length w → length (part o k w) ≡ k
 sized-part o k w h = simp (length-take, length-drop) (omega arith)
 
-pub sized-view : (n : ℕ) (w : List ℕ) → length w ≡ 2958 + 6 * n → Sized n (view w)
+pub sized-view : (n : ℕ) (w : List ℕ) → length w ≡ 2958 + 7 * n → Sized n (view w)
 unfolding view
 sized-view n w e =
     let m : blocksIn w ≡ n = omega arith in
@@ -315,6 +326,7 @@ sized-view n w e =
       size = table 3 (omega arith);
       list = table 4 (omega arith);
       tls = table 5 (omega arith);
+      cells = table 6 (omega arith);
     }
 
 -- ---- the view loses nothing
@@ -327,12 +339,12 @@ join-next o k q w e =
 join-last : (o k : ℕ) (w : List ℕ) → length w ≤ o + k → part o k w ≡ drop o w
 join-last o k w h = take-all k (drop o w) (simp length-drop (omega arith))
 
--- the six block tables, one behind the other from o on
+-- the seven block tables, one behind the other from o on
 join-tables : (n o : ℕ) (w : List ℕ) → length w ≡ o + blockTables * n
-    → part (o + 0 * n) n w ++ (part (o + 1 * n) n w ++ (part (o + 2 * n) n w ++ (part (o + 3 * n) n w ++ (part (o + 4 * n) n w ++ part (o + 5 * n) n w))))
+    → part (o + 0 * n) n w ++ (part (o + 1 * n) n w ++ (part (o + 2 * n) n w ++ (part (o + 3 * n) n w ++ (part (o + 4 * n) n w ++ (part (o + 5 * n) n w ++ part (o + 6 * n) n w)))))
     ≡ drop (o + 0 * n) w
 join-tables n o w e =
-    rw (join-last (o + 5 * n) n w (omega arith), join-next (o + 4 * n) n (o + 5 * n) w (omega arith), join-next (o + 3 * n) n (o + 4 * n) w (omega arith), join-next (o + 2 * n) n (o + 3 * n) w (omega arith), join-next (o + 1 * n) n (o + 2 * n) w (omega arith), join-next (o + 0 * n) n (o + 1 * n) w (omega arith))
+    rw (join-last (o + 6 * n) n w (omega arith), join-next (o + 5 * n) n (o + 6 * n) w (omega arith), join-next (o + 4 * n) n (o + 5 * n) w (omega arith), join-next (o + 3 * n) n (o + 4 * n) w (omega arith), join-next (o + 2 * n) n (o + 3 * n) w (omega arith), join-next (o + 1 * n) n (o + 2 * n) w (omega arith), join-next (o + 0 * n) n (o + 1 * n) w (omega arith))
 
 flat-at : (n : ℕ) (w : List ℕ) → length w ≡ headWords + blockTables * n → blocksIn w ≡ n → flat (view w) ≡ w
 unfolding flat view
@@ -341,16 +353,16 @@ flat-at n w e m =
     let phase : drop phaseWord w ≡ getD w phaseWord 0 ∷ drop boundWords w = drop-cons w phaseWord 0 (omega arith) in
     rw (m, join-tables n headWords w e, join-next releasedWords parts (headWords + 0 * n) w zeroth, join-next boundWords holders releasedWords w refl, ← phase, join-next lists lists phaseWord w refl, join-next 0 lists lists w refl)
 
-pub flat-view : (n : ℕ) (w : List ℕ) → length w ≡ 2958 + 6 * n → flat (view w) ≡ w
+pub flat-view : (n : ℕ) (w : List ℕ) → length w ≡ 2958 + 7 * n → flat (view w) ≡ w
 flat-view n w e = flat-at n w e (omega arith)
 
 -- the words after a call, from an equation of views
-pub words-flat : (n : ℕ) (u w : List ℕ) (t : Words) → length w ≡ 2958 + 6 * n → length u ≡ length w → view u ≡ t → u ≡ flat t
+pub words-flat : (n : ℕ) (u w : List ℕ) (t : Words) → length w ≡ 2958 + 7 * n → length u ≡ length w → view u ≡ t → u ≡ flat t
 words-flat n u w t e l q = sym (flat-view n u (l ∙ e)) ∙ ap flat q
 
 -- ---- and every record of tables of these lengths is a view
 
-pub length-flat : (n : ℕ) (t : Words) → Sized n t → length (flat t) ≡ 2958 + 6 * n
+pub length-flat : (n : ℕ) (t : Words) → Sized n t → length (flat t) ≡ 2958 + 7 * n
 unfolding flat
 length-flat n t s = simp length-append (omega arith)
 
@@ -362,7 +374,7 @@ cut-last : (k : ℕ) (x : List ℕ) → length x ≡ k → cuts (k ∷ []) x ≡
 unfolding cuts
 cut-last k x e = rw (take-all k x (omega arith))
 
-cuts-flat : (n : ℕ) (t : Words) → Sized n t → cuts (spans n) (flat t) ≡ t .first ∷ t .last ∷ (t .phase ∷ []) ∷ t .bound ∷ t .released ∷ t .next ∷ t .prev ∷ t .free ∷ t .size ∷ t .list ∷ t .tls ∷ []
+cuts-flat : (n : ℕ) (t : Words) → Sized n t → cuts (spans n) (flat t) ≡ t .first ∷ t .last ∷ (t .phase ∷ []) ∷ t .bound ∷ t .released ∷ t .next ∷ t .prev ∷ t .free ∷ t .size ∷ t .list ∷ t .tls ∷ t .cells ∷ []
 unfolding flat spans
 cuts-flat n t s =
     let first = s .first in
@@ -375,7 +387,8 @@ cuts-flat n t s =
     let size = s .size in
     let list = s .list in
     let tls = s .tls in
-    rw (cut-at, cut-at, cut-one, cut-at, cut-at, cut-at, cut-at, cut-at, cut-at, cut-at, cut-last)
+    let cells = s .cells in
+    rw (cut-at, cut-at, cut-one, cut-at, cut-at, cut-at, cut-at, cut-at, cut-at, cut-at, cut-at, cut-last)
 
 pub view-flat : (n : ℕ) (t : Words) → Sized n t → view (flat t) ≡ t
 unfolding assemble

@@ -17,7 +17,7 @@ use Rattle.model.specs.Tables.{Words, Tables, setTls}
 use Rattle.model.specs.BlockList.{Popped, popped, push, pop, remove, append}
 use Rattle.model.specs.Block.{Unallocated, Unmarked, sweptWords, clearBlock}
 use Rattle.model.specs.Events.{Event, released}
-use Rattle.model.specs.FreeListAllocator.{findFreeBlockWith, Found, found, sweepOf, andThen, recycleLocalBlocks, acquireAbandoned, Search, inFound, acquireFresh, findBlock}
+use Rattle.model.specs.FreeListAllocator.{findFreeBlockWith, Found, found, sweepOf, followedBy, recycleLocalBlocks, acquireAbandoned, Search, inFound, acquireFresh, findBlock}
 use Rattle.model.specs.Global.{abandonBin, abandonBlocks, Freed, releaseFrom, releaseBlocks, appendTo, releaseBin, sweepLaterBin}
 use Rattle.laws.proofs.Base.{if-cases, bool-cases}
 use Rattle.laws.proofs.Frame.{each-keeps}
@@ -192,7 +192,7 @@ module _ (p : Params) (h bin : ℕ) (t : Tables) (On : List Event → Words → 
       f = recycleLocalBlocks (p .blocks) p (t .marks) (localSets h) bin (g .words)
 
       a : Found
-      a = andThen f (acquireAbandoned (p .blocks) p (t .marks) h bin (f .words))
+      a = followedBy f (acquireAbandoned (p .blocks) p (t .marks) h bin (f .words))
 
 -- ---- a list's Unmarked blocks released
 

@@ -20,6 +20,8 @@ use Rattle.model.specs.declared.PagesAnswer.{PagesAnswer}
 use Rattle.model.specs.declared.PagesAnswer.the-variants as Pages
 use Rattle.model.specs.declared.ClassesAnswer.{ClassesAnswer}
 use Rattle.model.specs.declared.ClassesAnswer.the-variants as Classes
+use Rattle.model.specs.declared.CellsAnswer.{CellsAnswer}
+use Rattle.model.specs.declared.CellsAnswer.the-variants as Cells
 use Rattle.model.specs.Base.{flag}
 use Rattle.model.specs.Params.{Lent}
 use Rattle.model.specs.Calls.{Reply, answered, refused, Call, bind, destroy, alloc, prepare, mark, release, sharedRelease, Result}
@@ -57,6 +59,10 @@ classesReply =
       | Classes.BadRow n ↦ answered (2 ∷ n ∷ [])
       | Classes.Refused r ↦ refused r
     ]
+
+-- the total free cells of a bin (02, R-7)
+unfoldable pub cellsReply : CellsAnswer → Reply
+cellsReply = elim [ Cells.Cells n ↦ answered (n ∷ []) | Cells.Refused r ↦ refused r ]
 
 -- ---- any of the calls, by value
 

@@ -1,10 +1,11 @@
 -- "Block": states, whole cells, the chain of free cells, init, the two sweeps and the choice between them, release.
 -- A chain is the list of its cells' addresses, the free head first.
 use Prim.Native.Nat.{ℕ, zero, suc, _+_, _-_, _*_, _/_, _%_}
+use mathlib.Core.Path.{_≡_}
 use mathlib.Core.Bool.{Bool, true, false, not, _&&_}
 use mathlib.Core.List.{List, [], _∷_, headD}
 use lib.Dec.{eqb, ltb, leb}
-use lib.ListN.{getD, set}
+use lib.ListN.{getD, set, length}
 use Rattle.model.specs.declared.Params.{Params}
 use Rattle.model.specs.declared.Block.{Block}
 use Rattle.model.specs.declared.ChainWalk.{ChainWalk}
@@ -12,7 +13,7 @@ use Rattle.model.specs.Base.{if_then_else_, anyBelow}
 use Rattle.model.specs.Params.{goodParams, start, plusLower}
 use Rattle.model.specs.Memory.{load, store, marked}
 use Rattle.model.specs.SizeClasses.{wordsIn}
-use Rattle.model.specs.Tables.{Words, setNext, setPrev, setFree, setSize, setList, setTls}
+use Rattle.model.specs.Tables.{Words, setNext, setPrev, setFree, setSize, setList, setTls, setCells}
 
 -- "State bytes: 0 Unallocated, 255 Unmarked, 254 Marked."
 abbrev pub Unallocated : ℕ
@@ -52,9 +53,12 @@ linkAll p (a ∷ chain) h = store p (linkAll p chain h) a (headD chain 0)
 unfoldable pub initChain : Params → ℕ → ℕ → List ℕ
 initChain p b size = cellsDown (λ a. false) (start p b) size (cellCount p size)
 
--- the words of a block after init, by this holder; its state is set where the offer is taken (`acquireFresh`)
+-- the words of a block after init, by this holder; its state is set where the offer is taken (`acquireFresh`). 02, R-7: "the length of
+-- its free chain after the last init, sweep or alloc on it"
 unfoldable pub initBlock : Params → ℕ → ℕ → ℕ → Words → Words
-initBlock p b size holder w = setTls b holder (setSize b size (setFree b (headD (initChain p b size) 0) w))
+initBlock p b size holder w =
+    let chain : List ℕ = initChain p b size in
+    setCells b (length chain) (setTls b holder (setSize b size (setFree b (headD chain 0) w)))
 
 -- ---- sweeps
 
@@ -73,16 +77,23 @@ keeps p mark size a = if simple p then mark a else anyBelow (wordsIn size) (λ i
 unfoldable pub sweepChain : Params → List ℕ → ℕ → ℕ → List ℕ
 sweepChain p ms b size = cellsDown (keeps p (marked p ms) size) (start p b) size (cellCount p size)
 
--- "A sweep writes only the first word of freed cells and the free head": the words after a sweep of b
+-- "A sweep writes only the first word of freed cells and the free head", since R-7 the free count too: the words after a sweep of b
 unfoldable pub sweptWords : Params → List ℕ → ℕ → Words → Words
-sweptWords p ms b w = setFree b (headD (sweepChain p ms b (getD (w .size) b 0)) 0) w
+sweptWords p ms b w =
+    let chain : List ℕ = sweepChain p ms b (getD (w .size) b 0) in
+    setCells b (length chain) (setFree b (headD chain 0) w)
 
 -- ---- release: all words of the block are 0 again; its state is set where a block is released (Global `releaseFrom`)
 
 unfoldable pub clearBlock : ℕ → Words → Words
-clearBlock b w = setTls b 0 (setList b 0 (setSize b 0 (setFree b 0 (setPrev b 0 (setNext b 0 w)))))
+clearBlock b w = setCells b 0 (setTls b 0 (setList b 0 (setSize b 0 (setFree b 0 (setPrev b 0 (setNext b 0 w))))))
 
 -- ---- the free chain that stands in the heap
+
+-- from the address a on, the words at the cells of the list lead from each to the next, and the last to 0: the list is the chain
+unfoldable pub chainStands : Params → List ℕ → ℕ → List ℕ → Type 0
+chainStands p h a [] = a ≡ 0
+chainStands p h a (x ∷ chain) = (a ≡ x) × chainStands p h (load p h x) chain
 
 -- from the address a on, the whole cells of b that are linked one after the other: up to a link that is none, at most k
 unfoldable pub chainFrom : ℕ → Params → List ℕ → ℕ → ℕ → ℕ → List ℕ

@@ -1,8 +1,9 @@
 -- "Refusals, tested in this order", and the eight calls: what each answers, and every table word, state byte, mark byte and
 -- heap byte after it.
 --
--- A call is planned by the tables and marks alone (`plan`). Only `finish` reads the heap, at the link of the one cell taken.
-use Prim.Native.Nat.{ℕ, _+_, _%_}
+-- A call on sound tables is planned by the tables and marks alone (`planSound`). The heap is read by the test of chains before
+-- (`plan`) and by `finish`, at the link of the one cell taken.
+use Prim.Native.Nat.{ℕ, _+_, _-_, _%_}
 use mathlib.Core.Bool.{Bool, true, not, _&&_, _||_}
 use mathlib.Core.List.{List, [], _∷_, _++_}
 use lib.Dec.{eqb, ltb, leb}
@@ -14,10 +15,10 @@ use Rattle.model.specs.declared.Refusal.{Refusal}
 use Rattle.model.specs.declared.Refusal.the-variants.{BadSetup, BadTables, WrongPhase, BadHolder, BadRequest, TooBig, BadOffer, BadLink, Exhausted, BadObject, BadLine, BadClasses}
 use Rattle.model.specs.declared.Tested.{Tested}
 use Rattle.model.specs.declared.Tested.the-variants.{Passed, Refused}
-use Rattle.model.specs.Base.{if_then_else_, flag}
-use Rattle.model.specs.Params.{goodParams, powerOfTwo, Lent, fits, wordCount, inHeap, start, blockAt, minusLower, bins, localSets, abandoned}
+use Rattle.model.specs.Base.{if_then_else_, sumBelow, flag}
+use Rattle.model.specs.Params.{goodParams, powerOfTwo, Lent, fits, wordCount, inHeap, start, blockAt, minusLower, bins, lastBin, localSets, abandoned}
 use Rattle.model.specs.Memory.{load, marked}
-use Rattle.model.specs.Tables.{Words, Tables, tablesOf, withWords, view, flat, setFree}
+use Rattle.model.specs.Tables.{Words, Tables, tablesOf, withWords, view, flat, setFree, setCells}
 use Rattle.model.specs.SizeClasses.{binOf, raised, alignAllocation}
 use Rattle.model.specs.Classes.{badCount, badRow, classesFit}
 use Rattle.model.specs.BlockList.{pagesUsed, pagesEnd}
@@ -25,7 +26,7 @@ use Rattle.model.specs.Block.{Unallocated}
 use Rattle.model.specs.Events.{Event, taken, eventHeap, eventsHeap, sweeps, releases}
 use Rattle.model.specs.FreeListAllocator.{Search, findBlock}
 use Rattle.model.specs.Global.{Running, Marking, Releasing, freshTables, isHolder, isBound, hasReleased, bindHolder, abandonedBlocks, destroyHolder, prepared, markPlace, Freed, releaseHolder, sweepLater, partReleased, merged}
-use Rattle.model.specs.Sound.{sound, stateOf, linkOk}
+use Rattle.model.specs.Sound.{stateOf, binNamed, soundOn}
 
 -- ---- refusals and replies
 
@@ -206,9 +207,9 @@ ifPassed (Refused refusal) t q = refuses t refusal
 unfoldable pub planSound : Params → Tables → Call → Plan
 planSound p t c = ifPassed (callTests p t c) t (planPassed p t c)
 
--- "BadTables: not sound"
-unfoldable pub plan : Params → Tables → Call → Plan
-plan p t c = if sound p t then planSound p t c else refuses t BadTables
+-- "BadTables: not sound". 02, R-7: "A bad link is therefore BadTables from then on, and number 8 never occurs." (`NeverBadLink`)
+unfoldable pub plan : Params → Tables → List ℕ → Call → Plan
+plan p t h c = if soundOn p t h then planSound p t c else refuses t BadTables
 
 -- ---- the end of a call
 
@@ -219,18 +220,17 @@ pub record Step : Type 0 where
   pub events : List Event
 
 -- The cell at the free head of the block b, on the tables and the heap that the events left. "The next link is read before
--- the whole cell is zeroed." "BadLink: the cell's link is neither 0 nor a whole cell of its block"; "8 leaves cell and head
--- alone". "The answer: address, cell size, whether the offer was used, blocks swept"
+-- the whole cell is zeroed." Since R-7 it is not tested here, and the block's free count is one less. "The answer: address, cell
+-- size, whether the offer was used, blocks swept"
 unfoldable pub takeCell : Params → Tables → List Event → List ℕ → ℕ → ℕ → ℕ → Bool → Step
 takeCell p t es h b align offset fresh =
     let cell : ℕ = getD (t .words .free) b 0 in
     let size : ℕ = getD (t .words .size) b 0 in
-    let next : ℕ = load p h cell in
+    let left : ℕ = getD (t .words .cells) b 0 - 1 in
     let reply : Reply = answered (alignAllocation cell align offset ∷ size ∷ flag fresh ∷ sweeps es ∷ []) in
-    let t′ : Tables = withWords (setFree b next (t .words)) t in
+    let t′ : Tables = withWords (setCells b left (setFree b (load p h cell) (t .words))) t in
     let e : Event = taken cell size in
-    if linkOk p (t .words) b next then record { reply = reply; tables = t′; heap = eventHeap p e h; events = es ++ (e ∷ []) }
-    else record { reply = refused BadLink; tables = t; heap = h; events = es }
+    record { reply = reply; tables = t′; heap = eventHeap p e h; events = es ++ (e ∷ []) }
 
 unfoldable pub finish : Params → Tables → List Event → List ℕ → End → Step
 finish p t es h (says reply) = record { reply = reply; tables = t; heap = h; events = es }
@@ -246,7 +246,7 @@ soundStep p t h c = carried p h (planSound p t c)
 
 -- and on any tables and a heap of the right lengths
 unfoldable pub step : Params → Tables → List ℕ → Call → Step
-step p t h c = carried p h (plan p t c)
+step p t h c = carried p h (plan p t h c)
 
 -- ---- the calls on what is lent: "BadSetup: a parameter or buffer length is off", and then nothing is touched
 
@@ -287,6 +287,27 @@ pages p ws firsts =
     if not (goodParams p && eqb (length ws) (wordCount p) && eqb (length firsts) bins) then refused BadSetup
     else if not (pagesEnd p (view ws .next) firsts) then refused BadTables
     else answered (pagesUsed p (view ws .next) firsts ∷ [])
+
+-- ---- questions, which change nothing and may be asked in every phase
+
+pub data Question : Type 0 where
+  -- the bin
+  freeCells : ℕ → Question
+
+-- the sum of the free counts of the bin's blocks, on whichever list each is. An Unallocated block's word is 0
+unfoldable pub cellsOf : Params → Words → ℕ → ℕ
+cellsOf p w bin = sumBelow (p .blocks) (λ b. if eqb (binNamed w b) bin then getD (w .cells) b 0 else 0)
+
+-- 02, R-7: "Add a call, in every phase, for the total free cells of a bin over all lists: after 1, 12 and 2, the sum of the words of that
+-- bin's blocks. A bin outside 1 to 48 is BadRequest there."
+unfoldable pub ask : Params → Lent → Question → Reply
+ask p l (freeCells bin) =
+    let t : Tables = tablesIn l in
+    if not (fits p l) then refused BadSetup
+    else if not (classesFit p) then refused BadClasses
+    else if not (soundOn p t (l .heap)) then refused BadTables
+    else if not (leb 1 bin && leb bin lastBin) then refused BadRequest
+    else answered (cellsOf p (t .words) bin ∷ [])
 
 -- 02, R-5: "A checker names the least count that is missed or covered twice, or, where there is none, the first row with an unfit cell."
 -- By kind and number: 0 and 0 if the rows pass, 1 and the count, 2 and the row

@@ -1,5 +1,5 @@
 -- "Allocator": the search for a block with a free cell, by tables and marks alone. The heap is not looked at here: it is
--- read in one place, where the cell is taken (Calls.antt).
+-- read where chains are tested and where the cell is taken (Calls.antt).
 use Prim.Native.Nat.{ℕ, zero, suc}
 use mathlib.Core.Bool.{Bool, true, false}
 use mathlib.Core.List.{List, [], _∷_, _++_}
@@ -40,8 +40,8 @@ abbrev pub after : Event → Found → Found
 after e f = record { at = f .at; words = f .words; events = e ∷ f .events }
 
 -- the second search went on where the first had found none
-abbrev pub andThen : Found → Found → Found
-andThen f f′ = record { at = f′ .at; words = f′ .words; events = f .events ++ f′ .events }
+abbrev pub followedBy : Found → Found → Found
+followedBy f f′ = record { at = f′ .at; words = f′ .words; events = f .events ++ f′ .events }
 
 -- the event of a sweep of b by these words
 abbrev pub sweepOf : Params → List ℕ → ℕ → Words → Event
@@ -106,7 +106,7 @@ findBlock p holder bin offer t =
     let owner : ℕ = localSets holder in
     let skimmed : Popped = findFreeBlockWith (p .blocks) p (available owner bin) (consumed owner bin) (t .words) in
     let recycled : Found = recycleLocalBlocks (p .blocks) p (t .marks) owner bin (skimmed .words) in
-    let acquired : Found = andThen recycled (acquireAbandoned (p .blocks) p (t .marks) holder bin (recycled .words)) in
+    let acquired : Found = followedBy recycled (acquireAbandoned (p .blocks) p (t .marks) holder bin (recycled .words)) in
     if eqb (skimmed .at) 0
     then (if eqb (recycled .at) 0 then (if eqb (acquired .at) 0 then acquireFresh p holder bin offer acquired t else inFound acquired t)
     else inFound recycled t)

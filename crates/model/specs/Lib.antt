@@ -25,9 +25,9 @@
 --   l  all that is lent                        v, vs  values; x, xs of any kind   s, bk  a run's state and book; u, us turns
 -- A stroke, as in w′, is for the same later, or of another run; g is what a C host gives.
 --
--- A call is planned by tables and marks alone (Calls `plan`), which gives the tables after, the events (block initialised, swept,
--- released; cell taken) and how it ends. Only the link of the one cell taken is read from the heap. Everything is a function on lists
--- of numbers, so that examples compute.
+-- A call on sound tables is planned by tables and marks alone (Calls `planSound`), which gives the tables after, the events (block
+-- initialised, swept, released; cell taken) and how it ends. The heap is read by the test of chains before it, and at the link of the
+-- one cell taken. Everything is a function on lists of numbers, so that examples compute.
 
 -- small functions that the definitions share
 pub mod Base

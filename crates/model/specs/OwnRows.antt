@@ -14,7 +14,7 @@ use Rattle.model.specs.Tables.{view}
 use Rattle.model.specs.SizeClasses.{classWords, miBin, tabulated}
 use Rattle.model.specs.Block.{Unallocated}
 use Rattle.model.specs.Sound.{binNamed}
-use Rattle.model.specs.Calls.{Call, call, setUp, pages}
+use Rattle.model.specs.Calls.{Call, call, setUp, pages, Question, ask}
 
 -- the row of 01's bin n: the counts that no lower bin holds, in a cell of its size. Bins 0 and 1 are both of one word, so row 1 begins at 1
 unfoldable pub ownRow : ℕ → Row
@@ -38,3 +38,4 @@ OwnRows =
     → ((l : Lent) → setUp (withOwnRows p) l ≡ setUp p l)
     × ((l : Lent) → LowBins p l → (c : Call) → call (withOwnRows p) l c ≡ call p l c)
     × ((words firsts : List ℕ) → pages (withOwnRows p) words firsts ≡ pages p words firsts)
+    × ((l : Lent) → LowBins p l → (question : Question) → ask (withOwnRows p) l question ≡ ask p l question)

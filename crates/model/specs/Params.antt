@@ -83,8 +83,9 @@ holders = 8
 abbrev pub parts : ℕ
 parts = 9
 
--- "First and last of all 1,470 lists are lent words", then phase, 8 bound holders and 9 released marks: where each begins; then six
--- words a block, in as many tables
+-- "First and last of all 1,470 lists are lent words", then phase, 8 bound holders and 9 released marks: where each begins. Then
+-- "words for next, prev, free list head, cell size, list number, tls", and 02, R-7: "Keep a word a block", the free count: seven words a
+-- block, in as many tables
 abbrev pub phaseWord : ℕ
 phaseWord = 2940
 
@@ -98,7 +99,7 @@ abbrev pub headWords : ℕ
 headWords = 2958
 
 abbrev pub blockTables : ℕ
-blockTables = 6
+blockTables = 7
 
 unfoldable pub wordCount : Params → ℕ
 wordCount p = headWords + blockTables * p .blocks

@@ -1,11 +1,12 @@
 -- Demand 1, of any call on anything lent: it "gives its result or document 01's refusal; on a refusal changes nothing, save that
--- after BadLink and Exhausted the block moves and sweeps already made stand." And demand 2's count of released blocks and R-6's of
--- those that went over, by state bytes and list words before and after.
+-- after BadLink and Exhausted the block moves and sweeps already made stand." Since R-7 BadLink never comes (`NeverBadLink`). And
+-- demand 2's count of released blocks and R-6's of those that went over, by state bytes and list words before and after; what R-7
+-- says of sound tables.
 --
 -- They are about `call` (Calls.antt), for all parameters, buffers and calls: that buffers fit and that tables are sound is
--- tested by the call itself and is no premise. `RefusalKeeps`, `ReleasedCounts`, `DestroyedCounts` and `NoBadTables` are proved in
--- the crate soundness.
-use Prim.Native.Nat.{ℕ, _+_}
+-- tested by the call itself and is no premise. They are proved in the crate soundness, but for `NoBadTables`, which is proved in
+-- runs.
+use Prim.Native.Nat.{ℕ, _+_, _<_}
 use mathlib.Core.Path.{_≡_}
 use mathlib.Core.Logic.{_≢_, _⊎_}
 use mathlib.Core.Bool.{Bool, true, false, not, _&&_, _||_}
@@ -15,14 +16,13 @@ use lib.ListN.{getD}
 use Rattle.model.specs.declared.Params.{Params}
 use Rattle.model.specs.declared.Refusal.the-variants.{BadTables, BadLink, Exhausted}
 use Rattle.model.specs.Base.{flag, sumBelow, In}
-use Rattle.model.specs.Params.{Lent, listWord, localSets, abandoned, available, unswept, consumed}
-use Rattle.model.specs.Memory.{load}
+use Rattle.model.specs.Params.{goodParams, Lent, fits, listWord, localSets, abandoned, available, unswept, consumed}
 use Rattle.model.specs.Tables.{Words, view}
 use Rattle.model.specs.SizeClasses.{binOf, raised}
 use Rattle.model.specs.Block.{Unallocated, sweepChain}
-use Rattle.model.specs.Sound.{setNamed, linkOk}
-use Rattle.model.specs.Calls.{refusalNumber, answered, Call, bind, destroy, alloc, prepare, mark, release, sharedRelease, Result, call, setUp, badSetup, badClasses}
-use Rattle.model.specs.Runs.{Turn, begun, Seen, seenIn}
+use Rattle.model.specs.Sound.{setNamed, ChainSound, chainOk, soundOn}
+use Rattle.model.specs.Calls.{refusalNumber, answered, Call, bind, destroy, alloc, prepare, mark, release, sharedRelease, Result, tablesIn, call, setUp, badSetup, badClasses}
+use Rattle.model.specs.Runs.{Turn, begun, HoldersWrite, Seen, seenIn}
 
 -- the block b names the list
 abbrev pub OnList : Words → ℕ → ℕ → Type 0
@@ -49,6 +49,7 @@ pub record Unmoved (w w′ : Words) (b : ℕ) : Type 0 where
   pub list : getD (w′ .list) b 0 ≡ getD (w .list) b 0
   pub free : getD (w′ .free) b 0 ≡ getD (w .free) b 0
   pub tls : getD (w′ .tls) b 0 ≡ getD (w .tls) b 0
+  pub cells : getD (w′ .cells) b 0 ≡ getD (w .cells) b 0
 
 -- "moving full blocks to consumed": one that had no cell to give, and is the holder's now
 pub record MovedFull (p : Params) (ms : List ℕ) (holder bin : ℕ) (w w′ : Words) (b : ℕ) : Type 0 where
@@ -56,18 +57,12 @@ pub record MovedFull (p : Params) (ms : List ℕ) (holder bin : ℕ) (w w′ : W
   pub list : OnList w′ (consumed (localSets holder) bin) b
   pub free : getD (w′ .free) b 0 ≡ 0
   pub tls : getD (w′ .tls) b 0 ≡ holder
-
--- an abandoned available block with a free cell was taken over; "8 leaves cell and head alone"
-pub record TakenOver (holder bin : ℕ) (w w′ : Words) (b : ℕ) : Type 0 where
-  pub was : OnList w (available abandoned bin) b
-  pub list : OnList w′ (available (localSets holder) bin) b
-  pub free : getD (w′ .free) b 0 ≡ getD (w .free) b 0
-  pub tls : getD (w′ .tls) b 0 ≡ holder
+  pub cells : getD (w′ .cells) b 0 ≡ 0
 
 abbrev pub PassedOver : Params → List ℕ → ℕ → ℕ → Words → Words → ℕ → Type 0
 PassedOver p ms holder bin w w′ b = Unmoved w w′ b ⊎ MovedFull p ms holder bin w w′ b
 
--- ---- what stays in an alloc that is refused BadLink or Exhausted
+-- ---- what stays in an alloc that is refused Exhausted
 
 -- Heap, state bytes and marks stay: no sweep of such a call frees a cell. So do cell sizes, phase, bound holders and released
 -- marks, all lists but the five, and the links of every block that was on none of the five
@@ -91,15 +86,6 @@ pub record KeptExhausted (p : Params) (holder bin : ℕ) (l l′ : Lent) : Type 
   pub keeps : SearchKeeps holder bin l l′
   pub blocks : (b : ℕ) → PassedOver p (l .marks) holder bin (view (l .words)) (view (l′ .words)) b
 
--- "BadLink: the cell's link is neither 0 nor a whole cell of its block": the block of that cell stays or was taken over, and of
--- the others the same holds as after Exhausted
-pub record KeptBadLink (p : Params) (holder bin : ℕ) (l l′ : Lent) : Type 0 where
-  pub keeps : SearchKeeps holder bin l l′
-  pub block : ℕ
-  pub link : linkOk p (view (l .words)) block (load p (l .heap) (getD (view (l .words) .free) block 0)) ≡ false
-  pub here : Unmoved (view (l .words)) (view (l′ .words)) block ⊎ TakenOver holder bin (view (l .words)) (view (l′ .words)) block
-  pub others : (b : ℕ) → b ≢ block → PassedOver p (l .marks) holder bin (view (l .words)) (view (l′ .words)) b
-
 -- ---- demand 1
 
 -- the call is an alloc, of which this holds with its holder and the bin of its raised size
@@ -116,9 +102,8 @@ pub record Refused (p : Params) (l : Lent) (c : Call) (r : Result) : Type 0 wher
   -- "A refusal returns its number only."
   pub values : r .reply .values ≡ []
   -- "on a refusal changes nothing,
-  pub nothing : r .reply .number ≢ refusalNumber BadLink → r .reply .number ≢ refusalNumber Exhausted → r .lent ≡ l
+  pub nothing : r .reply .number ≢ refusalNumber Exhausted → r .lent ≡ l
   -- save that after BadLink and Exhausted the block moves and sweeps already made stand."
-  pub badLink : r .reply .number ≡ refusalNumber BadLink → OfAlloc p (λ holder bin. KeptBadLink p holder bin l (r .lent)) c
   pub exhausted : r .reply .number ≡ refusalNumber Exhausted → OfAlloc p (λ holder bin. KeptExhausted p holder bin l (r .lent)) c
 
 -- every call that is not answered, and a set-up that is not. Pages used (`pages`) gives a reply alone: there is nothing it could
@@ -171,10 +156,30 @@ CountsReleased p l c =
 unfoldable pub ReleasedCounts : Type 0
 ReleasedCounts = (p : Params) (l : Lent) → ((holder : ℕ) → CountsReleased p l (release holder)) × CountsReleased p l sharedRelease
 
--- ---- tables that set-up made stay sound
+-- ---- 02, R-7
 
--- After a set-up that was answered, no call of a run is refused BadTables, whatever is called and whatever is written into the heap
+-- "Sound tables now also require that each word equals its chain's length, with the chain in whole cells of its block and none
+-- repeated.": the test is this sentence, of each block
+unfoldable pub ChainsTested : Type 0
+ChainsTested =
+    (p : Params) (h : List ℕ) (w : Words) (b : ℕ) → goodParams p ≡ true → b < p .blocks
+    → (chainOk p h w b ≡ true → ChainSound p h w b) × (ChainSound p h w b → chainOk p h w b ≡ true)
+
+-- "A bad link is therefore BadTables from then on, and number 8 never occurs."
+unfoldable pub NeverBadLink : Type 0
+NeverBadLink = (p : Params) (l : Lent) (c : Call) → call p l c .reply .number ≢ refusalNumber BadLink
+
+-- ---- tables stay sound
+
+-- "Keep a word a block": a call on sound tables, whoever made them, leaves sound ones
+unfoldable pub SoundKept : Type 0
+SoundKept =
+    (p : Params) (l : Lent) (c : Call) → fits p l ≡ true → soundOn p (tablesIn l) (l .heap) ≡ true
+    → soundOn p (tablesIn (call p l c .lent)) (call p l c .lent .heap) ≡ true
+
+-- After a set-up that was answered, no call of a run is refused BadTables, whatever is called, if holders write only what they hold: a
+-- byte written elsewhere may break a chain
 unfoldable pub NoBadTables : Type 0
 NoBadTables =
-    (p : Params) (l : Lent) (us : List Turn) → setUp p l .reply ≡ answered []
+    (p : Params) (l : Lent) (us : List Turn) → setUp p l .reply ≡ answered [] → HoldersWrite p (begun p l) us
     → (x : Seen) → In x (seenIn p (begun p l) us) → x .reply .number ≢ refusalNumber BadTables

@@ -17,7 +17,7 @@ use Rattle.model.specs.Params.{Lent, heapEnd, blockAt}
 use Rattle.model.specs.SizeClasses.{alignAllocation}
 use Rattle.model.specs.Block.{keeps}
 use Rattle.model.specs.Events.{Event, initialised, swept, released, taken, sweeps, releases}
-use Rattle.model.specs.Calls.{Reply, answered, Call, bind, destroy, alloc, prepare, mark, release, sharedRelease, Step, step, Result, tablesIn, resultFrom, call, setUp, pages}
+use Rattle.model.specs.Calls.{Reply, answered, Call, bind, destroy, alloc, prepare, mark, release, sharedRelease, Step, step, Result, tablesIn, resultFrom, call, setUp, pages, Question, ask}
 
 -- ---- the book. 01: "The book says what is held. [..] It has cells (start, size, holder, old or new) and mark places, and is empty
 -- after set-up. [..] A cell is held by that holder while it stands there, lost when struck out"
@@ -166,6 +166,11 @@ unfoldable pub seenIn : Params → State → List Turn → List Seen
 seenIn p s [] = []
 seenIn p s (u ∷ us) = seen (resultOf p s u) (stepOf p s u .events) ∷ seenIn p (turned p s u) us
 
+-- everything lent, at each point of a run: after set-up and after each call, and before each call once holders have written
+unfoldable pub points : Params → State → List Turn → List Lent
+points p s [] = s .lent ∷ []
+points p s (u ∷ us) = s .lent ∷ foundBy p (s .lent) u ∷ points p (turned p s u) us
+
 -- ---- what holds in each run, call by call. A call of a run is given by its events, its reply, and the heap and the book before
 -- and after it
 
@@ -255,6 +260,9 @@ pub record Alike (p : Params) (l l′ : Lent) (us us′ : List Turn) : Type 0 wh
   pub pagesAtSetUp : (firsts : List ℕ) → pages p (setUp p l .lent .words) firsts ≡ pages p (setUp p l′ .lent .words) firsts
   pub pagesAfter : (firsts : List ℕ)
       → map (λ x. pages p (x .words) firsts) (seenIn p (begun p l) us) ≡ map (λ x. pages p (x .words) firsts) (seenIn p (begun p l′) us′)
+  -- 02, R-7: "Two runs under demand 3's premises, asked alike at one point, answer alike."
+  pub asked : (question : Question)
+      → map (λ x. ask p x question) (points p (begun p l) us) ≡ map (λ x. ask p x question) (points p (begun p l′) us′)
 
 -- "What a holder writes shows in no answer and reaches no other holder. For every list of bind, destroy, alloc, prepare, mark,
 -- release and shared release calls, refused ones included, after a set-up that isn't refused: whatever bytes the heap starts with

@@ -1,18 +1,21 @@
 -- "Sound tables" (01's term): tables that a call may work on; on any others it is refused BadTables and changes nothing.
 -- A test with a part for each item of 01's sentence, in its order. "Exactly the list it names" is in two parts (`onListNamed`,
--- `linked`), and `flagsKnown` is about words that 01 leaves to us.
+-- `linked`), and `flagsKnown` is about words that 01 leaves to us. R-7's sentence on chains is at the end; its test alone reads the heap.
 use Prim.Native.Nat.{ℕ, zero, suc, _+_, _-_, _*_, _/_, _%_}
 use mathlib.Core.Bool.{Bool, true, false, not, _&&_, _||_}
+use mathlib.Core.Path.{_≡_}
+use mathlib.Core.Logic.{_≢_}
 use mathlib.Core.List.{List}
 use lib.Dec.{eqb, ltb, leb}
-use lib.ListN.{getD}
+use lib.ListN.{getD, length}
 use Rattle.model.specs.declared.Params.{Params}
-use Rattle.model.specs.Base.{if_then_else_, allBelow, anyBelow, member}
+use Rattle.model.specs.Base.{if_then_else_, allBelow, anyBelow, member, In, Pairwise}
 use Rattle.model.specs.Params.{start, blockAt, isStart, bins, lists, holders, parts, listOf, listWord, localSets, abandoned, inGc}
+use Rattle.model.specs.Memory.{load}
 use Rattle.model.specs.Tables.{Words, Tables}
 use Rattle.model.specs.SizeClasses.{cellBytes}
 use Rattle.model.specs.BlockList.{blocksOn}
-use Rattle.model.specs.Block.{Unallocated, Unmarked, Marked, isCell}
+use Rattle.model.specs.Block.{Unallocated, Unmarked, Marked, cellCount, isCell, chainStands}
 use Rattle.model.specs.Global.{Running, Marking, Releasing, isHolder, isBound, hasReleased, allReleased}
 
 -- ---- each block
@@ -24,11 +27,12 @@ stateOf t b = getD (t .states) b 0
 unfoldable pub stateKnown : Tables → ℕ → Bool
 stateKnown t b = eqb (stateOf t b) Unallocated || eqb (stateOf t b) Unmarked || eqb (stateOf t b) Marked
 
--- "an Unallocated block's words are 0"
+-- "an Unallocated block's words are 0", the free count too (02, R-7: "0 when Unallocated")
 unfoldable pub blockClear : Words → ℕ → Bool
 blockClear w b =
     eqb (getD (w .next) b 0) 0 && eqb (getD (w .prev) b 0) 0 && eqb (getD (w .free) b 0) 0
     && eqb (getD (w .size) b 0) 0 && eqb (getD (w .list) b 0) 0 && eqb (getD (w .tls) b 0) 0
+    && eqb (getD (w .cells) b 0) 0
 
 -- the list that a block names, its bin and its set: the one definition of which list a block is on
 unfoldable pub listNamed : Words → ℕ → ℕ
@@ -128,3 +132,39 @@ sound p t =
     && (phaseKnown (t .words) && flagsKnown (t .words))
     && (releasedFew (t .words) && releasedSome (t .words))
     && releasedEmpty (t .words)
+
+-- ---- chains. 02, R-7: "Sound tables now also require that each word equals its chain's length, with the chain in whole cells of its
+-- block and none repeated."
+
+-- that sentence, of the block b
+pub record ChainSound (p : Params) (h : List ℕ) (w : Words) (b : ℕ) : Type 0 where
+  -- "its chain": from the free head along the links, to the link 0
+  pub chain : List ℕ
+  pub stands : chainStands p h (getD (w .free) b 0) chain
+  -- "each word equals its chain's length"
+  pub word : getD (w .cells) b 0 ≡ length chain
+  -- "in whole cells of its block"
+  pub whole : (a : ℕ) → In a chain → isCell p b (getD (w .size) b 0) a ≡ true
+  -- "and none repeated"
+  pub once : Pairwise (λ a a′. a ≢ a′) chain
+
+-- The test of it: a walk. A chain that comes back to a cell never comes to 0, so none is repeated on one that does; and as none is,
+-- there are at most as many as the block has cells, which bounds the walk before it starts. `ChainsTested` (Refusals.antt) says that
+-- test and sentence are one
+
+-- from the address a on, k whole cells of b linked one after the other, and then 0
+unfoldable pub chainCounts : ℕ → Params → List ℕ → ℕ → ℕ → ℕ → Bool
+chainCounts zero p h b size a = eqb a 0
+chainCounts (suc k) p h b size a = isCell p b size a && chainCounts k p h b size (load p h a)
+
+unfoldable pub chainOk : Params → List ℕ → Words → ℕ → Bool
+chainOk p h w b =
+    leb (getD (w .cells) b 0) (cellCount p (getD (w .size) b 0))
+    && chainCounts (getD (w .cells) b 0) p h b (getD (w .size) b 0) (getD (w .free) b 0)
+
+unfoldable pub chained : Params → Tables → List ℕ → Bool
+chained p t h = allBelow (p .blocks) (λ b. eqb (stateOf t b) Unallocated || chainOk p h (t .words) b)
+
+-- tables that are sound, on the heap h: 01's sentence and R-7's
+abbrev pub soundOn : Params → Tables → List ℕ → Bool
+soundOn p t h = sound p t && chained p t h

@@ -24,6 +24,8 @@ pub record Words : Type 0 where
   pub size : List ℕ
   pub list : List ℕ
   pub tls : List ℕ
+  -- 02, R-7: "Keep a word a block: the length of its free chain after the last init, sweep or alloc on it, 0 when Unallocated."
+  pub cells : List ℕ
 
 -- the k words from this one on
 abbrev pub part : ℕ → ℕ → List ℕ → List ℕ
@@ -51,12 +53,13 @@ view ws =
       size = blockTable (blocksIn ws) 3 ws;
       list = blockTable (blocksIn ws) 4 ws;
       tls = blockTable (blocksIn ws) 5 ws;
+      cells = blockTable (blocksIn ws) 6 ws;
     }
 
 unfoldable pub flat : Words → List ℕ
 flat w =
     w .first ++ (w .last ++ (w .phase ∷ (w .bound ++ (w .released
-    ++ (w .next ++ (w .prev ++ (w .free ++ (w .size ++ (w .list ++ w .tls)))))))))
+    ++ (w .next ++ (w .prev ++ (w .free ++ (w .size ++ (w .list ++ (w .tls ++ w .cells))))))))))
 
 -- ---- one word put in place of the old in the lent words themselves: a store past the end of its table writes nothing, and one
 -- in it changes no other word, whatever the length of the words
@@ -102,6 +105,9 @@ putList i v ws = putBlockWord 4 i v ws
 unfoldable pub putTls : ℕ → ℕ → List ℕ → List ℕ
 putTls i v ws = putBlockWord 5 i v ws
 
+unfoldable pub putCells : ℕ → ℕ → List ℕ → List ℕ
+putCells i v ws = putBlockWord 6 i v ws
+
 -- "Tables are all that calls keep outside the heap: state bytes, block and list words, mark bits, phase, bound holders,
 -- released marks."
 pub record Tables : Type 0 where
@@ -119,37 +125,40 @@ withWords w t = tablesOf w (t .states) (t .marks)
 -- records have no update. `setFirst i v w` is w with v at i of its `first`, and so on
 
 unfoldable pub setFirst : ℕ → ℕ → Words → Words
-setFirst i v w = record { first = set (w .first) i v; last = w .last; phase = w .phase; bound = w .bound; released = w .released; next = w .next; prev = w .prev; free = w .free; size = w .size; list = w .list; tls = w .tls }
+setFirst i v w = record { first = set (w .first) i v; last = w .last; phase = w .phase; bound = w .bound; released = w .released; next = w .next; prev = w .prev; free = w .free; size = w .size; list = w .list; tls = w .tls; cells = w .cells }
 
 unfoldable pub setLast : ℕ → ℕ → Words → Words
-setLast i v w = record { first = w .first; last = set (w .last) i v; phase = w .phase; bound = w .bound; released = w .released; next = w .next; prev = w .prev; free = w .free; size = w .size; list = w .list; tls = w .tls }
+setLast i v w = record { first = w .first; last = set (w .last) i v; phase = w .phase; bound = w .bound; released = w .released; next = w .next; prev = w .prev; free = w .free; size = w .size; list = w .list; tls = w .tls; cells = w .cells }
 
 unfoldable pub setBound : ℕ → ℕ → Words → Words
-setBound i v w = record { first = w .first; last = w .last; phase = w .phase; bound = set (w .bound) i v; released = w .released; next = w .next; prev = w .prev; free = w .free; size = w .size; list = w .list; tls = w .tls }
+setBound i v w = record { first = w .first; last = w .last; phase = w .phase; bound = set (w .bound) i v; released = w .released; next = w .next; prev = w .prev; free = w .free; size = w .size; list = w .list; tls = w .tls; cells = w .cells }
 
 unfoldable pub setReleased : ℕ → ℕ → Words → Words
-setReleased i v w = record { first = w .first; last = w .last; phase = w .phase; bound = w .bound; released = set (w .released) i v; next = w .next; prev = w .prev; free = w .free; size = w .size; list = w .list; tls = w .tls }
+setReleased i v w = record { first = w .first; last = w .last; phase = w .phase; bound = w .bound; released = set (w .released) i v; next = w .next; prev = w .prev; free = w .free; size = w .size; list = w .list; tls = w .tls; cells = w .cells }
 
 unfoldable pub setNext : ℕ → ℕ → Words → Words
-setNext i v w = record { first = w .first; last = w .last; phase = w .phase; bound = w .bound; released = w .released; next = set (w .next) i v; prev = w .prev; free = w .free; size = w .size; list = w .list; tls = w .tls }
+setNext i v w = record { first = w .first; last = w .last; phase = w .phase; bound = w .bound; released = w .released; next = set (w .next) i v; prev = w .prev; free = w .free; size = w .size; list = w .list; tls = w .tls; cells = w .cells }
 
 unfoldable pub setPrev : ℕ → ℕ → Words → Words
-setPrev i v w = record { first = w .first; last = w .last; phase = w .phase; bound = w .bound; released = w .released; next = w .next; prev = set (w .prev) i v; free = w .free; size = w .size; list = w .list; tls = w .tls }
+setPrev i v w = record { first = w .first; last = w .last; phase = w .phase; bound = w .bound; released = w .released; next = w .next; prev = set (w .prev) i v; free = w .free; size = w .size; list = w .list; tls = w .tls; cells = w .cells }
 
 unfoldable pub setFree : ℕ → ℕ → Words → Words
-setFree i v w = record { first = w .first; last = w .last; phase = w .phase; bound = w .bound; released = w .released; next = w .next; prev = w .prev; free = set (w .free) i v; size = w .size; list = w .list; tls = w .tls }
+setFree i v w = record { first = w .first; last = w .last; phase = w .phase; bound = w .bound; released = w .released; next = w .next; prev = w .prev; free = set (w .free) i v; size = w .size; list = w .list; tls = w .tls; cells = w .cells }
 
 unfoldable pub setSize : ℕ → ℕ → Words → Words
-setSize i v w = record { first = w .first; last = w .last; phase = w .phase; bound = w .bound; released = w .released; next = w .next; prev = w .prev; free = w .free; size = set (w .size) i v; list = w .list; tls = w .tls }
+setSize i v w = record { first = w .first; last = w .last; phase = w .phase; bound = w .bound; released = w .released; next = w .next; prev = w .prev; free = w .free; size = set (w .size) i v; list = w .list; tls = w .tls; cells = w .cells }
 
 unfoldable pub setList : ℕ → ℕ → Words → Words
-setList i v w = record { first = w .first; last = w .last; phase = w .phase; bound = w .bound; released = w .released; next = w .next; prev = w .prev; free = w .free; size = w .size; list = set (w .list) i v; tls = w .tls }
+setList i v w = record { first = w .first; last = w .last; phase = w .phase; bound = w .bound; released = w .released; next = w .next; prev = w .prev; free = w .free; size = w .size; list = set (w .list) i v; tls = w .tls; cells = w .cells }
 
 unfoldable pub setTls : ℕ → ℕ → Words → Words
-setTls i v w = record { first = w .first; last = w .last; phase = w .phase; bound = w .bound; released = w .released; next = w .next; prev = w .prev; free = w .free; size = w .size; list = w .list; tls = set (w .tls) i v }
+setTls i v w = record { first = w .first; last = w .last; phase = w .phase; bound = w .bound; released = w .released; next = w .next; prev = w .prev; free = w .free; size = w .size; list = w .list; tls = set (w .tls) i v; cells = w .cells }
+
+unfoldable pub setCells : ℕ → ℕ → Words → Words
+setCells i v w = record { first = w .first; last = w .last; phase = w .phase; bound = w .bound; released = w .released; next = w .next; prev = w .prev; free = w .free; size = w .size; list = w .list; tls = w .tls; cells = set (w .cells) i v }
 
 unfoldable pub setPhase : ℕ → Words → Words
-setPhase v w = record { first = w .first; last = w .last; phase = v; bound = w .bound; released = w .released; next = w .next; prev = w .prev; free = w .free; size = w .size; list = w .list; tls = w .tls }
+setPhase v w = record { first = w .first; last = w .last; phase = v; bound = w .bound; released = w .released; next = w .next; prev = w .prev; free = w .free; size = w .size; list = w .list; tls = w .tls; cells = w .cells }
 
 unfoldable pub withReleased : List ℕ → Words → Words
-withReleased vs w = record { first = w .first; last = w .last; phase = w .phase; bound = w .bound; released = vs; next = w .next; prev = w .prev; free = w .free; size = w .size; list = w .list; tls = w .tls }
+withReleased vs w = record { first = w .first; last = w .last; phase = w .phase; bound = w .bound; released = vs; next = w .next; prev = w .prev; free = w .free; size = w .size; list = w .list; tls = w .tls; cells = w .cells }

@@ -69,7 +69,7 @@ pub const RELEASED_WORDS: usize = 2949;
 
 pub const HEAD_WORDS: usize = 2958;
 
-pub const BLOCK_TABLES: usize = 6;
+pub const BLOCK_TABLES: usize = 7;
 
 // The cell sizes of bins 0 to 48, in words: each next four twice the four before.
 pub const CLASS_WORDS: [usize; BINS] = [
@@ -218,6 +218,12 @@ pub enum ReleaseAnswer {
 // The answer of pages used.
 pub enum PagesAnswer {
     Pages(usize),
+    Refused(Refusal),
+}
+
+// The answer of the total free cells of a bin.
+pub enum CellsAnswer {
+    Cells(usize),
     Refused(Refusal),
 }
 

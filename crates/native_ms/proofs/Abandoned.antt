@@ -17,7 +17,7 @@ use Rattle.model.specs.Block.{sweptWords}
 use Rattle.model.specs.Events.{eventHeap, eventsHeap, isSweep, sweeps}
 use Rattle.model.specs.FreeListAllocator.{Found, found, after, sweepOf, acquireAbandoned}
 use Rattle.native_ms.specs.Block.{Swept}
-use Rattle.native_ms.specs.Closing.{Filed, seen, closed}
+use Rattle.native_ms.specs.Closing.{Filed, reached, closed}
 use Rattle.native_ms.proofs.Search.{more, one-more}
 use Rattle.native_ms.specs.Abandoned.{Next, nextOf, popAbandoned, ownedWords, TakenOver}
 
@@ -101,20 +101,20 @@ module _ (p : Params) (ms : List ℕ) (holder bin : ℕ) where
       go true e = refl
       go false e = rw e
 
-  pub acquire-end : (n : ℕ) (t : Words) (h : List ℕ) (k : ℕ) → k ≤ 0 → seen 0 n t h ≡ closed p n h (acquireAbandoned k p ms holder bin t)
+  pub acquire-end : (n : ℕ) (t : Words) (h : List ℕ) (k : ℕ) → k ≤ 0 → reached 0 n t h ≡ closed p n h (acquireAbandoned k p ms holder bin t)
   unfolding acquireAbandoned eventsHeap sweeps filter
   acquire-end n t h zero l = rw (add-zero n)
   acquire-end n t h (suc k) l = absurd (not-suc-le-zero l)
 
   module _ (n : ℕ) (t : Words) (h : List ℕ) {v : ℕ} {t₁ : Words} where
-    pub acquire-none : {q : Bool} (k : ℕ) → nextOf v q t₁ ≡ popAbandoned p bin t → 0 < k → v ≡ 0 → seen 0 n t₁ h ≡ closed p n h (acquireAbandoned k p ms holder bin t)
+    pub acquire-none : {q : Bool} (k : ℕ) → nextOf v q t₁ ≡ popAbandoned p bin t → 0 < k → v ≡ 0 → reached 0 n t₁ h ≡ closed p n h (acquireAbandoned k p ms holder bin t)
     unfolding turn eventsHeap sweeps filter
     acquire-none zero e l z = absurd (not-suc-le-zero l)
     acquire-none (suc k) e l z = rw (turn-is k t, ← e, eq-eqb v 0 z, add-zero n)
 
     module _ {b m : ℕ} {r : Bool} {t₂ : Words} {h₁ : List ℕ} (nz : v ≡ 0 → ⊥) (eb : b ≡ blockAt p v) where
       pub acquire-found : (k : ℕ) (q : Bool) → nextOf v q t₁ ≡ popAbandoned p bin t → TakenOver p ms holder bin b q t₁ h r t₂ h₁ → m ≡ flag q → 0 < k → r ≡ true
-          → seen v (n + m) t₂ h₁ ≡ closed p n h (acquireAbandoned k p ms holder bin t)
+          → reached v (n + m) t₂ h₁ ≡ closed p n h (acquireAbandoned k p ms holder bin t)
       unfolding turn eventsHeap eventHeap sweeps filter isSweep flag
       acquire-found zero q e o em l z = absurd (not-suc-le-zero l)
       acquire-found (suc k) true e o em l z =

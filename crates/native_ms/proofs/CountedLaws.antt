@@ -13,7 +13,7 @@ use borrow.Author.Tests.{eq-eqb, ne-eqb, eqb-true}
 use Rattle.model.specs.declared.Params.{Params}
 use Rattle.model.specs.Base.{if_then_else_, allBelow, sumBelow}
 use Rattle.model.specs.declared.Refusal.the-variants.{BadSetup, BadTables}
-use Rattle.model.specs.Params.{goodParams, wordCount, blockAt, isStart}
+use Rattle.model.specs.Params.{goodParams, wordCount, blockAt, isStart, headWords, blockTables}
 use Rattle.model.specs.Tables.{view}
 use Rattle.model.specs.BlockList.{walk, ends, pagesUsed, pagesEnd}
 use Rattle.model.specs.Calls.{answered, refused, pages}
@@ -235,13 +235,13 @@ module _ (p : Params) (words : List ℕ) (n : ℕ) where
   unfolding setFits
   fits-params h = rw h
 
-  pub fits-words : goodParams p ≡ true → (length words ≡ 2958 + 6 * p .blocks → ⊥) → false ≡ setFits p words n
+  pub fits-words : goodParams p ≡ true → (length words ≡ headWords + blockTables * p .blocks → ⊥) → false ≡ setFits p words n
   unfolding setFits wordCount
-  fits-words g h = rw (g, ne-eqb (length words) (2958 + 6 * p .blocks) h)
+  fits-words g h = rw (g, ne-eqb (length words) (headWords + blockTables * p .blocks) h)
 
-  pub fits-records : goodParams p ≡ true → length words ≡ 2958 + 6 * p .blocks → eqb n 49 ≡ setFits p words n
+  pub fits-records : goodParams p ≡ true → length words ≡ headWords + blockTables * p .blocks → eqb n 49 ≡ setFits p words n
   unfolding setFits wordCount
-  fits-records g h = rw (g, eq-eqb (length words) (2958 + 6 * p .blocks) h)
+  fits-records g h = rw (g, eq-eqb (length words) (headWords + blockTables * p .blocks) h)
 
   pub fits-good : setFits p words n ≡ true → goodParams p ≡ true
   unfolding setFits

@@ -9,29 +9,25 @@ use lib.Dec.{eqb}
 use lib.ListN.{length, getD, set, length-append}
 use borrow.Author.Tests.{eq-eqb, ne-eqb}
 use Rattle.model.specs.declared.Params.{Params}
-use Rattle.model.specs.declared.Address.{Address}
 use Rattle.model.specs.declared.Block.{Block}
 use Rattle.model.specs.declared.Offer.{Offer}
 use Rattle.model.specs.declared.Offer.the-variants.{Nothing, Fresh}
 use Rattle.model.specs.declared.Refusal.the-variants as Refusal
 use Rattle.model.specs.Base.{if_then_else_, filter, flag}
 use Rattle.model.specs.Params.{goodParams, start, blockAt, localSets, available, consumed}
-use Rattle.model.specs.Memory.{load, zeroed}
-use Rattle.model.specs.Tables.{Words, Tables, tablesOf, setFree}
+use Rattle.model.specs.Tables.{Words, Tables, tablesOf}
 use Rattle.model.specs.SizeClasses.{cellBytes, alignAllocation}
 use Rattle.model.specs.BlockList.{popped, push}
 use Rattle.model.specs.Block.{Unmarked, linkAll, initChain, initBlock}
-use Rattle.model.specs.Sound.{linkOk}
 use Rattle.model.specs.Events.{Event, initialised, eventHeap, eventsHeap, isSweep, sweeps}
-use Rattle.model.specs.FreeListAllocator.{Found, found, andThen, Search, inFound, findFreeBlockWith, recycleLocalBlocks, acquireAbandoned, acquireFresh, findBlock}
+use Rattle.model.specs.FreeListAllocator.{Found, found, followedBy, Search, inFound, findFreeBlockWith, recycleLocalBlocks, acquireAbandoned, acquireFresh, findBlock}
 use Rattle.model.specs.Calls.{answered, refused, says, takes, takePlan, takeCell, finish, Step}
 use Rattle.laws.proofs.Base.{filter-append}
 use Rattle.laws.proofs.Params.{good-bounds}
 use Rattle.native_ms.specs.Block.{Initialised, TakenOut, took, takeFree}
 use Rattle.native_ms.specs.declared.block.Taken.{Taken}
-use Rattle.native_ms.specs.declared.block.Taken.the-variants.{BadLink, Cell}
-use Rattle.native_ms.specs.Closing.{Seen, seen, closed, Searched}
-use Rattle.native_ms.proofs.TakeCell.{took-bad, took-cell}
+use Rattle.native_ms.specs.Closing.{Reached, reached, closed, Searched}
+use Rattle.native_ms.proofs.TakeCell.{took-cell}
 use Rattle.native_ms.proofs.Heads.{Low, find-low}
 use Rattle.native_ms.specs.Ending.{Ended, ended, closedSearch, acquireGlobal, Freshened, Stepped, stepped, shown, servedBy}
 use Rattle.native_ms.specs.Places.{HasFree}
@@ -77,17 +73,17 @@ freshened p holder bin b t st h eo ea es e₁ i e₂ =
 
 -- ---- blocks from outside the holder's lists
 
-module _ (p : Params) (holder bin n : ℕ) (t : Words) (st ms h : List ℕ) {v s : ℕ} {t₁ : Words} {h₁ : List ℕ} (e : seen v s t₁ h₁ ≡ closed p n h (acquireAbandoned (p .blocks) p ms holder bin t)) where
+module _ (p : Params) (holder bin n : ℕ) (t : Words) (st ms h : List ℕ) {v s : ℕ} {t₁ : Words} {h₁ : List ℕ} (e : reached v s t₁ h₁ ≡ closed p n h (acquireAbandoned (p .blocks) p ms holder bin t)) where
   abbrev a : Found
   a = acquireAbandoned (p .blocks) p ms holder bin t
 
   at-same : v ≡ a .at
-  at-same = ap (λ (k : Seen). k .at) e
+  at-same = ap (λ (k : Reached). k .at) e
 
   pub global-found : (offer : Offer) → (v ≡ 0 → ⊥) → ended v s false (tablesOf t₁ st ms) h₁ ≡ closedSearch p n h (acquireGlobal p holder bin offer (tablesOf t st ms))
   unfolding acquireGlobal
   global-found offer nz =
-      rw (ne-eqb (a .at) 0 (λ q. nz (at-same ∙ q))) (ap (λ (k : Seen). ended (k .at) (k .swept) false (tablesOf (k .words) st ms) (k .heap)) e)
+      rw (ne-eqb (a .at) 0 (λ q. nz (at-same ∙ q))) (ap (λ (k : Reached). ended (k .at) (k .swept) false (tablesOf (k .words) st ms) (k .heap)) e)
 
   module _ (z : v ≡ 0) where
     none : eqb (a .at) 0 ≡ true
@@ -96,14 +92,14 @@ module _ (p : Params) (holder bin n : ℕ) (t : Words) (st ms h : List ℕ) {v s
     pub global-none : (offer : Offer) → offer ≡ Nothing → ended 0 s false (tablesOf t₁ st ms) h₁ ≡ closedSearch p n h (acquireGlobal p holder bin offer (tablesOf t st ms))
     unfolding acquireGlobal acquireFresh
     global-none offer eo =
-        rw (eo, none) (ap (λ (x : ℕ). ended x s false (tablesOf t₁ st ms) h₁) (sym z) ∙ ap (λ (k : Seen). ended (k .at) (k .swept) false (tablesOf (k .words) st ms) (k .heap)) e)
+        rw (eo, none) (ap (λ (x : ℕ). ended x s false (tablesOf t₁ st ms) h₁) (sym z) ∙ ap (λ (k : Reached). ended (k .at) (k .swept) false (tablesOf (k .words) st ms) (k .heap)) e)
 
     pub global-fresh : {x : ℕ} {t₂ : Words} {st₂ h₂ : List ℕ} (offer : Offer) (b : Block) → offer ≡ Fresh b → Freshened p holder bin (b .0) t₁ st h₁ t₂ st₂ h₂ → x ≡ start p (b .0)
         → ended x s true (tablesOf t₂ st₂ ms) h₂ ≡ closedSearch p n h (acquireGlobal p holder bin offer (tablesOf t st ms))
     unfolding acquireGlobal acquireFresh
     global-fresh offer b eo f ex =
         rw (eo, none, ex, f .words, f .states, f .heap)
-        (ap (λ (k : Seen). ended (start p (b .0)) (k .swept) true (made (k .words)) (linkAll p chain (k .heap))) e
+        (ap (λ (k : Reached). ended (start p (b .0)) (k .swept) true (made (k .words)) (linkAll p chain (k .heap))) e
         ∙ init-ended p n h (a .events) (b .0) chain (start p (b .0)) (made (a .words)))
       where
         chain : List ℕ
@@ -119,25 +115,25 @@ module _ (p : Params) (holder bin : ℕ) (offer : Offer) (t : Words) (st ms h : 
   unfolding findBlock eventsHeap sweeps filter
   find-skimmed z = rw (← eo, ← ea, ← ec, ← e, ne-eqb v 0 z)
 
-  module _ (z : v ≡ 0) {x s : ℕ} {t₂ : Words} {h₂ : List ℕ} (r : Searched (p .blocks) (seen x s t₂ h₂) (closed p 0 h (recycleLocalBlocks (p .blocks) p ms o bin t₁))) where
+  module _ (z : v ≡ 0) {x s : ℕ} {t₂ : Words} {h₂ : List ℕ} (r : Searched (p .blocks) (reached x s t₂ h₂) (closed p 0 h (recycleLocalBlocks (p .blocks) p ms o bin t₁))) where
     abbrev f : Found
     f = recycleLocalBlocks (p .blocks) p ms o bin t₁
 
     recycled-at : x ≡ f .at
-    recycled-at = ap (λ (k : Seen). k .at) (r .same)
+    recycled-at = ap (λ (k : Reached). k .at) (r .same)
 
     pub find-recycled : (x ≡ 0 → ⊥) → ended x s false (tablesOf t₂ st ms) h₂ ≡ closedSearch p 0 h (findBlock p holder bin offer (tablesOf t st ms))
     unfolding findBlock
     find-recycled nz =
         rw (← eo, ← ea, ← ec, ← e, eq-eqb v 0 z, ne-eqb (f .at) 0 (λ q. nz (recycled-at ∙ q)))
-        (ap (λ (k : Seen). ended (k .at) (k .swept) false (tablesOf (k .words) st ms) (k .heap)) (r .same))
+        (ap (λ (k : Reached). ended (k .at) (k .swept) false (tablesOf (k .words) st ms) (k .heap)) (r .same))
 
     -- what is left once the holder's lists gave nothing
     d : Found
     d = acquireAbandoned (p .blocks) p ms holder bin (f .words)
 
     rest : Bool → Offer → Search
-    rest q w = if q then acquireFresh p holder bin w (andThen f d) (tablesOf t st ms) else inFound (andThen f d) (tablesOf t st ms)
+    rest q w = if q then acquireFresh p holder bin w (followedBy f d) (tablesOf t st ms) else inFound (followedBy f d) (tablesOf t st ms)
 
     rest-same : (q : Bool) (w : Offer) → closedSearch p (0 + sweeps (f .events)) (eventsHeap p (f .events) h) (if q then acquireFresh p holder bin w d (tablesOf (f .words) st ms) else inFound d (tablesOf (f .words) st ms)) ≡ closedSearch p 0 h (rest q w)
     unfolding rest acquireFresh
@@ -148,7 +144,7 @@ module _ (p : Params) (holder bin : ℕ) (offer : Offer) (t : Words) (st ms h : 
     pub find-global : {g : Ended} → x ≡ 0 → g ≡ closedSearch p s h₂ (acquireGlobal p holder bin offer (tablesOf t₂ st ms)) → g ≡ closedSearch p 0 h (findBlock p holder bin offer (tablesOf t st ms))
     unfolding findBlock acquireGlobal rest d
     find-global y eg =
-        eg ∙ ap (λ (k : Seen). closedSearch p (k .swept) (k .heap) (acquireGlobal p holder bin offer (tablesOf (k .words) st ms))) (r .same)
+        eg ∙ ap (λ (k : Reached). closedSearch p (k .swept) (k .heap) (acquireGlobal p holder bin offer (tablesOf (k .words) st ms))) (r .same)
         ∙ rest-same (eqb (d .at) 0) offer
         ∙ rw (← eo, ← ea, ← ec, ← e, eq-eqb v 0 z, eq-eqb (f .at) 0 (sym recycled-at ∙ y))
 
@@ -191,32 +187,20 @@ module _ (p : Params) (align offset : ℕ) (h : List ℕ) (s : Search) {v n : �
     unfolding endOf
     at-cell = from ∙ rw (ne-eqb v 0 nz, ← eb)
 
-    pub serve-bad : k ≡ BadLink → stepped (refused Refusal.BadLink) (tablesOf t₂ st₁ ms) h₂ ≡ servedBy p align offset h s
+    pub serve-cell : {r : ℕ} → r ≡ alignAllocation (k .at .0) align offset
+        → stepped (answered (r ∷ k .size ∷ flag fresh ∷ n ∷ [])) (tablesOf t₂ st₁ ms) h₂ ≡ servedBy p align offset h s
     unfolding stepOf
-    serve-bad q =
-        sym (at-cell ∙ ap stepOf (took-bad p (tablesOf t₁ st₁ ms) (s .events) h₁ b align offset fresh (ap (λ (x : Taken). took x t₂ h₂) (sym q) ∙ ek)))
-
-    pub serve-cell : {a : Address} {size r : ℕ} → k ≡ Cell a size → r ≡ alignAllocation (a .0) align offset
-        → stepped (answered (r ∷ size ∷ flag fresh ∷ n ∷ [])) (tablesOf t₂ st₁ ms) h₂ ≡ servedBy p align offset h s
-    unfolding stepOf
-    serve-cell q er =
+    serve-cell er =
         let en : n ≡ sweeps (s .events) = ap (λ (x : Ended). x .swept) e ∙ zero-add (sweeps (s .events)) in
-        rw (er, en) (sym (at-cell ∙ ap stepOf (took-cell p (tablesOf t₁ st₁ ms) (s .events) h₁ b align offset fresh (ap (λ (x : Taken). took x t₂ h₂) (sym q) ∙ ek))))
+        rw (er, en) (sym (at-cell ∙ ap stepOf (took-cell p (tablesOf t₁ st₁ ms) (s .events) h₁ b align offset fresh ek)))
 
 -- ---- the short way
 
-module _ (p : Params) (b align offset : ℕ) (t : Words) (h : List ℕ) {k : Taken} {t₂ : Words} {h₂ : List ℕ} (ek : took k t₂ h₂ ≡ takeFree p b t h) where
-  pub head-bad : k ≡ BadLink → (st ms : List ℕ)
-      → stepped (refused Refusal.BadLink) (tablesOf t₂ st ms) h₂ ≡ shown (takeCell p (tablesOf t st ms) [] h b align offset false)
-  unfolding stepOf
-  head-bad q st ms =
-      sym (ap stepOf (took-bad p (tablesOf t st ms) [] h b align offset false (ap (λ (x : Taken). took x t₂ h₂) (sym q) ∙ ek)))
-
-  pub head-cell : {a : Address} {size r : ℕ} → k ≡ Cell a size → r ≡ alignAllocation (a .0) align offset → (st ms : List ℕ)
-      → stepped (answered (r ∷ size ∷ flag false ∷ 0 ∷ [])) (tablesOf t₂ st ms) h₂ ≡ shown (takeCell p (tablesOf t st ms) [] h b align offset false)
-  unfolding stepOf sweeps filter
-  head-cell q er st ms =
-      rw er (sym (ap stepOf (took-cell p (tablesOf t st ms) [] h b align offset false (ap (λ (x : Taken). took x t₂ h₂) (sym q) ∙ ek))))
+pub head-cell : (p : Params) (b align offset : ℕ) (t : Words) (h : List ℕ) {k : Taken} {t₂ : Words} {h₂ : List ℕ} {r : ℕ}
+    → took k t₂ h₂ ≡ takeFree p b t h → r ≡ alignAllocation (k .at .0) align offset → (st ms : List ℕ)
+    → stepped (answered (r ∷ k .size ∷ flag false ∷ 0 ∷ [])) (tablesOf t₂ st ms) h₂ ≡ shown (takeCell p (tablesOf t st ms) [] h b align offset false)
+unfolding stepOf sweeps filter
+head-cell p b align offset t h ek er st ms = rw er (sym (ap stepOf (took-cell p (tablesOf t st ms) [] h b align offset false ek)))
 
 -- the search ends at the head of the available list, which has a free cell
 module _ (p : Params) (holder bin : ℕ) (offer : Offer) (t : Words) (st ms h : List ℕ) {o l b : ℕ} (eo : o ≡ localSets holder) (el : l ≡ available o bin) (f : HasFree p t l b) (some : 0 < p .blocks) where
@@ -237,26 +221,14 @@ module _ (p : Params) (holder bin : ℕ) (offer : Offer) (t : Words) (st ms h : 
 
 -- ---- the cell taken is low: free heads stay so in a search
 
-pub cell-at : (p : Params) (b : ℕ) (t : Words) (h : List ℕ) {k : Taken} {t₂ : Words} {h₂ : List ℕ} {a : Address} {sz : ℕ} → took k t₂ h₂ ≡ takeFree p b t h → k ≡ Cell a sz → a .0 ≡ getD (t .free) b 0
+pub cell-at : (p : Params) (b : ℕ) (t : Words) (h : List ℕ) {k : Taken} {t₂ : Words} {h₂ : List ℕ} → took k t₂ h₂ ≡ takeFree p b t h
+    → k .at .0 ≡ getD (t .free) b 0
 unfolding takeFree
-cell-at p b t h {k} {t₂} {h₂} {a} {sz} ek q = go (linkOk p t b (load p h cell)) ek
-  where
-    cell : ℕ
-    cell = getD (t .free) b 0
+cell-at p b t h ek = ap (λ (o : TakenOut). o .answer .at .0) ek
 
-    go : (ok : Bool) → took k t₂ h₂ ≡ (if ok then took (Cell (record { 0 = cell }) (getD (t .size) b 0)) (setFree b (load p h cell) t) (zeroed p h cell (getD (t .size) b 0)) else took BadLink t h) → a .0 ≡ cell
-    go true e =
-        let ka : k ≡ Cell (record { 0 = cell }) (getD (t .size) b 0) = ap (λ (o : TakenOut). o .answer) e in
-        let ea : a ≡ record { 0 = cell } = cc in
-        ap (λ (x : Address). x .0) ea
-    go false e =
-        let ka : k ≡ BadLink = ap (λ (o : TakenOut). o .answer) e in
-        let z : _≡_ {A = ℕ} 0 1 = cc in
-        absurd (omega arith)
-
-pub cell-low : (p : Params) (holder bin : ℕ) (offer : Offer) (t : Words) (st h : List ℕ) (b : ℕ) {ms : List ℕ} {v n : ℕ} {fresh : Bool} {t₁ t₂ : Words} {st₁ h₁ h₂ : List ℕ} {k : Taken} {a : Address} {sz : ℕ}
+pub cell-low : (p : Params) (holder bin : ℕ) (offer : Offer) (t : Words) (st h : List ℕ) (b : ℕ) {ms : List ℕ} {v n : ℕ} {fresh : Bool} {t₁ t₂ : Words} {st₁ h₁ h₂ : List ℕ} {k : Taken}
     → goodParams p ≡ true → Low t → ended v n fresh (tablesOf t₁ st₁ ms) h₁ ≡ closedSearch p 0 h (findBlock p holder bin offer (tablesOf t st ms))
-    → took k t₂ h₂ ≡ takeFree p b t₁ h₁ → k ≡ Cell a sz → a .0 < 2 ^ 47
-cell-low p holder bin offer t st h b {ms} {v} {n} {fresh} {t₁} {t₂} {st₁} {h₁} g low e ek q =
+    → took k t₂ h₂ ≡ takeFree p b t₁ h₁ → k .at .0 < 2 ^ 47
+cell-low p holder bin offer t st h b {ms} {v} {n} {fresh} {t₁} {t₂} {st₁} {h₁} g low e ek =
     let w : t₁ ≡ findBlock p holder bin offer (tablesOf t st ms) .tables .words = ap (λ (x : Ended). x .tables .words) e in
-    rw (cell-at p b t₁ h₁ ek q, w) (find-low p (good-bounds p g) holder bin offer (tablesOf t st ms) low b)
+    rw (cell-at p b t₁ h₁ ek, w) (find-low p (good-bounds p g) holder bin offer (tablesOf t st ms) low b)

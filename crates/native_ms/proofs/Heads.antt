@@ -3,7 +3,7 @@
 use Prim.Native.Nat.{ℕ, zero, suc, _+_, _-_, _*_, _/_, _%_, _^_, _<_, _≤_}
 use mathlib.Core.Path.{_≡_, refl, sym, subst}
 use mathlib.Core.Bool.{Bool, true, false, _&&_}
-use mathlib.Core.Logic.{_⊎_, inl, inr, ⊎-elim}
+use mathlib.Core.Logic.{inl, inr, ⊎-elim}
 use mathlib.Core.List.{List, [], _∷_, headD}
 use native.Mathlib.Nat.{mod-lt, div-zero, div-mul-le-self, mul-le-mul-right, suc-mul, not-suc-le-zero}
 use native.Mathlib.Omega.{arith}
@@ -15,7 +15,7 @@ use Rattle.model.specs.declared.Offer.{Offer}
 use Rattle.model.specs.declared.Offer.the-variants.{Nothing, Fresh}
 use Rattle.model.specs.Base.{if_then_else_, allBelow, In}
 use Rattle.model.specs.Params.{start, localSets, available, lists}
-use Rattle.model.specs.Tables.{Words, Tables, setTls, setSize, setFree}
+use Rattle.model.specs.Tables.{Words, Tables, setTls, setSize, setFree, setCells}
 use Rattle.model.specs.SizeClasses.{cellBytes}
 use Rattle.model.specs.BlockList.{push, pop}
 use Rattle.model.specs.Block.{Unallocated, cellCount, isCell, cellsDown, initChain, initBlock, sweepChain, sweptWords}
@@ -23,8 +23,9 @@ use Rattle.model.specs.FreeListAllocator.{Found, acquireFresh, findBlock}
 use Rattle.model.specs.Sound.{stateOf, stateKnown, blockClear, listNamed, binNamed, onListNamed, sizeOk, linkOk, tlsOk, blockSound, linked, unboundEmpty, inGcEmpty, phaseKnown, flagsKnown, releasedFew, releasedSome, releasedEmpty, sound}
 use Rattle.laws.proofs.Classes.{cellBytes-some}
 use Rattle.native_ms.specs.Places.{HeadCell}
-use Rattle.laws.proofs.Below.{and-left, and-right, or-cases, and-three, and-four, and-five, allBelow-at, test}
+use Rattle.laws.proofs.Below.{and-left, and-right, or-cases, and-three, and-four, and-five, and-seven, allBelow-at}
 use Rattle.laws.proofs.Params.{Bounds, start-out, start-end}
+use Rattle.laws.proofs.Tables.{by-lt}
 use Rattle.laws.proofs.Cells.{Free, in-cellsDown}
 use Rattle.laws.proofs.Frame.{links-refl, push-links, pop-links}
 use Rattle.laws.proofs.Walks.{plain-steps, find-keeps}
@@ -42,15 +43,21 @@ set-small (x ∷ l) zero v k h (suc b) = h (suc b)
 set-small (x ∷ l) (suc i) v k h zero = h 0
 set-small (x ∷ l) (suc i) v k h (suc b) = set-small l i v k (λ j. h (suc j)) b
 
-first-of-seven : (a b c d e f g : Bool) → (a && b && c && d && e && f && g) ≡ true → a ≡ true
-first-of-seven true b c d e f g q = refl
-first-of-seven false b c d e f g q = q
+-- ---- blocks of sound tables
 
-third-of-six : (a b c d e f : Bool) → (a && b && c && d && e && f) ≡ true → c ≡ true
-third-of-six a b true d e f q = refl
-third-of-six true true false d e f q = q
-third-of-six true false false d e f q = q
-third-of-six false b false d e f q = q
+pub each-sound : (p : Params) (t : Tables) → sound p t ≡ true → (b : ℕ) → b < p .blocks → blockSound p t b ≡ true
+unfolding sound
+each-sound p t e =
+    allBelow-at (p .blocks) (blockSound p t)
+    (and-seven (allBelow (p .blocks) (blockSound p t)) (allBelow lists (linked p t)) (unboundEmpty (t .words)) (inGcEmpty (t .words)) (phaseKnown (t .words) && flagsKnown (t .words)) (releasedFew (t .words) && releasedSome (t .words)) (releasedEmpty (t .words)) e .0)
+
+-- an Unallocated one has no free cell
+pub clear-none : (w : Words) (b : ℕ) → blockClear w b ≡ true → (getD (w .free) b 0 ≡ 0) × (getD (w .cells) b 0 ≡ 0)
+unfolding blockClear
+clear-none w b e =
+    let r = and-seven (eqb (getD (w .next) b 0) 0) (eqb (getD (w .prev) b 0) 0) (eqb (getD (w .free) b 0) 0) (eqb (getD (w .size) b 0) 0)
+    (eqb (getD (w .list) b 0) 0) (eqb (getD (w .tls) b 0) 0) (eqb (getD (w .cells) b 0) 0) e in
+    (eqb-true _ _ (r .2), eqb-true _ _ (r .6))
 
 -- ---- list operations
 
@@ -99,31 +106,21 @@ module _ (p : Params) (g : Bounds p) where
   link-low w b a e =
       ⊎-elim (λ z. omega (arith, eqb-true a 0 z)) (cell-low b (getD (w .size) b 0) a) (or-cases (eqb a 0) (isCell p b (getD (w .size) b 0) a) e)
 
-  clear-low : (w : Words) (b : ℕ) → blockClear w b ≡ true → getD (w .free) b 0 < 2 ^ 47
-  unfolding blockClear
-  clear-low w b e =
-      omega (arith, eqb-true (getD (w .free) b 0) 0 (third-of-six (eqb (getD (w .next) b 0) 0) (eqb (getD (w .prev) b 0) 0) (eqb (getD (w .free) b 0) 0) (eqb (getD (w .size) b 0) 0) (eqb (getD (w .list) b 0) 0) (eqb (getD (w .tls) b 0) 0) e))
-
   block-low : (t : Tables) (b : ℕ) → blockSound p t b ≡ true → getD (t .words .free) b 0 < 2 ^ 47
   unfolding blockSound
   block-low t b e = go (eqb (stateOf t b) Unallocated) e
     where
       go : (q : Bool) → (if q then blockClear (t .words) b else (stateKnown t b && onListNamed p (t .words) b && sizeOk p (t .words) b
           && linkOk p (t .words) b (getD (t .words .free) b 0) && tlsOk (t .words) b)) ≡ true → getD (t .words .free) b 0 < 2 ^ 47
-      go true c = clear-low (t .words) b c
+      go true c = omega (arith, clear-none (t .words) b c .0)
       go false c = link-low (t .words) b (getD (t .words .free) b 0)
           (and-right (stateKnown t b && onListNamed p (t .words) b && sizeOk p (t .words) b) (linkOk p (t .words) b (getD (t .words .free) b 0))
           (and-left (stateKnown t b && onListNamed p (t .words) b && sizeOk p (t .words) b && linkOk p (t .words) b (getD (t .words .free) b 0)) (tlsOk (t .words) b) c))
 
   pub sound-low : (t : Tables) → length (t .words .free) ≡ p .blocks → sound p t ≡ true → Low (t .words)
-  unfolding sound
-  sound-low t l e b = go (test (ltb b (p .blocks)))
-    where
-      go : (ltb b (p .blocks) ≡ true) ⊎ (ltb b (p .blocks) ≡ false) → getD (t .words .free) b 0 < 2 ^ 47
-      go (inl q) = block-low t b (allBelow-at (p .blocks) (blockSound p t)
-          (first-of-seven (allBelow (p .blocks) (blockSound p t)) (allBelow lists (linked p t)) (unboundEmpty (t .words)) (inGcEmpty (t .words)) (phaseKnown (t .words) && flagsKnown (t .words)) (releasedFew (t .words) && releasedSome (t .words)) (releasedEmpty (t .words)) e)
-          b (ltb-true b (p .blocks) q))
-      go (inr q) = omega (arith, List·getD-eq-default (t .words .free) 0 {n = b} (omega (arith, ltb-false b (p .blocks) q)))
+  sound-low t l e b =
+      by-lt b (p .blocks) (λ low. block-low t b (each-sound p t e b low))
+      (λ far. omega (arith, List·getD-eq-default (t .words .free) 0 {n = b} (omega (arith, l))))
 
   -- ---- a free head of sound tables is a cell
 
@@ -138,36 +135,27 @@ module _ (p : Params) (g : Bounds p) where
   unfolding linkOk
   some-link w b a e nz = ⊎-elim (λ z. absurd (nz (eqb-true a 0 z))) (λ y. y) (or-cases (eqb a 0) (isCell p b (getD (w .size) b 0) a) e)
 
-  clear-none : (w : Words) (b : ℕ) → blockClear w b ≡ true → getD (w .free) b 0 ≡ 0
-  unfolding blockClear
-  clear-none w b e =
-      eqb-true (getD (w .free) b 0) 0 (third-of-six (eqb (getD (w .next) b 0) 0) (eqb (getD (w .prev) b 0) 0) (eqb (getD (w .free) b 0) 0) (eqb (getD (w .size) b 0) 0) (eqb (getD (w .list) b 0) 0) (eqb (getD (w .tls) b 0) 0) e)
-
   block-head : (t : Tables) (b : ℕ) → blockSound p t b ≡ true → (getD (t .words .free) b 0 ≡ 0 → ⊥) → HeadCell p (t .words) b
   unfolding blockSound
   block-head t b e nz = go (eqb (stateOf t b) Unallocated) e
     where
       go : (q : Bool) → (if q then blockClear (t .words) b else (stateKnown t b && onListNamed p (t .words) b && sizeOk p (t .words) b
           && linkOk p (t .words) b (getD (t .words .free) b 0) && tlsOk (t .words) b)) ≡ true → HeadCell p (t .words) b
-      go true c = absurd (nz (clear-none (t .words) b c))
+      go true c = absurd (nz (clear-none (t .words) b c .0))
       go false c =
           let f = and-five (stateKnown t b) (onListNamed p (t .words) b) (sizeOk p (t .words) b)
           (linkOk p (t .words) b (getD (t .words .free) b 0)) (tlsOk (t .words) b) c in
           record { cell = some-link (t .words) b (getD (t .words .free) b 0) (f .3) nz; word = sized (t .words) b (f .2) }
 
   pub sound-cells : (t : Tables) → sound p t ≡ true → (b : ℕ) → b < p .blocks → (getD (t .words .free) b 0 ≡ 0 → ⊥) → HeadCell p (t .words) b
-  unfolding sound
-  sound-cells t e b l =
-      block-head t b (allBelow-at (p .blocks) (blockSound p t)
-      (first-of-seven (allBelow (p .blocks) (blockSound p t)) (allBelow lists (linked p t)) (unboundEmpty (t .words)) (inGcEmpty (t .words)) (phaseKnown (t .words) && flagsKnown (t .words)) (releasedFew (t .words) && releasedSome (t .words)) (releasedEmpty (t .words)) e)
-      b l)
+  sound-cells t e b l = block-head t b (each-sound p t e b l)
 
   swept-low : (ms : List ℕ) (b : ℕ) (t : Words) → Low t → Low (sweptWords p ms b t)
-  unfolding sweptWords setFree sweepChain
+  unfolding sweptWords setFree setCells sweepChain
   swept-low ms b t h = set-small (t .free) b _ (chain-low _ b (getD (t .size) b 0)) h
 
   init-low : (b s tls : ℕ) (t : Words) → Low t → Low (initBlock p b s tls t)
-  unfolding initBlock setTls setSize setFree initChain
+  unfolding initBlock setTls setSize setFree setCells initChain
   init-low b s tls t h = set-small (t .free) b _ (chain-low _ b s) h
 
   tls-low : (b v : ℕ) (t : Words) → Low t → Low (setTls b v t)

@@ -26,3 +26,4 @@ pub mod Releases
 pub mod SpaceCalls
 pub mod AllocCall
 pub mod SoundLent
+pub mod FreeCountLaws

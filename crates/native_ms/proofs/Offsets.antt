@@ -4,7 +4,7 @@ use Prim.Native.Nat.{ℕ, suc, _+_, _-_, _*_, _/_, _%_, _^_, _≤_, _<_}
 use mathlib.Core.Path.{_≡_, refl, sym, ap, _∙_}
 use mathlib.Core.Bool.{Bool, true, false, _||_}
 use mathlib.Core.List.{List, _∷_, headD}
-use native.Mathlib.Nat.{mul-le-mul-right, suc-mul, add-mul, div-mul-le-self, mul-mod-left, add-mul-mod-self-left}
+use native.Mathlib.Nat.{mul-le-mul-left, mul-le-mul-right, suc-mul, add-mul, div-mul-le-self, mul-mod-left, add-mul-mod-self-left}
 use native.Mathlib.Omega.{arith}
 use native.Mathlib.Decide.{decLt}
 use lib.Bits.{bitAnd, and-mask}
@@ -14,14 +14,14 @@ use Rattle.model.specs.declared.Params.{Params}
 use Rattle.model.specs.Base.{anyBelow}
 use Rattle.model.specs.Params.{heapBytes, inHeap, wordCount, start, biased, plusLower}
 use Rattle.model.specs.SizeClasses.{wordsIn}
-use Rattle.model.specs.Tables.{Words, setFree, setSize, setTls}
+use Rattle.model.specs.Tables.{Words, setFree, setSize, setTls, setCells}
 use Rattle.model.specs.Memory.{store, bytesOf, overwrite, bitOf, marked}
 use Rattle.model.specs.Block.{cellsDown, linkAll, cellCount, initBlock, initChain}
 use Rattle.laws.proofs.Params.{Bounds, good-bounds, inHeap-yes, start-in, mod-through}
 use Rattle.laws.proofs.Memory.{length-store}
 use Rattle.laws.proofs.Marks.{heap-lines, marked-inside}
-use Rattle.laws.proofs.Cells.{cellsDown-kept, cellsDown-freed}
-use Rattle.native_ms.specs.Block.{keptBy, Linked, Initialised, SweptBy}
+use Rattle.laws.proofs.Cells.{cellsDown-kept, cellsDown-freed, length-all}
+use Rattle.native_ms.specs.Block.{keptBy, Linked, Built, Initialised, SweptBy}
 use Rattle.native_ms.specs.Bits.{bitAt, anyBit, Run}
 use Rattle.native_ms.specs.Places.{Known, WholeWords, Standing, Sweepable, Places, Inside, ByBits, Extends, Reach}
 
@@ -54,6 +54,11 @@ next-in p heap at s n k r l e =
       low = omega (arith, r .whole, g .heap-high);
       base = omega (arith, r .whole, g .end-high);
     }
+
+-- the cells are few
+pub few-cells : (p : Params) {heap at s n : ℕ} → Places p heap at s n → n ≤ 67108864
+unfolding heapBytes
+few-cells p {heap} {at} {s} {n} r = omega (arith, mul-le-mul-left n (r .word), r .fits, r .whole, good-bounds p (r .good) .heap-high)
 
 -- linked so far: k of the n cells were looked at, the next is at the offset o, and h is what the heap h₀ became
 pub record Linking (p : Params) (kept : ℕ → Bool) (at s n k : ℕ) (h₀ : List ℕ) (o last : ℕ) (h : List ℕ) : Type 0 where
@@ -106,59 +111,81 @@ linking-end p kept at s n k h₀ o last h r le =
 
 -- ---- a chain that goes on, by mark bits
 
-pub record Running (p : Params) (ms : List ℕ) (s at n first count last₀ : ℕ) (h₀ : List ℕ) (k o g last : ℕ) (h : List ℕ) : Type 0 where
+pub record Running (p : Params) (ms : List ℕ) (s at n first count last₀ : ℕ) (h₀ : List ℕ) (k o g last linked : ℕ) (h : List ℕ) : Type 0 where
   pub done : k ≤ n
   pub here : o ≡ at + k * s
   pub bit : 8 * g + at ≡ o + 8 * first
   pub same : length h ≡ length h₀
-  pub on : (kept : ℕ → Bool) → ByBits p ms kept s at (at + n * s) first count → Extends p kept s at k last₀ h₀ last h
+  pub few : linked ≤ k
+  pub on : (kept : ℕ → Bool) → ByBits p ms kept s at (at + n * s) first count → Extends p kept s at k last₀ h₀ last linked h
+
+-- by no cell
+extends-none : (p : Params) (kept : ℕ → Bool) (s at last : ℕ) (h : List ℕ) → Extends p kept s at 0 last h last 0 h
+extends-none p kept s at last h =
+    record {
+      on = λ from k h₀ e l. let z : k + 0 ≡ k = omega arith in rw z l;
+      few = omega arith;
+      counted = λ from k e. let z : k + 0 ≡ k = omega arith in rw z (omega arith);
+    }
 
 pub running-start : (p : Params) (ms : List ℕ) (s at n first count last : ℕ) (h : List ℕ)
-    → Running p ms s at n first count last h 0 at first last h
+    → Running p ms s at n first count last h 0 at first last 0 h
 running-start p ms s at n first count last h =
     record {
       done = omega arith;
       here = omega arith;
       bit = omega arith;
       same = refl;
-      on = λ kept b. record { on = λ from k h₀ e l. let z : k + 0 ≡ k = omega arith in rw z l };
+      few = omega arith;
+      on = λ kept b. extends-none p kept s at last h;
     }
 
 -- where the cell with the number k from `at` on stands, from the chain's first cell on
 cell-stands : (base at from j k s o : ℕ) → from + j * s ≡ base + at → o ≡ at + k * s → base + o ≡ from + (j + k) * s
 cell-stands base at from j k s o e f = omega (arith, e, f, add-mul j k s)
 
-module _ (p : Params) (kept : ℕ → Bool) (s at last₀ : ℕ) (h₀ : List ℕ) (k o last : ℕ) (h : List ℕ) (here : o ≡ at + k * s)
-    (x : Extends p kept s at k last₀ h₀ last h) where
-  extends-kept : kept (p .base + o) ≡ true → Extends p kept s at (k + 1) last₀ h₀ last h
+module _ (p : Params) (kept : ℕ → Bool) (s at last₀ : ℕ) (h₀ : List ℕ) (k o last linked : ℕ) (h : List ℕ) (here : o ≡ at + k * s)
+    (x : Extends p kept s at k last₀ h₀ last linked h) where
+  -- one cell more, behind j cells
+  more : (j : ℕ) → j + (k + 1) ≡ (j + k) + 1
+  more j = omega arith
+
+  extends-kept : kept (p .base + o) ≡ true → Extends p kept s at (k + 1) last₀ h₀ last linked h
   extends-kept e =
+      let longer : (from j : ℕ) → from + j * s ≡ p .base + at → cellsDown kept from s (j + k) ≡ cellsDown kept from s ((j + k) + 1) =
+      λ from j f. cellsDown-kept kept from s (j + k) (cell-stands (p .base) at from j k s o f here) e in
       record {
         on = λ from j h₁ f l.
             let q = x .on from j h₁ f l in
-            let z : j + (k + 1) ≡ (j + k) + 1 = omega arith in
-            let c : cellsDown kept from s (j + k) ≡ cellsDown kept from s ((j + k) + 1) = cellsDown-kept kept from s (j + k) (cell-stands (p .base) at from j k s o f here) e in
-            rw z (record { head = q .head ∙ ap (λ (y : List ℕ). headD y 0) c; heap = q .heap ∙ ap (λ (y : List ℕ). linkAll p y h₁) c });
+            let c = longer from j f in
+            rw (more j) (record { head = q .head ∙ ap (λ (y : List ℕ). headD y 0) c; heap = q .heap ∙ ap (λ (y : List ℕ). linkAll p y h₁) c });
+        few = omega (arith, x .few);
+        counted = λ from j f. rw (more j) (sym (ap length (longer from j f)) ∙ x .counted from j f);
       }
 
-  extends-freed : {h₂ : List ℕ} → kept (p .base + o) ≡ false → h₂ ≡ store p h (p .base + o) last → Extends p kept s at (k + 1) last₀ h₀ (p .base + o) h₂
+  extends-freed : {h₂ : List ℕ} → kept (p .base + o) ≡ false → h₂ ≡ store p h (p .base + o) last
+      → Extends p kept s at (k + 1) last₀ h₀ (p .base + o) (linked + 1) h₂
   unfolding headD linkAll
   extends-freed {h₂} e st =
+      let longer : (from j : ℕ) → from + j * s ≡ p .base + at → ((p .base + o) ∷ cellsDown kept from s (j + k)) ≡ cellsDown kept from s ((j + k) + 1) =
+      λ from j f. cellsDown-freed kept from s (j + k) (cell-stands (p .base) at from j k s o f here) e in
       record {
         on = λ from j h₁ f l.
             let q = x .on from j h₁ f l in
-            let z : j + (k + 1) ≡ (j + k) + 1 = omega arith in
-            let c : ((p .base + o) ∷ cellsDown kept from s (j + k)) ≡ cellsDown kept from s ((j + k) + 1) = cellsDown-freed kept from s (j + k) (cell-stands (p .base) at from j k s o f here) e in
-            rw z (record {
+            let c = longer from j f in
+            rw (more j) (record {
               head = ap (λ (y : List ℕ). headD y 0) c;
               heap = st ∙ (λ i. store p (q .heap i) (p .base + o) (q .head i)) ∙ ap (λ (y : List ℕ). linkAll p y h₁) c;
             });
+        few = omega (arith, x .few);
+        counted = λ from j f. rw (more j) (omega (arith, ap length (longer from j f), x .counted from j f));
       }
 
 step-in : (k n s : ℕ) → k < n → k * s + s ≤ n * s
 step-in k n s l = omega (arith, mul-le-mul-right {m = suc k} {n = n} s l, suc-mul k s)
 
-module _ (p : Params) (ms : List ℕ) (s at n first count last₀ : ℕ) (h₀ : List ℕ) (k o g last : ℕ) (h : List ℕ)
-    (r : Running p ms s at n first count last₀ h₀ k o g last h) (lt : k < n) (aligned : s % 8 ≡ 0) where
+module _ (p : Params) (ms : List ℕ) (s at n first count last₀ : ℕ) (h₀ : List ℕ) (k o g last linked : ℕ) (h : List ℕ)
+    (r : Running p ms s at n first count last₀ h₀ k o g last linked h) (lt : k < n) (aligned : s % 8 ≡ 0) where
   next-bit : 8 * (g + s / 8) + at ≡ (o + s) + 8 * first
   next-bit = omega (arith, r .bit, aligned)
 
@@ -171,18 +198,19 @@ module _ (p : Params) (ms : List ℕ) (s at n first count last₀ : ℕ) (h₀ :
   read : (kept : ℕ → Bool) → ByBits p ms kept s at (at + n * s) first count → {t : Bool} → anyBit ms g count ≡ t → kept (p .base + o) ≡ t
   read kept b e = b .by o g (omega (arith, r .here)) (omega (arith, r .here, step-in k n s lt)) (r .bit) ∙ e
 
-  pub running-kept : anyBit ms g count ≡ true → Running p ms s at n first count last₀ h₀ (k + 1) (o + s) (g + s / 8) last h
+  pub running-kept : anyBit ms g count ≡ true → Running p ms s at n first count last₀ h₀ (k + 1) (o + s) (g + s / 8) last linked h
   running-kept e =
       record {
         done = omega arith;
         here = next-here;
         bit = next-bit;
         same = r .same;
-        on = λ kept b. extends-kept p kept s at last₀ h₀ k o last h (r .here) (r .on kept b) (read kept b e);
+        few = omega (arith, r .few);
+        on = λ kept b. extends-kept p kept s at last₀ h₀ k o last linked h (r .here) (r .on kept b) (read kept b e);
       }
 
   pub running-freed : {h₂ : List ℕ} → anyBit ms g count ≡ false → h₂ ≡ overwrite o (bytesOf 8 last) h
-      → Running p ms s at n first count last₀ h₀ (k + 1) (o + s) (g + s / 8) (p .base + o) h₂
+      → Running p ms s at n first count last₀ h₀ (k + 1) (o + s) (g + s / 8) (p .base + o) (linked + 1) h₂
   running-freed {h₂} e w =
       let st : h₂ ≡ store p h (p .base + o) last = w ∙ store-at p h o last in
       record {
@@ -190,13 +218,14 @@ module _ (p : Params) (ms : List ℕ) (s at n first count last₀ : ℕ) (h₀ :
         here = next-here;
         bit = next-bit;
         same = ap length st ∙ length-store p h (p .base + o) last ∙ r .same;
-        on = λ kept b. extends-freed p kept s at last₀ h₀ k o last h (r .here) (r .on kept b) (read kept b e) st;
+        few = omega (arith, r .few);
+        on = λ kept b. extends-freed p kept s at last₀ h₀ k o last linked h (r .here) (r .on kept b) (read kept b e) st;
       }
 
-pub running-end : (p : Params) (ms : List ℕ) (s at n first count last₀ : ℕ) (h₀ : List ℕ) (k o g last : ℕ) (h : List ℕ)
-    → Running p ms s at n first count last₀ h₀ k o g last h → n ≤ k
-    → (kept : ℕ → Bool) → ByBits p ms kept s at (at + n * s) first count → Extends p kept s at n last₀ h₀ last h
-running-end p ms s at n first count last₀ h₀ k o g last h r le kept b =
+pub running-end : (p : Params) (ms : List ℕ) (s at n first count last₀ : ℕ) (h₀ : List ℕ) (k o g last linked : ℕ) (h : List ℕ)
+    → Running p ms s at n first count last₀ h₀ k o g last linked h → n ≤ k
+    → (kept : ℕ → Bool) → ByBits p ms kept s at (at + n * s) first count → Extends p kept s at n last₀ h₀ last linked h
+running-end p ms s at n first count last₀ h₀ k o g last linked h r le kept b =
     let e : k ≡ n = omega (arith, r .done) in
     rw e at (r .on kept b)
 
@@ -210,65 +239,79 @@ alike at k o g first {s} e here bit =
     let q : g ≡ first + 8 * k = omega (arith, d, here, bit) in
     ap (λ (x : ℕ). x % 8) q ∙ add-mul-mod-self-left first 8 k
 
-pub stepped-on : {p : Params} {ms : List ℕ} {s at n first count last₀ : ℕ} {h₀ : List ℕ} {k o last : ℕ} {h : List ℕ} (g : ℕ) → s ≡ 64
-    → Running p ms s at n first count last₀ h₀ k o (g + s / 8) last h → Running p ms s at n first count last₀ h₀ k o (g + 8) last h
+pub stepped-on : {p : Params} {ms : List ℕ} {s at n first count last₀ : ℕ} {h₀ : List ℕ} {k o last linked : ℕ} {h : List ℕ} (g : ℕ) → s ≡ 64
+    → Running p ms s at n first count last₀ h₀ k o (g + s / 8) last linked h → Running p ms s at n first count last₀ h₀ k o (g + 8) last linked h
 stepped-on g e r = rw (eight-words e) at r
 
 -- the same with no bits: by what is kept
 
-pub record Walking (p : Params) (kept : ℕ → Bool) (s at n last₀ : ℕ) (h₀ : List ℕ) (k o last : ℕ) (h : List ℕ) : Type 0 where
+pub record Walking (p : Params) (kept : ℕ → Bool) (s at n last₀ : ℕ) (h₀ : List ℕ) (k o last linked : ℕ) (h : List ℕ) : Type 0 where
   pub done : k ≤ n
   pub here : o ≡ at + k * s
   pub same : length h ≡ length h₀
-  pub on : Extends p kept s at k last₀ h₀ last h
+  pub on : Extends p kept s at k last₀ h₀ last linked h
 
-pub walking-start : (p : Params) (kept : ℕ → Bool) (s at n last : ℕ) (h : List ℕ) → Walking p kept s at n last h 0 at last h
+pub walking-start : (p : Params) (kept : ℕ → Bool) (s at n last : ℕ) (h : List ℕ) → Walking p kept s at n last h 0 at last 0 h
 walking-start p kept s at n last h =
-    record { done = omega arith; here = omega arith; same = refl; on = record { on = λ from k h₀ e l. let z : k + 0 ≡ k = omega arith in rw z l } }
+    record { done = omega arith; here = omega arith; same = refl; on = extends-none p kept s at last h }
 
 next-stands : (at k s o : ℕ) → o ≡ at + k * s → o + s ≡ at + (k + 1) * s
 next-stands at k s o e = let z : k + 1 ≡ suc k = omega arith in rw z (omega (arith, e, suc-mul k s))
 
-module _ (p : Params) (kept : ℕ → Bool) (s at n last₀ : ℕ) (h₀ : List ℕ) (k o last : ℕ) (h : List ℕ)
-    (r : Walking p kept s at n last₀ h₀ k o last h) (lt : k < n) where
-  pub walking-kept : kept (p .base + o) ≡ true → Walking p kept s at n last₀ h₀ (k + 1) (o + s) last h
+module _ (p : Params) (kept : ℕ → Bool) (s at n last₀ : ℕ) (h₀ : List ℕ) (k o last linked : ℕ) (h : List ℕ)
+    (r : Walking p kept s at n last₀ h₀ k o last linked h) (lt : k < n) where
+  pub walking-kept : kept (p .base + o) ≡ true → Walking p kept s at n last₀ h₀ (k + 1) (o + s) last linked h
   walking-kept e =
-      record { done = omega arith; here = next-stands at k s o (r .here); same = r .same; on = extends-kept p kept s at last₀ h₀ k o last h (r .here) (r .on) e }
+      record {
+        done = omega arith;
+        here = next-stands at k s o (r .here);
+        same = r .same;
+        on = extends-kept p kept s at last₀ h₀ k o last linked h (r .here) (r .on) e;
+      }
 
   pub walking-freed : {h₂ : List ℕ} → kept (p .base + o) ≡ false → h₂ ≡ overwrite o (bytesOf 8 last) h
-      → Walking p kept s at n last₀ h₀ (k + 1) (o + s) (p .base + o) h₂
+      → Walking p kept s at n last₀ h₀ (k + 1) (o + s) (p .base + o) (linked + 1) h₂
   walking-freed {h₂} e w =
       let st : h₂ ≡ store p h (p .base + o) last = w ∙ store-at p h o last in
       record {
         done = omega arith;
         here = next-stands at k s o (r .here);
         same = ap length st ∙ length-store p h (p .base + o) last ∙ r .same;
-        on = extends-freed p kept s at last₀ h₀ k o last h (r .here) (r .on) e st;
+        on = extends-freed p kept s at last₀ h₀ k o last linked h (r .here) (r .on) e st;
       }
 
-pub walking-end : (p : Params) (kept : ℕ → Bool) (s at n last₀ : ℕ) (h₀ : List ℕ) (k o last : ℕ) (h : List ℕ)
-    → Walking p kept s at n last₀ h₀ k o last h → n ≤ k → Extends p kept s at n last₀ h₀ last h
-walking-end p kept s at n last₀ h₀ k o last h r le =
+pub walking-end : (p : Params) (kept : ℕ → Bool) (s at n last₀ : ℕ) (h₀ : List ℕ) (k o last linked : ℕ) (h : List ℕ)
+    → Walking p kept s at n last₀ h₀ k o last linked h → n ≤ k → Extends p kept s at n last₀ h₀ last linked h
+walking-end p kept s at n last₀ h₀ k o last linked h r le =
     let e : k ≡ n = omega (arith, r .done) in
     rw e at (r .on)
 
 -- a chain that goes on twice
-pub extends-twice : (p : Params) (kept : ℕ → Bool) (s at a b : ℕ) {l₀ l₁ l₂ : ℕ} {h₀ h₁ h₂ : List ℕ} → Extends p kept s at a l₀ h₀ l₁ h₁
-    → Extends p kept s (at + a * s) b l₁ h₁ l₂ h₂ → Extends p kept s at (a + b) l₀ h₀ l₂ h₂
-extends-twice p kept s at a b x y =
+pub extends-twice : (p : Params) (kept : ℕ → Bool) (s at a b : ℕ) {l₀ l₁ l₂ c₁ c₂ : ℕ} {h₀ h₁ h₂ : List ℕ} → Extends p kept s at a l₀ h₀ l₁ c₁ h₁
+    → Extends p kept s (at + a * s) b l₁ h₁ l₂ c₂ h₂ → Extends p kept s at (a + b) l₀ h₀ l₂ (c₁ + c₂) h₂
+extends-twice p kept s at a b {l₀} {l₁} {l₂} {c₁} {c₂} x y =
+    let all : (k : ℕ) → (k + a) + b ≡ k + (a + b) = λ k. omega arith in
+    let further : (from k : ℕ) → from + k * s ≡ p .base + at → from + (k + a) * s ≡ p .base + (at + a * s) =
+    λ from k e. omega (arith, e, add-mul k a s) in
     record {
-      on = λ from k h e l.
-          let z : (k + a) + b ≡ k + (a + b) = omega arith in
-          rw z at (y .on from (k + a) h (omega (arith, e, add-mul k a s)) (x .on from k h e l));
+      on = λ from k h e l. rw (all k) at (y .on from (k + a) h (further from k e) (x .on from k h e l));
+      few = omega (arith, x .few, y .few);
+      counted = λ from k e.
+          let c : length (cellsDown kept from s ((k + a) + b)) ≡ length (cellsDown kept from s k) + (c₁ + c₂) =
+          omega (arith, y .counted from (k + a) (further from k e), x .counted from k e) in
+          rw (all k) at c;
     }
 
 -- a chain that begins
-pub extends-all : (p : Params) (kept : ℕ → Bool) (s at n : ℕ) (h : List ℕ) {r : ℕ} {h₁ : List ℕ} → Extends p kept s at n 0 h r h₁
-    → Linked p (cellsDown kept (p .base + at) s n) h r h₁
+pub extends-all : (p : Params) (kept : ℕ → Bool) (s at n : ℕ) (h : List ℕ) {r linked : ℕ} {h₁ : List ℕ} → Extends p kept s at n 0 h r linked h₁
+    → Built p (cellsDown kept (p .base + at) s n) h r linked h₁
 unfolding cellsDown headD linkAll
 extends-all p kept s at n h x =
     let z : 0 + n ≡ n = omega arith in
-    rw z at (x .on (p .base + at) 0 h (omega arith) (record { head = refl; heap = refl }))
+    record {
+      linked = rw z at (x .on (p .base + at) 0 h (omega arith) (record { head = refl; heap = refl }));
+      count = let c = x .counted (p .base + at) 0 (omega arith) in omega (arith, rw z at c);
+    }
 
 -- ---- the bits of the cells
 
@@ -340,21 +383,24 @@ module _ (p : Params) {words heap b : ℕ} (r : Standing p words heap b) where
         fits = omega (arith, block-inside b (p .blocks) (p .bytes) (r .block), div-mul-le-self (p .bytes) s, r .whole);
       }
 
-  pub initialised : (s tls : ℕ) {v : ℕ} {t₁ t₂ t₃ : Words} {h₁ : List ℕ} (t : Words) (h : List ℕ)
+  pub initialised : (s tls : ℕ) {v n : ℕ} {t₁ t₂ t₃ t₄ : Words} {h₁ : List ℕ} (t : Words) (h : List ℕ) → n ≡ p .bytes / s
       → Linked p (cellsDown (λ a. false) (p .base + b * p .bytes) s (p .bytes / s)) h v h₁
-      → t₁ ≡ setFree b v t → t₂ ≡ setSize b s t₁ → t₃ ≡ setTls b tls t₂ → Initialised p b s tls t h t₃ h₁
+      → t₁ ≡ setFree b v t → t₂ ≡ setSize b s t₁ → t₃ ≡ setTls b tls t₂ → t₄ ≡ setCells b n t₃ → Initialised p b s tls t h t₄ h₁
   unfolding initBlock initChain cellCount
-  initialised s tls t h l e₁ e₂ e₃ =
+  initialised s tls t h en l e₁ e₂ e₃ e₄ =
       let from : start p b ≡ p .base + b * p .bytes = start-in p b (r .block) in
-      record { words = rw (e₃, e₂, e₁, l .head, from); heap = rw (l .heap, from) }
+      record {
+        words = rw (e₄, e₃, e₂, e₁, l .head, from, en, length-all (p .base + b * p .bytes) s (p .bytes / s));
+        heap = rw (l .heap, from);
+      }
 
-  pub swept-in : (kept : ℕ → ℕ → Bool) {s v : ℕ} {t₁ : Words} {h₁ : List ℕ} (t : Words) (h : List ℕ)
-      → s ≡ getD (t .size) b 0 → Linked p (cellsDown (kept s) (p .base + b * p .bytes) s (p .bytes / s)) h v h₁
-      → t₁ ≡ setFree b v t → SweptBy p kept b t h t₁ h₁
+  pub swept-in : (kept : ℕ → ℕ → Bool) {s v linked : ℕ} {t₁ t₂ : Words} {h₁ : List ℕ} (t : Words) (h : List ℕ)
+      → s ≡ getD (t .size) b 0 → Built p (cellsDown (kept s) (p .base + b * p .bytes) s (p .bytes / s)) h v linked h₁
+      → t₁ ≡ setFree b v t → t₂ ≡ setCells b linked t₁ → SweptBy p kept b t h t₂ h₁
   unfolding cellCount
-  swept-in kept t h es l et =
+  swept-in kept t h es l e₁ e₂ =
       let from : start p b ≡ p .base + b * p .bytes = start-in p b (r .block) in
-      record { words = rw (et, l .head, from, es); heap = rw (l .heap, from, es) }
+      record { words = rw (e₂, e₁, l .linked .head, l .count, from, es); heap = rw (l .linked .heap, from, es) }
 
   pub block-words : b * p .bytes % 8 ≡ 0
   block-words = mod-through (b * p .bytes) (p .bytes) 8 (mul-mod-left b (p .bytes)) (good-bounds p (r .good) .bytes-words)
@@ -370,7 +416,7 @@ pub standing-on : (p : Params) {w h w₁ b : ℕ} → Standing p w h b → w₁ 
 standing-on p s ew = record { good = s .good; count = ew ∙ s .count; whole = s .whole; block = s .block }
 
 -- the count of words, as the words of a block ask for it
-pub words-known : (p : Params) {words : ℕ} → words ≡ wordCount p → words ≡ 2958 + 6 * p .blocks
+pub words-known : (p : Params) {words : ℕ} → words ≡ wordCount p → words ≡ 2958 + 7 * p .blocks
 unfolding wordCount
 words-known p e = e
 

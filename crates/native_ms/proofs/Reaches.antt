@@ -124,8 +124,8 @@ module _ (p : Params) {marks heap at s n up : ℕ} (r : Reach p marks heap at s 
         }
 
 -- two parts of one run of cells
-pub joined : (p : Params) (kept : ℕ → Bool) (s at n k : ℕ) {l₀ l₁ l₂ : ℕ} {h₀ h₁ h₂ : List ℕ} → k ≤ n → Extends p kept s at k l₀ h₀ l₁ h₁
-    → Extends p kept s (at + k * s) (n - k) l₁ h₁ l₂ h₂ → Extends p kept s at n l₀ h₀ l₂ h₂
+pub joined : (p : Params) (kept : ℕ → Bool) (s at n k : ℕ) {l₀ l₁ l₂ c₁ c₂ : ℕ} {h₀ h₁ h₂ : List ℕ} → k ≤ n → Extends p kept s at k l₀ h₀ l₁ c₁ h₁
+    → Extends p kept s (at + k * s) (n - k) l₁ h₁ l₂ c₂ h₂ → Extends p kept s at n l₀ h₀ l₂ (c₁ + c₂) h₂
 joined p kept s at n k l x y = let z : k + (n - k) ≡ n = omega (arith, l) in rw z at (extends-twice p kept s at k (n - k) x y)
 
 -- the cells with a place below the heap: those behind them have none

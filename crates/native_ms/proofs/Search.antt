@@ -17,7 +17,7 @@ use Rattle.model.specs.Events.{eventHeap, eventsHeap, isSweep, sweeps}
 use Rattle.model.specs.FreeListAllocator.{findFreeBlockWith, recycleLocalBlocks}
 use Rattle.native_ms.specs.Block.{Swept}
 use Rattle.native_ms.specs.Space.{ListNumber}
-use Rattle.native_ms.specs.Closing.{Filed, seen, closed}
+use Rattle.native_ms.specs.Closing.{Filed, reached, closed}
 
 -- ---- list numbers
 
@@ -85,19 +85,19 @@ pub one-more : (n : ℕ) → n + 1 ≡ n + suc 0
 one-more n = omega arith
 
 module _ (p : Params) (ms : List ℕ) (owner bin n : ℕ) (t : Words) (h : List ℕ) where
-  pub recycle-end : (k : ℕ) → k ≤ 0 → seen 0 n t h ≡ closed p n h (recycleLocalBlocks k p ms owner bin t)
+  pub recycle-end : (k : ℕ) → k ≤ 0 → reached 0 n t h ≡ closed p n h (recycleLocalBlocks k p ms owner bin t)
   unfolding recycleLocalBlocks eventsHeap sweeps filter
   recycle-end zero l = rw (add-zero n)
   recycle-end (suc k) l = absurd (not-suc-le-zero l)
 
   module _ {u v : ℕ} {t₁ : Words} (eu : u ≡ unswept owner bin) (e : popped v t₁ ≡ pop p u t) where
-    pub recycle-none : (k : ℕ) → 0 < k → v ≡ 0 → seen 0 n t₁ h ≡ closed p n h (recycleLocalBlocks k p ms owner bin t)
+    pub recycle-none : (k : ℕ) → 0 < k → v ≡ 0 → reached 0 n t₁ h ≡ closed p n h (recycleLocalBlocks k p ms owner bin t)
     unfolding recycleLocalBlocks eventsHeap sweeps filter
     recycle-none zero l z = absurd (not-suc-le-zero l)
     recycle-none (suc k) l z = rw (← eu, ← e, eq-eqb v 0 z, add-zero n)
 
     module _ {a b c : ℕ} {q : Bool} {t₂ t₃ : Words} {h₁ : List ℕ} (nz : v ≡ 0 → ⊥) (eb : b ≡ blockAt p v) (es : Swept p ms b t₁ h t₂ h₁) (ea : a ≡ available owner bin) (ec : c ≡ consumed owner bin) (ef : Filed p a c b t₂ q t₃) where
-      pub recycle-found : (k : ℕ) → 0 < k → q ≡ true → seen v (n + 1) t₃ h₁ ≡ closed p n h (recycleLocalBlocks k p ms owner bin t)
+      pub recycle-found : (k : ℕ) → 0 < k → q ≡ true → reached v (n + 1) t₃ h₁ ≡ closed p n h (recycleLocalBlocks k p ms owner bin t)
       unfolding recycleLocalBlocks eventsHeap eventHeap sweeps filter isSweep
       recycle-found zero l z = absurd (not-suc-le-zero l)
       recycle-found (suc k) l z =

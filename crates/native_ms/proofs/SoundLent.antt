@@ -15,7 +15,7 @@ use borrow.Author.Count.{below-more}
 use borrow.Author.Tests.{eqb-true, eq-eqb, ne-eqb, le-ltb, leb-true}
 use Rattle.model.specs.declared.Params.{Params}
 use Rattle.model.specs.Base.{allBelow}
-use Rattle.model.specs.Params.{goodParams, powerOfTwo, isStart, blockAt, start, listOf}
+use Rattle.model.specs.Params.{goodParams, powerOfTwo, isStart, blockAt, start, listOf, headWords, blockTables}
 use Rattle.model.specs.Tables.{Words, view, blocksIn, blockTable}
 use Rattle.model.specs.Census.{censusParams}
 use Rattle.model.specs.Sound.{blockClear, ownerEmpty}
@@ -69,26 +69,27 @@ module _ (w : List ℕ) (a : ℕ) where
 
 -- ---- words of blocks
 
-pub few-tables : (j n : ℕ) → j < 6 → j * n ≤ 5 * n
+pub few-tables : (j n : ℕ) → j < blockTables → j * n ≤ 6 * n
 few-tables j n h = mul-le-mul-right n (omega arith)
 
-pub table-word : (w : List ℕ) (n j i : ℕ) → length w ≡ 2958 + 6 * n → i < n
-    → getD w (2958 + j * n + i) 0 ≡ getD (blockTable (blocksIn w) j w) i 0
+pub table-word : (w : List ℕ) (n j i : ℕ) → length w ≡ headWords + blockTables * n → i < n
+    → getD w (headWords + j * n + i) 0 ≡ getD (blockTable (blocksIn w) j w) i 0
 table-word w n j i e h =
     let m : n ≡ blocksIn w = omega arith in
-    sym (getD-part (2958 + j * n) n i w h) ∙ ap (λ (k : ℕ). getD (blockTable k j w) i 0) m
+    sym (getD-part (headWords + j * n) n i w h) ∙ ap (λ (k : ℕ). getD (blockTable k j w) i 0) m
 
 -- one after the other, in the order of a union
 or-next : {x : Bool} (a b : ℕ) → eqb a 0 ≡ x → eqb (bitOr a b) 0 ≡ (x && eqb b 0)
 or-next a b e = or-zero a b ∙ ap (λ (y : Bool). y && eqb b 0) e
 
-pub clear-words : (t : Words) (b : ℕ) {n v f s l h : ℕ} → n ≡ getD (t .next) b 0 → v ≡ getD (t .prev) b 0 → f ≡ getD (t .free) b 0
-    → s ≡ getD (t .size) b 0 → l ≡ getD (t .list) b 0 → h ≡ getD (t .tls) b 0
-    → eqb (bitOr (bitOr (bitOr (bitOr (bitOr n v) f) s) l) h) 0 ≡ blockClear t b
+pub clear-words : (t : Words) (b : ℕ) {n v f s l h c : ℕ} → n ≡ getD (t .next) b 0 → v ≡ getD (t .prev) b 0 → f ≡ getD (t .free) b 0
+    → s ≡ getD (t .size) b 0 → l ≡ getD (t .list) b 0 → h ≡ getD (t .tls) b 0 → c ≡ getD (t .cells) b 0
+    → eqb (bitOr (bitOr (bitOr (bitOr (bitOr (bitOr n v) f) s) l) h) c) 0 ≡ blockClear t b
 unfolding blockClear
-clear-words t b {n} {v} {f} {s} {l} {h} en ev ef es el eh =
-    or-next (bitOr (bitOr (bitOr (bitOr n v) f) s) l) h
-    (or-next (bitOr (bitOr (bitOr n v) f) s) l (or-next (bitOr (bitOr n v) f) s (or-next (bitOr n v) f (or-next n v refl)))) ∙ rw (← en, ← ev, ← ef, ← es, ← el, ← eh)
+clear-words t b {n} {v} {f} {s} {l} {h} {c} en ev ef es el eh ec =
+    or-next (bitOr (bitOr (bitOr (bitOr (bitOr n v) f) s) l) h) c
+    (or-next (bitOr (bitOr (bitOr (bitOr n v) f) s) l) h
+    (or-next (bitOr (bitOr (bitOr n v) f) s) l (or-next (bitOr (bitOr n v) f) s (or-next (bitOr n v) f (or-next n v refl))))) ∙ rw (← en, ← ev, ← ef, ← es, ← el, ← eh, ← ec)
 
 same-below : (n : ℕ) (f g : ℕ → Bool) → ((i : ℕ) → i < n → f i ≡ g i) → allBelow n f ≡ allBelow n g
 unfolding allBelow

@@ -17,7 +17,7 @@ use Rattle.model.specs.declared.Refusal.the-variants.{BadSetup, BadClasses}
 use Rattle.model.specs.declared.Tested.{Tested}
 use Rattle.model.specs.declared.Tested.the-variants.{Passed, Refused}
 use Rattle.model.specs.Base.{eachBelow, flag}
-use Rattle.model.specs.Params.{goodParams, fits, wordCount, heapBytes, start, minusLower, inHeap, localSets, abandoned, available, unswept, consumed, headWords, bins}
+use Rattle.model.specs.Params.{goodParams, fits, wordCount, heapBytes, start, minusLower, inHeap, localSets, abandoned, available, unswept, consumed, headWords, blockTables, bins}
 use Rattle.model.specs.Memory.{marked, setMark, cleared}
 use Rattle.model.specs.Tables.{Words, Tables, tablesOf, view, flat, setBound, setPhase, setReleased, withReleased}
 use Rattle.model.specs.Block.{Marked}
@@ -186,10 +186,10 @@ zeros-end w n i e h z =
     ext-getD 0 w (replicate n 0) (e ∙ sym (length-replicate n 0))
     (λ k q. z k (omega arith) ∙ sym (getD-replicate n k 0 0 (omega arith)))
 
-fresh-flat : (p : Params) (k : ℕ) → k ≡ 2958 + 6 * p .blocks → flat (freshWords p) ≡ replicate k 0
+fresh-flat : (p : Params) (k : ℕ) → k ≡ headWords + blockTables * p .blocks → flat (freshWords p) ≡ replicate k 0
 unfolding freshWords wordCount
 fresh-flat p k e =
-    flat-view (p .blocks) (replicate (2958 + 6 * p .blocks) 0) (length-replicate (2958 + 6 * p .blocks) 0)
+    flat-view (p .blocks) (replicate (headWords + blockTables * p .blocks) 0) (length-replicate (headWords + blockTables * p .blocks) 0)
     ∙ ap (λ (n : ℕ). replicate n 0) (sym e)
 
 module _ (p : Params) (w s m h : List ℕ) {f : Bool} (ef : f ≡ fits p (lend w s m h)) where

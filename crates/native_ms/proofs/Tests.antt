@@ -13,12 +13,12 @@ use Rattle.model.specs.declared.Refusal.{Refusal}
 use Rattle.model.specs.declared.Refusal.the-variants.{BadSetup, BadTables, BadClasses, WrongPhase, BadHolder}
 use Rattle.model.specs.declared.Tested.{Tested}
 use Rattle.model.specs.declared.Tested.the-variants.{Passed, Refused}
-use Rattle.model.specs.Params.{goodParams, fits, wordCount, heapBytes, headWords}
+use Rattle.model.specs.Params.{goodParams, fits, wordCount, heapBytes, headWords, blockTables}
 use Rattle.model.specs.Tables.{Words, Tables, tablesOf, view, flat}
 use Rattle.model.specs.Events.{eventsHeap}
 use Rattle.model.specs.Global.{isHolder, isBound}
 use Rattle.model.specs.Classes.{classesFit}
-use Rattle.model.specs.Sound.{sound}
+use Rattle.model.specs.Sound.{sound, chained, soundOn}
 use Rattle.model.specs.Calls.{Reply, refused, Call, refusedIf, andThen, phaseTest, boundTests, callTests, planPassed, ifPassed, planSound, plan, finish, carried, soundStep, step, call}
 use Rattle.model.specs.Promise.{lend, Promised}
 use Rattle.laws.proofs.Below.{or-left, or-right, or-neither, and-left, and-right, and-five}
@@ -33,7 +33,7 @@ use Rattle.native_ms.specs.Ending.{Stepped, shown, Does}
 -- what fits, part by part
 pub record Fitting (p : Params) (w s m h : List ℕ) : Type 0 where
   pub good : goodParams p ≡ true
-  pub words : length w ≡ headWords + 6 * p .blocks
+  pub words : length w ≡ headWords + blockTables * p .blocks
   pub states : length s ≡ p .blocks
   pub marks : length m ≡ heapBytes p / 64
   pub heap : length h ≡ heapBytes p
@@ -107,18 +107,21 @@ pub record Open (p : Params) (w s m h : List ℕ) : Type 0 where
   pub parts : Fitting p w s m h
   pub classes : classesFit p ≡ true
   pub sane : sound p (tablesOf (view w) s m) ≡ true
+  -- R-7: the chains too
+  pub whole : soundOn p (tablesOf (view w) s m) h ≡ true
 
 module _ (p : Params) (w s m h : List ℕ) where
   pub opened : lentTests p (lend w s m h) ≡ Passed → Open p w s m h
   unfolding lentTests andThen
-  opened e = go (fits p (lend w s m h)) (classesFit p) (sound p (tablesOf (view w) s m)) refl refl refl e
+  opened e = go (fits p (lend w s m h)) (classesFit p) (soundOn p (tablesOf (view w) s m) h) refl refl refl e
     where
-      go : (f k g : Bool) → fits p (lend w s m h) ≡ f → classesFit p ≡ k → sound p (tablesOf (view w) s m) ≡ g
+      go : (f k g : Bool) → fits p (lend w s m h) ≡ f → classesFit p ≡ k → soundOn p (tablesOf (view w) s m) h ≡ g
           → andThen (refusedIf (not f) BadSetup) (andThen (refusedIf (not k) BadClasses) (refusedIf (not g) BadTables)) ≡ Passed → Open p w s m h
       go false k g ef ek eg q = clash q
       go true false g ef ek eg q = clash q
       go true true false ef ek eg q = clash q
-      go true true true ef ek eg q = record { fit = ef; parts = fit-parts p w s m h refl ef; classes = ek; sane = eg }
+      go true true true ef ek eg q =
+          record { fit = ef; parts = fit-parts p w s m h refl ef; classes = ek; sane = and-left (sound p (tablesOf (view w) s m)) (chained p (tablesOf (view w) s m) h) eg; whole = eg }
 
   pub open-good : lentTests p (lend w s m h) ≡ Passed → goodParams p ≡ true
   open-good e = opened e .parts .good
@@ -132,9 +135,9 @@ module _ (p : Params) (w s m h : List ℕ) where
 module _ (p : Params) (w s m h : List ℕ) (c : Call) {r : Tested} (e : r ≡ lentTests p (lend w s m h)) where
   pub lent-refused : {x : Refusal} → r ≡ Refused x → Promised p (lend w s m h) c (refused x) (lend w s m h)
   unfolding lentTests andThen call step plan finish eventsHeap
-  lent-refused {x} z = go (fits p (lend w s m h)) (classesFit p) (sound p (tablesOf (view w) s m)) refl refl refl (sym e ∙ z)
+  lent-refused {x} z = go (fits p (lend w s m h)) (classesFit p) (soundOn p (tablesOf (view w) s m) h) refl refl refl (sym e ∙ z)
     where
-      go : (f k g : Bool) → fits p (lend w s m h) ≡ f → classesFit p ≡ k → sound p (tablesOf (view w) s m) ≡ g
+      go : (f k g : Bool) → fits p (lend w s m h) ≡ f → classesFit p ≡ k → soundOn p (tablesOf (view w) s m) h ≡ g
           → andThen (refusedIf (not f) BadSetup) (andThen (refusedIf (not k) BadClasses) (refusedIf (not g) BadTables)) ≡ Refused x
           → Promised p (lend w s m h) c (refused x) (lend w s m h)
       go false k g ef ek eg y =
@@ -156,7 +159,7 @@ module _ (p : Params) (w s m h : List ℕ) (c : Call) {r : Tested} (e : r ≡ le
       let o = opened p w s m h (sym e ∙ z) in
       let f = o .fit in
       let k = o .classes in
-      let g = o .sane in
+      let g = o .whole in
       record {
         reply = rw (f, k, g) (ap (λ (x : Stepped). x .reply) d);
         lent = rw (f, k, g) (ap (λ (u : List ℕ). lend u s′ m′ h′) (words-flat (p .blocks) w′ w (view w′) (o .parts .words) l refl)

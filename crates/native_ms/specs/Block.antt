@@ -1,19 +1,17 @@
 -- What the steps on one block promise of words and heap, with a name for each part.
-use Prim.Native.Nat.{ℕ, _+_, _*_, _≤_, _^_}
+use Prim.Native.Nat.{ℕ, _+_, _-_, _*_, _≤_, _^_}
 use mathlib.Core.Path.{_≡_}
 use mathlib.Core.Bool.{Bool, true}
 use mathlib.Core.List.{List, headD}
-use lib.ListN.{getD, set}
+use lib.ListN.{getD, set, length}
 use Rattle.model.specs.declared.Params.{Params}
 use Rattle.model.specs.Base.{if_then_else_, anyBelow}
 use Rattle.model.specs.Params.{goodParams, start, plusLower}
 use Rattle.model.specs.Memory.{load, zeroed, marked}
 use Rattle.model.specs.SizeClasses.{wordsIn}
-use Rattle.model.specs.Tables.{Words, setFree}
-use Rattle.model.specs.Sound.{linkOk}
+use Rattle.model.specs.Tables.{Words, setFree, setCells}
 use Rattle.model.specs.Block.{Unallocated, cellCount, cellsDown, linkAll, initChain, initBlock, sweepChain, sweptWords, clearBlock}
 use Rattle.native_ms.specs.declared.block.Taken.{Taken}
-use Rattle.native_ms.specs.declared.block.Taken.the-variants.{BadLink, Cell}
 
 -- whether the simple sweep, or else the brute-force one, keeps the cell of s bytes at a
 unfoldable pub keptBy : Bool → Params → List ℕ → ℕ → ℕ → Bool
@@ -31,13 +29,18 @@ pub record Linked (p : Params) (chain h : List ℕ) (r : ℕ) (h₁ : List ℕ) 
   pub head : r ≡ headD chain 0
   pub heap : h₁ ≡ linkAll p chain h
 
+-- and so many cells were put on it
+pub record Built (p : Params) (chain h : List ℕ) (r n : ℕ) (h₁ : List ℕ) : Type 0 where
+  pub linked : Linked p chain h r h₁
+  pub count : n ≡ length chain
+
 -- the cells of b that `kept` does not keep, by the size in the words t
 abbrev pub freed : Params → (ℕ → ℕ → Bool) → ℕ → Words → List ℕ
 freed p kept b t = cellsDown (kept (getD (t .size) b 0)) (start p b) (getD (t .size) b 0) (cellCount p (getD (t .size) b 0))
 
 -- a sweep that keeps what `kept` says, of a cell size and a cell
 pub record SweptBy (p : Params) (kept : ℕ → ℕ → Bool) (b : ℕ) (t : Words) (h : List ℕ) (t₁ : Words) (h₁ : List ℕ) : Type 0 where
-  pub words : t₁ ≡ setFree b (headD (freed p kept b t) 0) t
+  pub words : t₁ ≡ setCells b (length (freed p kept b t)) (setFree b (headD (freed p kept b t) 0) t)
   pub heap : h₁ ≡ linkAll p (freed p kept b t) h
 
 -- the sweep that the parameters choose
@@ -64,11 +67,9 @@ pub record TakenOut : Type 0 where
 abbrev pub took : Taken → Words → List ℕ → TakenOut
 took r t h = record { answer = r; words = t; heap = h }
 
--- The cell at the free head of the block b, as in `takeCell`: its link is read before it is zeroed, and a bad link leaves all
+-- The cell at the free head of the block b, as in `takeCell`: its link is read before it is zeroed
 unfoldable pub takeFree : Params → ℕ → Words → List ℕ → TakenOut
 takeFree p b t h =
     let cell : ℕ = getD (t .free) b 0 in
     let size : ℕ = getD (t .size) b 0 in
-    if linkOk p t b (load p h cell)
-    then took (Cell (record { 0 = cell }) size) (setFree b (load p h cell) t) (zeroed p h cell size)
-    else took BadLink t h
+    took (record { at = record { 0 = cell }; size = size }) (setCells b (getD (t .cells) b 0 - 1) (setFree b (load p h cell) t)) (zeroed p h cell size)

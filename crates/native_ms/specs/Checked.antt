@@ -8,7 +8,7 @@ use Rattle.model.specs.declared.Tested.{Tested}
 use Rattle.model.specs.declared.Tested.the-variants.{Passed, Refused}
 use Rattle.model.specs.Params.{Lent, fits}
 use Rattle.model.specs.Classes.{classesFit}
-use Rattle.model.specs.Sound.{sound}
+use Rattle.model.specs.Sound.{soundOn}
 use Rattle.model.specs.Calls.{refusedIf, andThen, tablesIn}
 use Rattle.native_ms.specs.declared.checks.Checked.{Checked}
 use Rattle.native_ms.specs.declared.checks.Checked.the-variants as Check
@@ -17,7 +17,7 @@ use Rattle.native_ms.specs.declared.checks.Checked.the-variants as Check
 unfoldable pub lentTests : Params → Lent → Tested
 lentTests p l =
     andThen (refusedIf (not (fits p l)) BadSetup)
-    (andThen (refusedIf (not (classesFit p)) BadClasses) (refusedIf (not (sound p (tablesIn l))) BadTables))
+    (andThen (refusedIf (not (classesFit p)) BadClasses) (refusedIf (not (soundOn p (tablesIn l) (l .heap))) BadTables))
 
 -- the bin, once the tests of an alloc are passed
 unfoldable pub binAfter : Tested → ℕ → Checked

@@ -19,20 +19,20 @@ pub record Filed (p : Params) (avail full b : ℕ) (t : Words) (r : Bool) (t₁ 
   pub words : t₁ ≡ push p (if r then avail else full) b t
 
 -- a search as the code sees its end
-pub record Seen : Type 0 where
+pub record Reached : Type 0 where
   pub at : ℕ
   pub swept : ℕ
   pub words : Words
   pub heap : List ℕ
 
-abbrev pub seen : ℕ → ℕ → Words → List ℕ → Seen
-seen a n t h = record { at = a; swept = n; words = t; heap = h }
+abbrev pub reached : ℕ → ℕ → Words → List ℕ → Reached
+reached a n t h = record { at = a; swept = n; words = t; heap = h }
 
 -- the machine's search, seen so: n blocks were swept before it, and the heap was h
-abbrev pub closed : Params → ℕ → List ℕ → Found → Seen
-closed p n h f = seen (f .at) (n + sweeps (f .events)) (f .words) (eventsHeap p (f .events) h)
+abbrev pub closed : Params → ℕ → List ℕ → Found → Reached
+closed p n h f = reached (f .at) (n + sweeps (f .events)) (f .words) (eventsHeap p (f .events) h)
 
 -- the search s is the search f, and swept at most k blocks
-pub record Searched (k : ℕ) (s f : Seen) : Type 0 where
+pub record Searched (k : ℕ) (s f : Reached) : Type 0 where
   pub same : s ≡ f
   pub few : s .swept ≤ k

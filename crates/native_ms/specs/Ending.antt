@@ -8,7 +8,7 @@ use lib.ListN.{getD, set}
 use Rattle.model.specs.declared.Params.{Params}
 use Rattle.model.specs.declared.Offer.{Offer}
 use Rattle.model.specs.Base.{if_then_else_}
-use Rattle.model.specs.Params.{goodParams, bins, localSets, available}
+use Rattle.model.specs.Params.{goodParams, bins, holders, localSets, available}
 use Rattle.model.specs.Tables.{Words, Tables}
 use Rattle.model.specs.SizeClasses.{cellBytes}
 use Rattle.model.specs.BlockList.{push}
@@ -77,7 +77,7 @@ pub record Shiftable (align offset : ℕ) : Type 0 where
 pub record Ready (p : Params) (t : Words) (holder bin align offset : ℕ) : Type 0 where
   pub good : goodParams p ≡ true
   pub holder-from : 1 ≤ holder
-  pub holder-to : holder ≤ 8
+  pub holder-to : holder ≤ holders
   pub bin-low : bin < bins
   pub shift : Shiftable align offset
   pub heads : (b : ℕ) → getD (t .free) b 0 < 2 ^ 47

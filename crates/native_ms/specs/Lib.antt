@@ -14,3 +14,4 @@ pub mod Checked
 pub mod Abandoned
 pub mod Released
 pub mod SoundLent
+pub mod FewCells

@@ -7,7 +7,7 @@ use Rattle.model.specs.declared.Params.{Params}
 use Rattle.model.specs.declared.Block.{Block}
 use Rattle.model.specs.declared.Offer.{Offer}
 use Rattle.model.specs.declared.Offer.the-variants.{Fresh}
-use lib.ListN.{getD}
+use lib.ListN.{getD, length}
 use Rattle.model.specs.Params.{goodParams, wordCount, heapBytes, blockAt, biased}
 use Rattle.model.specs.Tables.{Words}
 use Rattle.model.specs.Block.{isCell, cellsDown}
@@ -96,7 +96,10 @@ pub record ByBits (p : Params) (ms : List ℕ) (kept : ℕ → Bool) (s at end f
   pub by : (o g : ℕ) → at ≤ o → o + s ≤ end → 8 * g + at ≡ o + 8 * first → kept (p .base + o) ≡ anyBit ms g count
 
 -- A chain that had the head `last` in the heap h went on with n more cells of s bytes, from the offset `at` on: whatever cells below
--- them were looked at before. Its head is r now, and the heap h₁
-pub record Extends (p : Params) (kept : ℕ → Bool) (s at n last : ℕ) (h : List ℕ) (r : ℕ) (h₁ : List ℕ) : Type 0 where
+-- them were looked at before. Its head is r now, so many cells were put on it, and the heap is h₁
+pub record Extends (p : Params) (kept : ℕ → Bool) (s at n last : ℕ) (h : List ℕ) (r count : ℕ) (h₁ : List ℕ) : Type 0 where
   pub on : (from k : ℕ) (h₀ : List ℕ) → from + k * s ≡ p .base + at → Linked p (cellsDown kept from s k) h₀ last h
       → Linked p (cellsDown kept from s (k + n)) h₀ r h₁
+  pub few : count ≤ n
+  pub counted : (from k : ℕ) → from + k * s ≡ p .base + at
+      → length (cellsDown kept from s (k + n)) ≡ length (cellsDown kept from s k) + count

@@ -6,6 +6,8 @@ mod known;
 mod marks;
 
 use crate::address;
+use crate::block::chain::Chain;
+use crate::block::chain::Span;
 use crate::memory;
 use model::Address;
 use model::Block;
@@ -14,13 +16,13 @@ use words::states;
 use words::tables;
 ghost use mathlib.Core.Path.{_≡_};
 ghost use mathlib.Core.Bool.{true, false, _||_};
-ghost use Prim.Native.Nat.{_+_, _*_, _^_, _≤_};
+ghost use Prim.Native.Nat.{_-_, _*_, _/_, _^_, _≤_, _<_};
 ghost use lib.Dec.{eqb};
 ghost use lib.ListN.{length, getD};
 ghost use Rattle.model.specs.Params.{goodParams, wordCount, lowerOk, biased};
 ghost use Rattle.model.specs.Tables.{view};
 ghost use Rattle.model.specs.Block.{simple, cellCount, cellsDown, isCell};
-ghost use Rattle.native_ms.specs.Block.{keptBy, Room, Linked, SweptBy, Swept, Initialised, Cleared, took, takeFree};
+ghost use Rattle.native_ms.specs.Block.{keptBy, Room, Built, SweptBy, Swept, Initialised, Cleared, took, takeFree};
 ghost use Rattle.native_ms.specs.Places.{Known, WholeWords, Standing, Sweepable, Takeable};
 
 // State bytes.
@@ -30,10 +32,10 @@ pub(crate) const UNMARKED: u8 = 255;
 
 pub(crate) const MARKED: u8 = 254;
 
-// The answer of the taking of a cell.
-pub(crate) enum Taken {
-    BadLink,
-    Cell { at: Address, size: usize },
+// The cell that was taken.
+pub(crate) struct Taken {
+    pub at: Address,
+    pub size: usize,
 }
 
 // L + 64, so that all else is unsigned.
@@ -58,93 +60,115 @@ pub(crate) fn is_simple(p: Params) -> bool
 }
 
 // Whether a sweep keeps the cell.
-pub(crate) fn cell_is_marked(p: Params, simple: bool, m: &[u8], cell: Address, s: usize) -> bool
-    requires { ⌜ (goodParams p ≡ true) × (cell .0 ≤ 2 ^ 50) × (s ≤ 65536) ⌝ }
-    ensures { λ r. ⌜ r ≡ keptBy simple p (now (m .entry)) s (cell .0) ⌝ }
+pub(crate) fn cell_is_marked(
+    p: Params,
+    simple: bool,
+    marks: &[u8],
+    cell: Address,
+    size: usize,
+) -> bool
+    requires { ⌜ (goodParams p ≡ true) × (cell .0 ≤ 2 ^ 50) × (size ≤ 65536) ⌝ }
+    ensures { λ r. ⌜ r ≡ keptBy simple p (now (marks .entry)) size (cell .0) ⌝ }
 {
     if simple {
-        return memory::is_marked(p, m, cell);
+        return memory::is_marked(p, marks, cell);
     }
-    marks::any_marked(p, m, cell, s)
+    marks::any_marked(p, marks, cell, size)
 }
 
-// How many whole cells of s bytes a block has; the short tail is none.
-pub(crate) fn cell_count(p: Params, s: usize) -> usize
-    ensures { λ r. ⌜ r ≡ cellCount p s ⌝ }
+// How many whole cells of this size a block has; the short tail is none.
+pub(crate) fn cell_count(p: Params, size: usize) -> usize
+    ensures { λ r. ⌜ r ≡ cellCount p size ⌝ }
 {
-    if s == 0 {
+    if size == 0 {
         return 0;
     }
-    p.bytes / s
+    p.bytes / size
 }
 
-// Links those of the n cells that the sweep finds unmarked, each to the one below it. The answer is the free head. The mark
-// is tested last in a turn, so that the turn's two ends never meet.
+// Links those of the cells that the sweep finds unmarked, each to the one below it: `count` cells of `size` bytes from `from` on. The
+// mark is tested last in a turn, so that the turn's two ends never meet.
 fn link_unmarked(
     p: Params,
     simple: bool,
-    m: &[u8],
-    h: &mut [u8],
+    marks: &[u8],
+    heap: &mut [u8],
     from: Address,
-    s: usize,
-    n: usize,
-) -> Address
-    requires { ⌜ Room p (from .0) s n ⌝ }
-    ensures { λ r. ⌜ Linked p (cellsDown (keptBy simple p (now (m .entry)) s) (from .0) s n) (now (h .entry)) (r .0) (now (h .exit)) ⌝ }
+    size: usize,
+    count: usize,
+) -> Chain
+    requires { ⌜ Room p (from .0) size count ⌝ }
+    ensures { λ r. ⌜ Built p (cellsDown (keptBy simple p (now (marks .entry)) size) (from .0) size count) (now (heap .entry)) (r .head) (r .count) (now (heap .exit)) ⌝ }
 {
     let mut seen: usize = 0;
+    let mut linked: usize = 0;
     let mut next = from.0;
     let mut last: usize = 0;
-    while seen < n {
+    while seen < count {
         let cell = next;
-        next = next + s;
+        next = next + size;
         seen = seen + 1;
-        let kept = cell_is_marked(p, simple, m, Address(cell), s);
+        let kept = cell_is_marked(p, simple, marks, Address(cell), size);
         if !kept {
-            memory::store(p, h, Address(cell), last);
+            memory::store(p, heap, Address(cell), last);
             last = cell;
+            linked = linked + 1;
         }
     }
-    Address(last)
+    Chain {
+        head: last,
+        count: linked,
+    }
 }
 
 // Either sweep, of any block of any words.
-fn sweep_by(p: Params, simple: bool, w: &mut [usize], m: &[u8], h: &mut [u8], b: Block)
+fn sweep_by(p: Params, simple: bool, words: &mut [usize], marks: &[u8], heap: &mut [u8], b: Block)
     requires { ⌜ goodParams p ≡ true ⌝ }
-    ensures { λ _. ⌜ SweptBy p (keptBy simple p (now (m .entry))) (b .0) (view (now (w .entry))) (now (h .entry)) (view (now (w .exit))) (now (h .exit)) ⌝ }
+    ensures { λ _. ⌜ SweptBy p (keptBy simple p (now (marks .entry))) (b .0) (view (now (words .entry))) (now (heap .entry)) (view (now (words .exit))) (now (heap .exit)) ⌝ }
 {
     let i = b.0;
-    let s = tables::size(w, i);
-    let n = cell_count(p, s);
+    let size = tables::size(words, i);
+    let count = cell_count(p, size);
     let from = address::start(p, b);
-    let head = link_unmarked(p, simple, m, h, from, s, n);
-    tables::set_free(w, i, head.0);
+    let chain = link_unmarked(p, simple, marks, heap, from, size, count);
+    tables::set_free(words, i, chain.head);
+    tables::set_cells(words, i, chain.count);
 }
 
-// Whether cells of s bytes are of whole words, as in sound tables they are: then those of a block lie in the heap, word by word.
-fn is_whole_words(s: usize) -> bool
-    ensures { λ r. ⌜ (r ≡ true → WholeWords s) ⌝ }
+// Whether cells of this size are of whole words, as in sound tables they are: then those of a block lie in the heap, word by word.
+fn is_whole_words(size: usize) -> bool
+    ensures { λ r. ⌜ (r ≡ true → WholeWords size) ⌝ }
 {
-    if s < 8 {
+    if size < 8 {
         return false;
     }
-    if 65536 < s {
+    if 65536 < size {
         return false;
     }
-    s % 8 == 0
+    size % 8 == 0
+}
+
+// All whole cells of the block.
+fn cells_span(p: Params, b: Block, size: usize) -> Span
+    requires { ⌜ (goodParams p ≡ true) × (b .0 < p .blocks) × (0 < size) ⌝ }
+    ensures { λ r. ⌜ (r .at ≡ b .0 * p .bytes) × (r .size ≡ size) × (r .count ≡ p .bytes / size) ⌝ }
+{
+    let at = b.0 * p.bytes;
+    let count = p.bytes / size;
+    Span { at, size, count }
 }
 
 // Frees each whole cell with no mark at its start.
-fn simple_sweep(p: Params, w: &mut [usize], m: &[u8], h: &mut [u8], b: Block)
-    requires { ⌜ Sweepable p (length (now w)) (length (now m)) (length (now h)) (b .0) (getD (view (now w) .size) (b .0) 0) ⌝ }
-    ensures { λ _. ⌜ SweptBy p (keptBy true p (now (m .entry))) (b .0) (view (now (w .entry))) (now (h .entry)) (view (now (w .exit))) (now (h .exit)) ⌝ }
+fn simple_sweep(p: Params, words: &mut [usize], marks: &[u8], heap: &mut [u8], b: Block)
+    requires { ⌜ Sweepable p (length (now words)) (length (now marks)) (length (now heap)) (b .0) (getD (view (now words) .size) (b .0) 0) ⌝ }
+    ensures { λ _. ⌜ SweptBy p (keptBy true p (now (marks .entry))) (b .0) (view (now (words .entry))) (now (heap .entry)) (view (now (words .exit))) (now (heap .exit)) ⌝ }
 {
     let blocks = p.blocks;
-    let s = known::size(w, blocks, b);
-    let at = b.0 * p.bytes;
-    let n = p.bytes / s;
-    let head = chain::link_by_bit(p, m, h, at, s, n, at / 8, 0);
-    known::set_free(w, blocks, b, head);
+    let size = known::size(words, blocks, b);
+    let span = cells_span(p, b, size);
+    let chain = chain::link_by_bit(p, marks, heap, span, span.at / 8, 0);
+    known::set_free(words, blocks, b, chain.head);
+    known::set_cells(words, blocks, b, chain.count);
 }
 
 // L + 64 of good parameters.
@@ -156,63 +180,71 @@ fn up_by(p: Params) -> usize
 }
 
 // Frees each whole cell with no mark at any of its places.
-fn naive_brute_force_sweep(p: Params, w: &mut [usize], m: &[u8], h: &mut [u8], b: Block)
-    requires { ⌜ Sweepable p (length (now w)) (length (now m)) (length (now h)) (b .0) (getD (view (now w) .size) (b .0) 0) ⌝ }
-    ensures { λ _. ⌜ SweptBy p (keptBy false p (now (m .entry))) (b .0) (view (now (w .entry))) (now (h .entry)) (view (now (w .exit))) (now (h .exit)) ⌝ }
+fn naive_brute_force_sweep(p: Params, words: &mut [usize], marks: &[u8], heap: &mut [u8], b: Block)
+    requires { ⌜ Sweepable p (length (now words)) (length (now marks)) (length (now heap)) (b .0) (getD (view (now words) .size) (b .0) 0) ⌝ }
+    ensures { λ _. ⌜ SweptBy p (keptBy false p (now (marks .entry))) (b .0) (view (now (words .entry))) (now (heap .entry)) (view (now (words .exit))) (now (heap .exit)) ⌝ }
 {
     let blocks = p.blocks;
-    let s = known::size(w, blocks, b);
-    let at = b.0 * p.bytes;
-    let n = p.bytes / s;
+    let size = known::size(words, blocks, b);
+    let span = cells_span(p, b, size);
     let up = up_by(p);
-    let head = chain::link_brute(p, m, h, at, s, n, up);
-    known::set_free(w, blocks, b, head);
+    let chain = chain::link_brute(p, marks, heap, span, up);
+    known::set_free(words, blocks, b, chain.head);
+    known::set_cells(words, blocks, b, chain.count);
 }
 
 // The sweep that the parameters choose.
-pub(crate) fn sweep(p: Params, w: &mut [usize], m: &[u8], h: &mut [u8], b: Block)
-    requires { ⌜ Known p (length (now w)) (length (now m)) (length (now h)) ⌝ }
-    ensures { λ _. ⌜ Swept p (now (m .entry)) (b .0) (view (now (w .entry))) (now (h .entry)) (view (now (w .exit))) (now (h .exit)) ⌝ }
+pub(crate) fn sweep(p: Params, words: &mut [usize], marks: &[u8], heap: &mut [u8], b: Block)
+    requires { ⌜ Known p (length (now words)) (length (now marks)) (length (now heap)) ⌝ }
+    ensures { λ _. ⌜ Swept p (now (marks .entry)) (b .0) (view (now (words .entry))) (now (heap .entry)) (view (now (words .exit))) (now (heap .exit)) ⌝ }
 {
-    let s = known::size(w, p.blocks, b);
+    let size = known::size(words, p.blocks, b);
     let simple = is_simple(p);
-    if !is_whole_words(s) {
-        sweep_by(p, simple, w, m, h, b);
+    if !is_whole_words(size) {
+        sweep_by(p, simple, words, marks, heap, b);
         return;
     }
     if simple {
-        simple_sweep(p, w, m, h, b);
+        simple_sweep(p, words, marks, heap, b);
         return;
     }
-    naive_brute_force_sweep(p, w, m, h, b);
+    naive_brute_force_sweep(p, words, marks, heap, b);
 }
 
-// Makes the block one of whole cells of s bytes, all free, for a holder.
-pub(crate) fn init_block(p: Params, w: &mut [usize], h: &mut [u8], b: Block, s: usize, tls: usize)
-    requires { ⌜ (Standing p (length (now w)) (length (now h)) (b .0)) × (8 ≤ s) ⌝ }
-    ensures { λ _. ⌜ Initialised p (b .0) s tls (view (now (w .entry))) (now (h .entry)) (view (now (w .exit))) (now (h .exit)) ⌝ }
+// Makes the block one of whole cells of this size, all free, for a holder.
+pub(crate) fn init_block(
+    p: Params,
+    words: &mut [usize],
+    heap: &mut [u8],
+    b: Block,
+    size: usize,
+    tls: usize,
+)
+    requires { ⌜ (Standing p (length (now words)) (length (now heap)) (b .0)) × (8 ≤ size) ⌝ }
+    ensures { λ _. ⌜ Initialised p (b .0) size tls (view (now (words .entry))) (now (heap .entry)) (view (now (words .exit))) (now (heap .exit)) ⌝ }
 {
     let blocks = p.blocks;
-    let at = b.0 * p.bytes;
-    let n = p.bytes / s;
-    let head = chain::link_cells(p, h, at, s, n);
-    known::set_free(w, blocks, b, head);
-    known::set_size(w, blocks, b, s);
-    known::set_tls(w, blocks, b, tls);
+    let span = cells_span(p, b, size);
+    let head = chain::link_cells(p, heap, span);
+    known::set_free(words, blocks, b, head);
+    known::set_size(words, blocks, b, size);
+    known::set_tls(words, blocks, b, tls);
+    known::set_cells(words, blocks, b, span.count);
 }
 
 // Release: all words of the block and its state are 0 again.
-pub(crate) fn clear_block(w: &mut [usize], st: &mut [u8], b: Block)
-    ensures { λ _. ⌜ Cleared (b .0) (view (now (w .entry))) (now (st .entry)) (view (now (w .exit))) (now (st .exit)) ⌝ }
+pub(crate) fn clear_block(words: &mut [usize], states: &mut [u8], b: Block)
+    ensures { λ _. ⌜ Cleared (b .0) (view (now (words .entry))) (now (states .entry)) (view (now (words .exit))) (now (states .exit)) ⌝ }
 {
     let i = b.0;
-    tables::set_next(w, i, 0);
-    tables::set_prev(w, i, 0);
-    tables::set_free(w, i, 0);
-    tables::set_size(w, i, 0);
-    tables::set_list(w, i, 0);
-    tables::set_tls(w, i, 0);
-    states::set_state(st, i, UNALLOCATED);
+    tables::set_next(words, i, 0);
+    tables::set_prev(words, i, 0);
+    tables::set_free(words, i, 0);
+    tables::set_size(words, i, 0);
+    tables::set_list(words, i, 0);
+    tables::set_tls(words, i, 0);
+    tables::set_cells(words, i, 0);
+    states::set_state(states, i, UNALLOCATED);
 }
 
 // A whole cell of `size` bytes of the block b stands at a. The division is last and a short one, of numbers that are small by then.
@@ -251,44 +283,52 @@ pub(crate) fn link_ok(p: Params, b: Block, size: usize, a: Address) -> bool
     is_cell(p, b, size, a)
 }
 
+// One less, of 0 none less.
+fn one_less(count: usize) -> usize
+    ensures { λ r. ⌜ r ≡ count - 1 ⌝ }
+{
+    if count == 0 {
+        return 0;
+    }
+    count - 1
+}
+
 // Takes the cell at the block's free head. Its link is read before the whole cell is zeroed: the link lies in it.
-pub(crate) fn block_alloc(p: Params, w: &mut [usize], h: &mut [u8], b: Block) -> Taken
-    requires { ⌜ (goodParams p ≡ true) × (length (now w) ≡ wordCount p) ⌝ }
-    ensures { λ r. ⌜ took r (view (now (w .exit))) (now (h .exit)) ≡ takeFree p (b .0) (view (now (w .entry))) (now (h .entry)) ⌝ }
+pub(crate) fn block_alloc(p: Params, words: &mut [usize], heap: &mut [u8], b: Block) -> Taken
+    requires { ⌜ (goodParams p ≡ true) × (length (now words) ≡ wordCount p) ⌝ }
+    ensures { λ r. ⌜ took r (view (now (words .exit))) (now (heap .exit)) ≡ takeFree p (b .0) (view (now (words .entry))) (now (heap .entry)) ⌝ }
 {
     let blocks = p.blocks;
-    let cell = known::free(w, blocks, b);
-    let s = known::size(w, blocks, b);
-    let link = memory::load(p, h, Address(cell));
-    let ok = link_ok(p, b, s, Address(link));
-    if !ok {
-        return Taken::BadLink;
-    }
-    known::set_free(w, blocks, b, link);
-    memory::zero(p, h, Address(cell), s);
-    Taken::Cell {
+    let cell = known::free(words, blocks, b);
+    let size = known::size(words, blocks, b);
+    let counted = known::cells(words, blocks, b);
+    let rest = one_less(counted);
+    let link = memory::load(p, heap, Address(cell));
+    known::set_free(words, blocks, b, link);
+    known::set_cells(words, blocks, b, rest);
+    memory::zero(p, heap, Address(cell), size);
+    Taken {
         at: Address(cell),
-        size: s,
+        size,
     }
 }
 
 // The same of a block whose free head is known to be a cell of it: no place is tested again.
-pub(crate) fn take_head(p: Params, w: &mut [usize], h: &mut [u8], b: Block) -> Taken
-    requires { ⌜ Takeable p (view (now w)) (length (now w)) (length (now h)) (b .0) ⌝ }
-    ensures { λ r. ⌜ took r (view (now (w .exit))) (now (h .exit)) ≡ takeFree p (b .0) (view (now (w .entry))) (now (h .entry)) ⌝ }
+pub(crate) fn take_head(p: Params, words: &mut [usize], heap: &mut [u8], b: Block) -> Taken
+    requires { ⌜ Takeable p (view (now words)) (length (now words)) (length (now heap)) (b .0) ⌝ }
+    ensures { λ r. ⌜ took r (view (now (words .exit))) (now (heap .exit)) ≡ takeFree p (b .0) (view (now (words .entry))) (now (heap .entry)) ⌝ }
 {
     let blocks = p.blocks;
-    let cell = known::free(w, blocks, b);
-    let size = known::size(w, blocks, b);
+    let cell = known::free(words, blocks, b);
+    let size = known::size(words, blocks, b);
+    let counted = known::cells(words, blocks, b);
+    let left = one_less(counted);
     let at = cell - p.base;
-    let next = cells::word_at(h, at);
-    let ok = link_ok(p, b, size, Address(next));
-    if !ok {
-        return Taken::BadLink;
-    }
-    known::set_free(w, blocks, b, next);
-    cells::clear(h, at, size);
-    Taken::Cell {
+    let next = cells::word_at(heap, at);
+    known::set_free(words, blocks, b, next);
+    known::set_cells(words, blocks, b, left);
+    cells::clear(heap, at, size);
+    Taken {
         at: Address(cell),
         size,
     }

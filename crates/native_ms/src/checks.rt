@@ -6,10 +6,10 @@ use crate::allocator::Raised;
 use crate::allocator::Request;
 use crate::block;
 use crate::classes;
+use crate::free_counts;
 use crate::global;
 use crate::params;
 use crate::size_class;
-use crate::sound;
 use crate::sound::known;
 use model::Address;
 use model::Block;
@@ -74,7 +74,7 @@ pub(crate) fn check_lent(
     if !classes::classes_fit(p) {
         return Tested::Refused(Refusal::BadClasses);
     }
-    if !sound::sound(p, words, states) {
+    if !free_counts::sound_on(p, words, states, heap) {
         return Tested::Refused(Refusal::BadTables);
     }
     Tested::Passed

@@ -5,7 +5,6 @@ use crate::address;
 use crate::allocator;
 use crate::allocator::Request;
 use crate::block;
-use crate::block::Taken;
 use crate::block_list;
 use crate::checks;
 use crate::checks::Checked;
@@ -28,14 +27,14 @@ ghost use mathlib.Core.List.{List, []};
 ghost use Prim.Native.Nat.{ℕ, _<_, _≤_};
 ghost use lib.ListN.{length};
 ghost use Rattle.model.specs.Base.{flag};
-ghost use Rattle.model.specs.Params.{goodParams, wordCount, lists, blockAt};
+ghost use Rattle.model.specs.Params.{goodParams, wordCount, bins, lists, holders, blockAt};
 ghost use Rattle.model.specs.declared.Tested.the-variants.{Passed};
 ghost use Rattle.model.specs.Tables.{view, tablesOf};
 ghost use Rattle.model.specs.BlockList.{popped};
 ghost use Rattle.model.specs.FreeListAllocator.{findFreeBlockWith, recycleLocalBlocks, acquireAbandoned, findBlock};
 ghost use Rattle.model.specs.Calls.{alloc, takeCell};
 ghost use Rattle.model.specs.Answers.{allocReply};
-ghost use Rattle.native_ms.specs.Closing.{Filed, seen, closed, Searched};
+ghost use Rattle.native_ms.specs.Closing.{Filed, reached, closed, Searched};
 ghost use Rattle.model.specs.Promise.{lend, Promised};
 ghost use Rattle.native_ms.specs.Abandoned.{nextOf, popAbandoned, TakenOver};
 ghost use Rattle.native_ms.specs.Ending.{ended, closedSearch, acquireGlobal, Freshened, stepped, shown, servedBy, Ready, Shiftable, Does};
@@ -72,55 +71,60 @@ pub(crate) struct Abandoned {
 }
 
 // The first block of the list avail with a free cell. Those before it go to the list full.
-pub(crate) fn find_free_block_with(p: Params, w: &mut [usize], avail: usize, full: usize) -> Address
-    requires { ⌜ (goodParams p ≡ true) × (avail < 1470) × (full < 1470) ⌝ }
-    ensures { λ r. ⌜ popped (r .0) (view (now (w .exit))) ≡ findFreeBlockWith (p .blocks) p avail full (view (now (w .entry))) ⌝ }
+pub(crate) fn find_free_block_with(
+    p: Params,
+    words: &mut [usize],
+    avail: usize,
+    full: usize,
+) -> Address
+    requires { ⌜ (goodParams p ≡ true) × (avail < lists) × (full < lists) ⌝ }
+    ensures { λ r. ⌜ popped (r .0) (view (now (words .exit))) ≡ findFreeBlockWith (p .blocks) p avail full (view (now (words .entry))) ⌝ }
 {
     let mut left = p.blocks;
     while 0 < left {
-        let first = tables::first(w, avail);
+        let first = tables::first(words, avail);
         if first == 0 {
             return Address(0);
         }
         let b = address::block_at(p, Address(first));
         let number = b.0;
-        let cell = tables::free(w, number);
+        let cell = tables::free(words, number);
         if cell != 0 {
             return Address(first);
         }
-        block_list::pop(p, w, avail);
-        block_list::push(p, w, full, b);
+        block_list::pop(p, words, avail);
+        block_list::push(p, words, full, b);
         left = left - 1;
     }
     Address(0)
 }
 
 // Puts a block on the list avail if it has a free cell, else on the list full. The answer: whether it has one.
-fn file_block(p: Params, w: &mut [usize], avail: usize, full: usize, b: Block) -> bool
-    requires { ⌜ (goodParams p ≡ true) × (avail < 1470) × (full < 1470) ⌝ }
-    ensures { λ r. ⌜ Filed p avail full (b .0) (view (now (w .entry))) r (view (now (w .exit))) ⌝ }
+fn file_block(p: Params, words: &mut [usize], avail: usize, full: usize, b: Block) -> bool
+    requires { ⌜ (goodParams p ≡ true) × (avail < lists) × (full < lists) ⌝ }
+    ensures { λ r. ⌜ Filed p avail full (b .0) (view (now (words .entry))) r (view (now (words .exit))) ⌝ }
 {
     let number = b.0;
-    let cell = tables::free(w, number);
+    let cell = tables::free(words, number);
     if cell == 0 {
-        block_list::push(p, w, full, b);
+        block_list::push(p, words, full, b);
         return false;
     }
-    block_list::push(p, w, avail, b);
+    block_list::push(p, words, avail, b);
     true
 }
 
 // Sweeps the owner's unswept blocks until one has a free cell.
 pub(crate) fn recycle_local_blocks(
     p: Params,
-    w: &mut [usize],
-    m: &[u8],
-    h: &mut [u8],
+    words: &mut [usize],
+    marks: &[u8],
+    heap: &mut [u8],
     owner: usize,
     bin: usize,
 ) -> Found
-    requires { ⌜ (Known p (length (now w)) (length (now m)) (length (now h))) × (owner < 28) × (bin < 49) ⌝ }
-    ensures { λ r. ⌜ Searched (p .blocks) (seen (r .at .0) (r .swept) (view (now (w .exit))) (now (h .exit))) (closed p 0 (now (h .entry)) (recycleLocalBlocks (p .blocks) p (now (m .entry)) owner bin (view (now (w .entry))))) ⌝ }
+    requires { ⌜ (Known p (length (now words)) (length (now marks)) (length (now heap))) × (owner < 28) × (bin < bins) ⌝ }
+    ensures { λ r. ⌜ Searched (p .blocks) (reached (r .at .0) (r .swept) (view (now (words .exit))) (now (heap .exit))) (closed p 0 (now (heap .entry)) (recycleLocalBlocks (p .blocks) p (now (marks .entry)) owner bin (view (now (words .entry))))) ⌝ }
 {
     let from = address::unswept(owner, bin);
     let avail = address::available(owner, bin);
@@ -128,7 +132,7 @@ pub(crate) fn recycle_local_blocks(
     let mut left = p.blocks;
     let mut swept: usize = 0;
     while 0 < left {
-        let at = block_list::pop(p, w, from);
+        let at = block_list::pop(p, words, from);
         let start = at.0;
         if start == 0 {
             return Found {
@@ -137,9 +141,9 @@ pub(crate) fn recycle_local_blocks(
             };
         }
         let b = address::block_at(p, at);
-        block::sweep(p, w, m, h, b);
+        block::sweep(p, words, marks, heap, b);
         swept = swept + 1;
-        let free = file_block(p, w, avail, full, b);
+        let free = file_block(p, words, avail, full, b);
         if free {
             return Found { at, swept };
         }
@@ -153,18 +157,18 @@ pub(crate) fn recycle_local_blocks(
 
 // Takes an abandoned block of the bin off its list: an available one, or else an unswept one. Abandoned consumed blocks are
 // not tried.
-fn pop_abandoned(p: Params, w: &mut [usize], bin: usize) -> Abandoned
-    requires { ⌜ (goodParams p ≡ true) × (bin < 49) ⌝ }
-    ensures { λ r. ⌜ nextOf (r .at .0) (r .unswept) (view (now (w .exit))) ≡ popAbandoned p bin (view (now (w .entry))) ⌝ }
+fn pop_abandoned(p: Params, words: &mut [usize], bin: usize) -> Abandoned
+    requires { ⌜ (goodParams p ≡ true) × (bin < bins) ⌝ }
+    ensures { λ r. ⌜ nextOf (r .at .0) (r .unswept) (view (now (words .exit))) ≡ popAbandoned p bin (view (now (words .entry))) ⌝ }
 {
     let avail = address::available(ABANDONED, bin);
     let waiting = address::unswept(ABANDONED, bin);
-    let at = block_list::pop(p, w, avail);
+    let at = block_list::pop(p, words, avail);
     let start = at.0;
     if start != 0 {
         return Abandoned { at, unswept: false };
     }
-    let second = block_list::pop(p, w, waiting);
+    let second = block_list::pop(p, words, waiting);
     Abandoned {
         at: second,
         unswept: true,
@@ -174,15 +178,15 @@ fn pop_abandoned(p: Params, w: &mut [usize], bin: usize) -> Abandoned
 // Makes an abandoned block the holder's, swept if it was unswept. The answer: whether it has a free cell.
 fn take_over(
     p: Params,
-    w: &mut [usize],
-    m: &[u8],
-    h: &mut [u8],
+    words: &mut [usize],
+    marks: &[u8],
+    heap: &mut [u8],
     holder: usize,
     bin: usize,
     next: Abandoned,
 ) -> bool
-    requires { ⌜ (Known p (length (now w)) (length (now m)) (length (now h))) × (1 ≤ holder) × (holder ≤ 8) × (bin < 49) ⌝ }
-    ensures { λ r. ⌜ TakenOver p (now (m .entry)) holder bin (blockAt p (next .at .0)) (next .unswept) (view (now (w .entry))) (now (h .entry)) r (view (now (w .exit))) (now (h .exit)) ⌝ }
+    requires { ⌜ (Known p (length (now words)) (length (now marks)) (length (now heap))) × (1 ≤ holder) × (holder ≤ holders) × (bin < bins) ⌝ }
+    ensures { λ r. ⌜ TakenOver p (now (marks .entry)) holder bin (blockAt p (next .at .0)) (next .unswept) (view (now (words .entry))) (now (heap .entry)) r (view (now (words .exit))) (now (heap .exit)) ⌝ }
 {
     let at = next.at;
     let b = address::block_at(p, at);
@@ -190,12 +194,12 @@ fn take_over(
     let owner = address::local_sets(holder);
     let avail = address::available(owner, bin);
     let full = address::consumed(owner, bin);
-    tables::set_tls(w, number, holder);
+    tables::set_tls(words, number, holder);
     if next.unswept {
-        block::sweep(p, w, m, h, b);
-        return file_block(p, w, avail, full, b);
+        block::sweep(p, words, marks, heap, b);
+        return file_block(p, words, avail, full, b);
     }
-    file_block(p, w, avail, full, b)
+    file_block(p, words, avail, full, b)
 }
 
 // A yes as 1.
@@ -211,20 +215,20 @@ fn one_if(yes: bool) -> usize
 // Takes over abandoned blocks until one has a free cell. `before` blocks were swept already.
 pub(crate) fn acquire_abandoned(
     p: Params,
-    w: &mut [usize],
-    m: &[u8],
-    h: &mut [u8],
+    words: &mut [usize],
+    marks: &[u8],
+    heap: &mut [u8],
     holder: usize,
     bin: usize,
     before: usize,
 ) -> Found
-    requires { ⌜ (Known p (length (now w)) (length (now m)) (length (now h))) × (1 ≤ holder) × (holder ≤ 8) × (bin < 49) × (before ≤ 1024) ⌝ }
-    ensures { λ r. ⌜ seen (r .at .0) (r .swept) (view (now (w .exit))) (now (h .exit)) ≡ closed p before (now (h .entry)) (acquireAbandoned (p .blocks) p (now (m .entry)) holder bin (view (now (w .entry)))) ⌝ }
+    requires { ⌜ (Known p (length (now words)) (length (now marks)) (length (now heap))) × (1 ≤ holder) × (holder ≤ holders) × (bin < bins) × (before ≤ 1024) ⌝ }
+    ensures { λ r. ⌜ reached (r .at .0) (r .swept) (view (now (words .exit))) (now (heap .exit)) ≡ closed p before (now (heap .entry)) (acquireAbandoned (p .blocks) p (now (marks .entry)) holder bin (view (now (words .entry)))) ⌝ }
 {
     let mut left = p.blocks;
     let mut swept = before;
     while 0 < left {
-        let next = pop_abandoned(p, w, bin);
+        let next = pop_abandoned(p, words, bin);
         let at = next.at;
         let start = at.0;
         if start == 0 {
@@ -233,7 +237,7 @@ pub(crate) fn acquire_abandoned(
                 swept,
             };
         }
-        let free = take_over(p, w, m, h, holder, bin, next);
+        let free = take_over(p, words, marks, heap, holder, bin, next);
         swept = swept + one_if(next.unswept);
         if free {
             return Found { at, swept };
@@ -249,42 +253,42 @@ pub(crate) fn acquire_abandoned(
 // Makes the offered block the holder's, all its cells of the bin's size free.
 fn acquire_fresh(
     p: Params,
-    w: &mut [usize],
-    st: &mut [u8],
-    h: &mut [u8],
+    words: &mut [usize],
+    states: &mut [u8],
+    heap: &mut [u8],
     holder: usize,
     bin: usize,
     b: Block,
 )
-    requires { ⌜ (Standing p (length (now w)) (length (now h)) (b .0)) × (1 ≤ holder) × (holder ≤ 8) × (bin < 49) × Classed p bin ⌝ }
-    ensures { λ _. ⌜ Freshened p holder bin (b .0) (view (now (w .entry))) (now (st .entry)) (now (h .entry)) (view (now (w .exit))) (now (st .exit)) (now (h .exit)) ⌝ }
+    requires { ⌜ (Standing p (length (now words)) (length (now heap)) (b .0)) × (1 ≤ holder) × (holder ≤ holders) × (bin < bins) × Classed p bin ⌝ }
+    ensures { λ _. ⌜ Freshened p holder bin (b .0) (view (now (words .entry))) (now (states .entry)) (now (heap .entry)) (view (now (words .exit))) (now (states .exit)) (now (heap .exit)) ⌝ }
 {
     let number = b.0;
     let owner = address::local_sets(holder);
     let avail = address::available(owner, bin);
     let size = size_class::cell_bytes(p, bin);
-    block_list::push(p, w, avail, b);
-    block::init_block(p, w, h, b, size, holder);
-    states::set_state(st, number, block::UNMARKED);
+    block_list::push(p, words, avail, b);
+    block::init_block(p, words, heap, b, size, holder);
+    states::set_state(states, number, block::UNMARKED);
 }
 
 // A block from outside the holder's lists: an abandoned one, or the offer. `before` blocks were swept already.
 pub(crate) fn acquire_global_block(
     p: Params,
-    w: &mut [usize],
-    st: &mut [u8],
-    m: &[u8],
-    h: &mut [u8],
+    words: &mut [usize],
+    states: &mut [u8],
+    marks: &[u8],
+    heap: &mut [u8],
     wanted: Wanted,
     before: usize,
 ) -> Search
-    requires { ⌜ (Known p (length (now w)) (length (now m)) (length (now h))) × (1 ≤ wanted .holder) × (wanted .holder ≤ 8) × (wanted .bin < 49) × (before ≤ 1024) × Offered p (wanted .bin) (wanted .offer) ⌝ }
-    ensures { λ r. ⌜ ended (r .at .0) (r .swept) (r .fresh) (tablesOf (view (now (w .exit))) (now (st .exit)) (now (m .entry))) (now (h .exit)) ≡ closedSearch p before (now (h .entry)) (acquireGlobal p (wanted .holder) (wanted .bin) (wanted .offer) (tablesOf (view (now (w .entry))) (now (st .entry)) (now (m .entry)))) ⌝ }
+    requires { ⌜ (Known p (length (now words)) (length (now marks)) (length (now heap))) × (1 ≤ wanted .holder) × (wanted .holder ≤ holders) × (wanted .bin < bins) × (before ≤ 1024) × Offered p (wanted .bin) (wanted .offer) ⌝ }
+    ensures { λ r. ⌜ ended (r .at .0) (r .swept) (r .fresh) (tablesOf (view (now (words .exit))) (now (states .exit)) (now (marks .entry))) (now (heap .exit)) ≡ closedSearch p before (now (heap .entry)) (acquireGlobal p (wanted .holder) (wanted .bin) (wanted .offer) (tablesOf (view (now (words .entry))) (now (states .entry)) (now (marks .entry)))) ⌝ }
 {
     let holder = wanted.holder;
     let bin = wanted.bin;
     let offer = wanted.offer;
-    let found = acquire_abandoned(p, w, m, h, holder, bin, before);
+    let found = acquire_abandoned(p, words, marks, heap, holder, bin, before);
     let at = found.at;
     let swept = found.swept;
     let start = at.0;
@@ -302,7 +306,7 @@ pub(crate) fn acquire_global_block(
             fresh: false,
         },
         Offer::Fresh(b) => {
-            acquire_fresh(p, w, st, h, holder, bin, b);
+            acquire_fresh(p, words, states, heap, holder, bin, b);
             let offered = address::start(p, b);
             Search {
                 at: offered,
@@ -316,20 +320,20 @@ pub(crate) fn acquire_global_block(
 // The whole search: the holder's available list is skimmed, its unswept blocks are swept, and then others are tried.
 pub(crate) fn find_block(
     p: Params,
-    w: &mut [usize],
-    st: &mut [u8],
-    m: &[u8],
-    h: &mut [u8],
+    words: &mut [usize],
+    states: &mut [u8],
+    marks: &[u8],
+    heap: &mut [u8],
     wanted: Wanted,
 ) -> Search
-    requires { ⌜ (Known p (length (now w)) (length (now m)) (length (now h))) × (1 ≤ wanted .holder) × (wanted .holder ≤ 8) × (wanted .bin < 49) × Offered p (wanted .bin) (wanted .offer) ⌝ }
-    ensures { λ r. ⌜ ended (r .at .0) (r .swept) (r .fresh) (tablesOf (view (now (w .exit))) (now (st .exit)) (now (m .entry))) (now (h .exit)) ≡ closedSearch p 0 (now (h .entry)) (findBlock p (wanted .holder) (wanted .bin) (wanted .offer) (tablesOf (view (now (w .entry))) (now (st .entry)) (now (m .entry)))) ⌝ }
+    requires { ⌜ (Known p (length (now words)) (length (now marks)) (length (now heap))) × (1 ≤ wanted .holder) × (wanted .holder ≤ holders) × (wanted .bin < bins) × Offered p (wanted .bin) (wanted .offer) ⌝ }
+    ensures { λ r. ⌜ ended (r .at .0) (r .swept) (r .fresh) (tablesOf (view (now (words .exit))) (now (states .exit)) (now (marks .entry))) (now (heap .exit)) ≡ closedSearch p 0 (now (heap .entry)) (findBlock p (wanted .holder) (wanted .bin) (wanted .offer) (tablesOf (view (now (words .entry))) (now (states .entry)) (now (marks .entry)))) ⌝ }
 {
     let bin = wanted.bin;
     let owner = address::local_sets(wanted.holder);
     let avail = address::available(owner, bin);
     let full = address::consumed(owner, bin);
-    let skimmed = find_free_block_with(p, w, avail, full);
+    let skimmed = find_free_block_with(p, words, avail, full);
     let start = skimmed.0;
     if start != 0 {
         return Search {
@@ -338,7 +342,7 @@ pub(crate) fn find_block(
             fresh: false,
         };
     }
-    let recycled = recycle_local_blocks(p, w, m, h, owner, bin);
+    let recycled = recycle_local_blocks(p, words, marks, heap, owner, bin);
     let at = recycled.at;
     let swept = recycled.swept;
     let second = at.0;
@@ -349,52 +353,48 @@ pub(crate) fn find_block(
             fresh: false,
         };
     }
-    acquire_global_block(p, w, st, m, h, wanted, swept)
+    acquire_global_block(p, words, states, marks, heap, wanted, swept)
 }
 
 // Finds a block of the bin and takes a cell of it.
 fn serve_searched(
     p: Params,
-    w: &mut [usize],
-    st: &mut [u8],
-    m: &[u8],
-    h: &mut [u8],
+    words: &mut [usize],
+    states: &mut [u8],
+    marks: &[u8],
+    heap: &mut [u8],
     wanted: Wanted,
 ) -> AllocAnswer
-    requires { ⌜ (Ready p (view (now w)) (wanted .holder) (wanted .bin) (wanted .align) (wanted .offset)) × (Known p (length (now w)) (length (now m)) (length (now h))) × Offered p (wanted .bin) (wanted .offer) ⌝ }
-    ensures { λ r. ⌜ stepped (allocReply r) (tablesOf (view (now (w .exit))) (now (st .exit)) (now (m .entry))) (now (h .exit)) ≡ servedBy p (wanted .align) (wanted .offset) (now (h .entry)) (findBlock p (wanted .holder) (wanted .bin) (wanted .offer) (tablesOf (view (now (w .entry))) (now (st .entry)) (now (m .entry)))) ⌝ }
+    requires { ⌜ (Ready p (view (now words)) (wanted .holder) (wanted .bin) (wanted .align) (wanted .offset)) × (Known p (length (now words)) (length (now marks)) (length (now heap))) × Offered p (wanted .bin) (wanted .offer) ⌝ }
+    ensures { λ r. ⌜ stepped (allocReply r) (tablesOf (view (now (words .exit))) (now (states .exit)) (now (marks .entry))) (now (heap .exit)) ≡ servedBy p (wanted .align) (wanted .offset) (now (heap .entry)) (findBlock p (wanted .holder) (wanted .bin) (wanted .offer) (tablesOf (view (now (words .entry))) (now (states .entry)) (now (marks .entry)))) ⌝ }
 {
-    let search = find_block(p, w, st, m, h, wanted);
+    let search = find_block(p, words, states, marks, heap, wanted);
     let at = search.at;
     let start = at.0;
     if start == 0 {
         return AllocAnswer::Refused(Refusal::Exhausted);
     }
     let b = address::block_at(p, at);
-    match block::block_alloc(p, w, h, b) {
-        Taken::BadLink => AllocAnswer::Refused(Refusal::BadLink),
-        Taken::Cell { at: cell, size } => {
-            let address = allocator::align_allocation(cell, wanted.align, wanted.offset);
-            AllocAnswer::Served {
-                address,
-                cell_size: size,
-                offer_used: search.fresh,
-                swept: search.swept,
-            }
-        }
+    let taken = block::block_alloc(p, words, heap, b);
+    let address = allocator::align_allocation(taken.at, wanted.align, wanted.offset);
+    AllocAnswer::Served {
+        address,
+        cell_size: taken.size,
+        offer_used: search.fresh,
+        swept: search.swept,
     }
 }
 
 // ---- the short way
 
 // The block at the head of a list, if it has a free cell; else a number past the last block. Its number is found by a shift.
-fn free_head(p: Params, w: &[usize], list: usize) -> Block
-    requires { ⌜ (goodParams p ≡ true) × (length (now w) ≡ wordCount p) × (list < lists) ⌝ }
-    ensures { λ r. ⌜ (r .0 < p .blocks → HasFree p (view (now (w .entry))) list (r .0)) ⌝ }
+fn free_head(p: Params, words: &[usize], list: usize) -> Block
+    requires { ⌜ (goodParams p ≡ true) × (length (now words) ≡ wordCount p) × (list < lists) ⌝ }
+    ensures { λ r. ⌜ (r .0 < p .blocks → HasFree p (view (now (words .entry))) list (r .0)) ⌝ }
 {
     let base = p.base;
     let blocks = p.blocks;
-    let first = known::first(w, list);
+    let first = known::first(words, list);
     let start = first.0;
     if start < base {
         return Block(blocks);
@@ -404,7 +404,7 @@ fn free_head(p: Params, w: &[usize], list: usize) -> Block
     if blocks <= number {
         return Block(blocks);
     }
-    let cell = known::free(w, blocks, Block(number));
+    let cell = known::free(words, blocks, Block(number));
     if cell.0 == 0 {
         return Block(blocks);
     }
@@ -414,26 +414,22 @@ fn free_head(p: Params, w: &[usize], list: usize) -> Block
 // Takes a cell of the block b, whose free head is a cell.
 fn serve_head(
     p: Params,
-    w: &mut [usize],
-    h: &mut [u8],
+    words: &mut [usize],
+    heap: &mut [u8],
     b: Block,
     align: usize,
     offset: usize,
 ) -> AllocAnswer
-    requires { ⌜ (Takeable p (view (now w)) (length (now w)) (length (now h)) (b .0)) × Shiftable align offset ⌝ }
-    ensures { λ r. ⌜ ((st ms : List ℕ) → stepped (allocReply r) (tablesOf (view (now (w .exit))) st ms) (now (h .exit)) ≡ shown (takeCell p (tablesOf (view (now (w .entry))) st ms) [] (now (h .entry)) (b .0) align offset false)) ⌝ }
+    requires { ⌜ (Takeable p (view (now words)) (length (now words)) (length (now heap)) (b .0)) × Shiftable align offset ⌝ }
+    ensures { λ r. ⌜ ((st ms : List ℕ) → stepped (allocReply r) (tablesOf (view (now (words .exit))) st ms) (now (heap .exit)) ≡ shown (takeCell p (tablesOf (view (now (words .entry))) st ms) [] (now (heap .entry)) (b .0) align offset false)) ⌝ }
 {
-    match block::take_head(p, w, h, b) {
-        Taken::BadLink => AllocAnswer::Refused(Refusal::BadLink),
-        Taken::Cell { at: cell, size } => {
-            let address = allocator::align_allocation(cell, align, offset);
-            AllocAnswer::Served {
-                address,
-                cell_size: size,
-                offer_used: false,
-                swept: 0,
-            }
-        }
+    let taken = block::take_head(p, words, heap, b);
+    let address = allocator::align_allocation(taken.at, align, offset);
+    AllocAnswer::Served {
+        address,
+        cell_size: taken.size,
+        offer_used: false,
+        swept: 0,
     }
 }
 
@@ -441,38 +437,38 @@ fn serve_head(
 // searched. Else the whole search.
 fn serve(
     p: Params,
-    w: &mut [usize],
-    st: &mut [u8],
-    m: &[u8],
-    h: &mut [u8],
+    words: &mut [usize],
+    states: &mut [u8],
+    marks: &[u8],
+    heap: &mut [u8],
     wanted: Wanted,
 ) -> AllocAnswer
-    requires { ⌜ (Ready p (view (now w)) (wanted .holder) (wanted .bin) (wanted .align) (wanted .offset)) × (Known p (length (now w)) (length (now m)) (length (now h))) × Offered p (wanted .bin) (wanted .offer) ⌝ }
-    ensures { λ r. ⌜ stepped (allocReply r) (tablesOf (view (now (w .exit))) (now (st .exit)) (now (m .entry))) (now (h .exit)) ≡ servedBy p (wanted .align) (wanted .offset) (now (h .entry)) (findBlock p (wanted .holder) (wanted .bin) (wanted .offer) (tablesOf (view (now (w .entry))) (now (st .entry)) (now (m .entry)))) ⌝ }
+    requires { ⌜ (Ready p (view (now words)) (wanted .holder) (wanted .bin) (wanted .align) (wanted .offset)) × (Known p (length (now words)) (length (now marks)) (length (now heap))) × Offered p (wanted .bin) (wanted .offer) ⌝ }
+    ensures { λ r. ⌜ stepped (allocReply r) (tablesOf (view (now (words .exit))) (now (states .exit)) (now (marks .entry))) (now (heap .exit)) ≡ servedBy p (wanted .align) (wanted .offset) (now (heap .entry)) (findBlock p (wanted .holder) (wanted .bin) (wanted .offer) (tablesOf (view (now (words .entry))) (now (states .entry)) (now (marks .entry)))) ⌝ }
 {
     let owner = address::local_sets(wanted.holder);
     let list = address::available(owner, wanted.bin);
-    let b = free_head(p, w, list);
+    let b = free_head(p, words, list);
     if b.0 < p.blocks {
-        return serve_head(p, w, h, b, wanted.align, wanted.offset);
+        return serve_head(p, words, heap, b, wanted.align, wanted.offset);
     }
-    serve_searched(p, w, st, m, h, wanted)
+    serve_searched(p, words, states, marks, heap, wanted)
 }
 
 // A cell for a holder, on tables that are sound.
 pub(crate) fn do_alloc(
     p: Params,
-    w: &mut [usize],
-    st: &mut [u8],
-    m: &[u8],
-    h: &mut [u8],
+    words: &mut [usize],
+    states: &mut [u8],
+    marks: &[u8],
+    heap: &mut [u8],
     holder: usize,
     request: Request,
 ) -> AllocAnswer
-    requires { ⌜ lentTests p (lend (now w) (now st) (now m) (now h)) ≡ Passed ⌝ }
-    ensures { λ r. ⌜ Does p (tablesOf (view (now (w .entry))) (now (st .entry)) (now (m .entry))) (now (h .entry)) (alloc holder (request .size) (request .align) (request .offset) (request .offer)) (allocReply r) (tablesOf (view (now (w .exit))) (now (st .exit)) (now (m .entry))) (now (h .exit)) ⌝ }
+    requires { ⌜ lentTests p (lend (now words) (now states) (now marks) (now heap)) ≡ Passed ⌝ }
+    ensures { λ r. ⌜ Does p (tablesOf (view (now (words .entry))) (now (states .entry)) (now (marks .entry))) (now (heap .entry)) (alloc holder (request .size) (request .align) (request .offset) (request .offer)) (allocReply r) (tablesOf (view (now (words .exit))) (now (states .exit)) (now (marks .entry))) (now (heap .exit)) ⌝ }
 {
-    match checks::check_alloc(p, w, st, holder, request) {
+    match checks::check_alloc(p, words, states, holder, request) {
         Checked::Refused(r) => AllocAnswer::Refused(r),
         Checked::Bin(bin) => {
             let offer = request.offer;
@@ -483,7 +479,7 @@ pub(crate) fn do_alloc(
                 offset: request.offset,
                 offer,
             };
-            serve(p, w, st, m, h, wanted)
+            serve(p, words, states, marks, heap, wanted)
         }
     }
 }

@@ -8,6 +8,7 @@ use model::Row;
 ghost use mathlib.Core.Path.{_≡_};
 ghost use Prim.Native.Nat.{_<_, _≤_};
 ghost use Rattle.model.specs.Base.{leastFrom};
+ghost use Rattle.model.specs.Params.{bins};
 ghost use Rattle.model.specs.SizeClasses.{binInOctave, classBytes, miBin, rowAt, covers, wordsAsked, cellBytes, binOf};
 
 // ---- document 01's
@@ -114,7 +115,7 @@ pub fn bin_of(p: Params, size: usize) -> usize
 
 // The cell size of a bin in bytes, which is known to be small; 0 for a bin without a row.
 pub(crate) fn cell_bytes(p: Params, bin: usize) -> usize
-    requires { ⌜ (bin < 49) × (cellBytes p bin ≤ 65536) ⌝ }
+    requires { ⌜ (bin < bins) × (cellBytes p bin ≤ 65536) ⌝ }
     ensures { λ r. ⌜ r ≡ cellBytes p bin ⌝ }
 {
     let count = p.count;

@@ -15,10 +15,10 @@ use Rattle.model.specs.declared.Offer.{Offer}
 use Rattle.model.specs.declared.Offer.the-variants.{Nothing, Fresh}
 use Rattle.model.specs.declared.Refusal.the-variants.{Exhausted}
 use Rattle.model.specs.Params.{start, blockAt, listWord, localSets, available, unswept}
-use Rattle.model.specs.Tables.{Words, Tables, tablesOf, withWords, setFree, setSize, setTls}
+use Rattle.model.specs.Tables.{Words, Tables, tablesOf, withWords, setFree, setSize, setTls, setCells}
 use Rattle.model.specs.SizeClasses.{cellBytes, alignAllocation}
 use Rattle.model.specs.BlockList.{push, blocksOn}
-use Rattle.model.specs.Block.{Unmarked, linkAll, initChain, initBlock, cellsDown, cellCount}
+use Rattle.model.specs.Block.{Unmarked, linkAll, initChain, initBlock, cellsDown, cellCount, chainStands}
 use Rattle.model.specs.Events.{Event, initialised, eventHeap, eventsHeap}
 use Rattle.model.specs.FreeListAllocator.{Found, Search, inFound, acquireFresh, findBlock}
 use Rattle.model.specs.Calls.{alloc, goodOffer, takePlan}
@@ -30,13 +30,13 @@ use Rattle.laws.proofs.Params.{Bounds, some-start, blockAt-start}
 use Rattle.laws.proofs.Classes.{cellBytes-some, cellBytes-words}
 use Rattle.laws.proofs.Tables.{sized-same, kept-lengths, lengths}
 use Rattle.laws.proofs.Memory as Mem
-use Rattle.laws.proofs.Cells.{chainStands}
 use Rattle.laws.proofs.Frame.{LinksOnly, links-refl, push-links, push-list, push-first}
 use Rattle.laws.proofs.Walks.{find-keeps}
 use Rattle.soundness.proofs.SoundLists.{sound-parts, block-parts, sound-lists}
 use Rattle.runs.proofs.Links.{Occupied}
 use Rattle.runs.proofs.Inv.{was-held, init-core, init-bytes}
-use Rattle.runs.proofs.Steps.{shadowEvent, shadowEvents, isTaken, EventOk, EventsOk, no-events, events-behind, behind, same-bytes}
+use Rattle.soundness.proofs.Chains.{shadowEvent, shadowEvents}
+use Rattle.runs.proofs.Steps.{isTaken, EventOk, EventsOk, no-events, events-behind, behind, same-bytes}
 use Rattle.runs.proofs.Search.{Settled, wordBin, available-settled, unswept-unsettled, Searching, Ready, Going, Gone, steps}
 use Rattle.runs.proofs.Plans.{refusal-some, bookFor, Inv, EndOk, Planned, Serves, set-steady}
 
@@ -113,7 +113,7 @@ module _ (p : Params) (B : Bounds p) (t : Tables) (h : List ℕ) (sh : List (Lis
     where
       ready : Ready p B (t .states) (t .marks) hd bin (f .words) (f .at) → Cellful (withWords (f .words) t) (shadowEvents (f .events) sh) (f .at)
       ready r =
-          let k = first-cell _ _ _ (A .searching .core .blocks (r .block) (r .occupied .0) .stands) (r .free) in
+          let k = first-cell _ _ _ (A .searching .core .chains .blocks (r .block) (r .occupied .0) .stands) (r .free) in
           record {
             block = r .block;
             inside = r .occupied .0;
@@ -174,23 +174,23 @@ module _ (p : Params) (B : Bounds p) (t : Tables) (h : List ℕ) (sh : List (Lis
         record {
           lost = λ c m. (refl, λ s. absurd (not-both true refl (sym s)));
           bytes = λ c m out. same-bytes p B hd (f .words .size) (t .states) heap (linkAll p chain heap) c (S .core .held c m)
-              (init-bytes p B (f .words .free) (f .words .size) (t .states) (t .marks) heap shadow book (S .core) b lb chain none cell
+              (init-bytes p B (f .words .free) (f .words .size) (f .words .cells) (t .states) (t .marks) heap shadow book (S .core) b lb chain none cell
               word (cellBytes-words p bin) refl hd c m);
         }
 
     init-inv : Inv p B tables (linkAll p chain heap) (set shadow b chain) (bookEvent p hd (initialised b chain) book)
-    unfolding initBlock setTls setSize setFree entered
+    unfolding initBlock setCells setTls setSize setFree entered
     init-inv =
         record {
-          core = rw (links .free, links .size)
-              (init-core p B (f .words .free) (f .words .size) (t .states) (t .marks) heap shadow book (S .core) b lb chain none cell
+          core = rw (links .free, links .size, links .cells)
+              (init-core p B (f .words .free) (f .words .size) (f .words .cells) (t .states) (t .marks) heap shadow book (S .core) b lb chain none cell
               word (cellBytes-words p bin) refl hd);
           sized = sized-same (simp kept-lengths (links .lengths)) (S .lengths);
           young = λ c m o. (
             links .phase ∙ S .phase,
             subst (λ (x : List ℕ). Settled (getD x (blockAt p (c .start)) 0)) (sym (push-list p list b (f .words)))
                 (set-steady p B (f .words .list) b (listWord list) (blockAt p (c .start)) settled
-                (S .young c (was-held p B (f .words .free) (f .words .size) (t .states) (t .marks) heap shadow book (S .core) b lb chain hd (initialised b chain) (λ cs. refl) c m .0) o)),
+                (S .young c (was-held p B (f .words .free) (f .words .size) (f .words .cells) (t .states) (t .marks) heap shadow book (S .core) b lb chain hd (initialised b chain) (λ cs. refl) c m .0) o)),
           );
           idle = λ j n lj ln.
               ap (λ (x : List ℕ). getD x (unswept (3 * j) n) 0) (push-first p list b (f .words))
@@ -200,7 +200,7 @@ module _ (p : Params) (B : Bounds p) (t : Tables) (h : List ℕ) (sh : List (Lis
         }
 
     fresh-cellful : Cellful tables (set shadow b chain) (start p b)
-    unfolding initBlock setTls setSize setFree
+    unfolding initBlock setCells setTls setSize setFree
     fresh-cellful =
         let k = init-some b in
         record {
@@ -213,11 +213,11 @@ module _ (p : Params) (B : Bounds p) (t : Tables) (h : List ℕ) (sh : List (Lis
           size = getD-set-same (push p list b (f .words) .size) b cell 0 (omega (arith, lb, ap length (links .size), S .lengths .size));
           cell = k .0;
           rest = k .1;
-          chain = getD-set-same shadow b chain [] (omega (arith, lb, S .core .shadow)) ∙ k .2;
+          chain = getD-set-same shadow b chain [] (omega (arith, lb, S .core .chains .shadow)) ∙ k .2;
         }
 
     fresh-searched : SearchEnds (acquireFresh p hd bin (Fresh (record { 0 = b })) f t)
-    unfolding acquireFresh eventHeap shadowEvent initBlock setTls setSize setFree isTaken
+    unfolding acquireFresh eventHeap shadowEvent initBlock setCells setTls setSize setFree isTaken
     fresh-searched =
         record {
           events = events-behind p B hd (f .events) (initialised b chain) h bk (A .events) refl init-ok;

@@ -1,6 +1,6 @@
 -- Every call, on tables and a heap under the invariant: its plan, and its step.
-use mathlib.Core.Path.{_≡_}
-use mathlib.Core.Bool.{Bool, true}
+use mathlib.Core.Path.{_≡_, refl, ap, _∙_}
+use mathlib.Core.Bool.{Bool, true, false, _&&_}
 use mathlib.Core.List.{List}
 use Prim.Native.Nat.{ℕ, _+_, _%_, _≤_}
 use native.Mathlib.Omega.{arith}
@@ -18,24 +18,35 @@ use Rattle.model.specs.Classes.{classesFit}
 use Rattle.model.specs.Events.{Event, eventsHeap}
 use Rattle.model.specs.FreeListAllocator.{findBlock}
 use Rattle.model.specs.Global.{isHolder, isBound}
-use Rattle.model.specs.Sound.{sound}
-use Rattle.model.specs.Calls.{Call, bind, destroy, alloc, prepare, mark, release, sharedRelease, End, says, takes, Plan, takePlan, callTests, planPassed, planSound, plan, finish, step}
+use Rattle.model.specs.Base.{if_then_else_}
+use Rattle.model.specs.Sound.{sound, chained, soundOn}
+use Rattle.model.specs.Calls.{Call, bind, destroy, alloc, prepare, mark, release, sharedRelease, End, says, takes, Plan, refuses, takePlan, callTests, planPassed, planSound, plan, finish, step}
 use Rattle.model.specs.Runs.{Book, bookEvents, takerOf}
 use Rattle.laws.proofs.Base.{and-left, and-right, if-cases}
 use Rattle.laws.proofs.Params.{Bounds, good-bounds}
 use Rattle.laws.proofs.Good.{Good, good}
 use Rattle.laws.proofs.Classes.{Chosen, chosen, request, fits-raised, object-in-cell}
 use Rattle.laws.proofs.Tests.{Asked, leave-passed, alloc-passed, mark-passed, release-passed, shared-passed, plan-cases}
-use Rattle.runs.proofs.Steps.{shadowEvents, EventsOk}
+use Rattle.soundness.proofs.Chains.{shadowEvents}
+use Rattle.soundness.proofs.Chained.{chained-by}
+use Rattle.runs.proofs.Steps.{EventsOk}
 use Rattle.runs.proofs.Plans.{bookFor, Serves, Inv, Taking, EndOk, Planned, refuses-planned, bind-planned, destroy-planned, prepare-planned, mark-planned, release-planned, shared-planned}
 use Rattle.runs.proofs.AllocPlan.{alloc-planned}
 use Rattle.runs.proofs.Finish.{ShadowStep, shadowFinish, StepOk, said-ok, taken-step, step-is, shadow-is, taken-ok}
 
--- what a call's step is by the shadow
+-- what a call's plan is where the chains are sound: the heap does not matter
+unfoldable pub shadowPlan : Params → Tables → Call → Plan
+shadowPlan p t c = if sound p t then planSound p t c else refuses t BadTables
+
+-- what its step is by the shadow
 unfoldable pub shadowStep : Params → Tables → List (List ℕ) → Call → ShadowStep
 shadowStep p t sh c =
-    let q : Plan = plan p t c in
+    let q : Plan = shadowPlan p t c in
     shadowFinish (q .tables) (q .events) (shadowEvents (q .events) sh) (q .end)
+
+and-yes : (b : Bool) → (b && true) ≡ b
+and-yes true = refl
+and-yes false = refl
 
 holder-range : (h : ℕ) → isHolder h ≡ true → (1 ≤ h) × (h ≤ 8)
 unfolding isHolder
@@ -81,9 +92,20 @@ module _ (p : Params) (fine : goodParams p ≡ true) where
     planned-sound c s =
         plan-cases (λ q. Planned p B t h sh bk c q) p t c (λ r b. refuses-planned p B t h sh bk I c r) (λ e. planned-passed c s e)
 
-    planned : (c : Call) → Planned p B t h sh bk c (plan p t c)
-    unfolding plan
+    planned : (c : Call) → Planned p B t h sh bk c (shadowPlan p t c)
+    unfolding shadowPlan
     planned c = if-cases (λ q. Planned p B t h sh bk c q) (sound p t) (λ s. planned-sound c s) (λ s. refuses-planned p B t h sh bk I c BadTables)
+
+    -- the chains are sound, by the shadow
+    pub chains-pass : chained p t h ≡ true
+    chains-pass = chained-by p B t h sh (I .core .chains)
+
+    pub sound-same : soundOn p t h ≡ sound p t
+    sound-same = ap (λ (b : Bool). sound p t && b) chains-pass ∙ and-yes (sound p t)
+
+    plan-is : (c : Call) → plan p t h c ≡ shadowPlan p t c
+    unfolding plan shadowPlan
+    plan-is c = ap (λ (b : Bool). if b then planSound p t c else refuses t BadTables) sound-same
 
     -- ---- the step
 
@@ -121,6 +143,6 @@ module _ (p : Params) (fine : goodParams p ≡ true) where
     pub step-ok : (c : Call) → StepOk p B h bk c (step p t h c) (shadowStep p t sh c)
     unfolding step shadowStep
     step-ok c =
-        let q : Plan = plan p t c in
+        let q : Plan = shadowPlan p t c in
         let P : Planned p B t h sh bk c q = planned c in
-        end-ok (q .tables) (q .events) c (q .end) (P .events) (P .inv) (P .end) (P .serves)
+        rw (plan-is c) (end-ok (q .tables) (q .events) c (q .end) (P .events) (P .inv) (P .end) (P .serves))

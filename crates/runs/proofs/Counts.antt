@@ -7,12 +7,12 @@ use borrow.Author.Tests.{eq-eqb}
 use Rattle.model.specs.declared.Params.{Params}
 use Rattle.model.specs.declared.Offer.{Offer}
 use Rattle.model.specs.declared.Refusal.{Refusal}
-use Rattle.model.specs.declared.Refusal.the-variants.{BadTables, BadLink, Exhausted}
+use Rattle.model.specs.declared.Refusal.the-variants.{BadTables, Exhausted}
 use Rattle.model.specs.Base.{filter}
 use Rattle.model.specs.Tables.{Tables}
 use Rattle.model.specs.Events.{Event, initialised, swept, released, taken, eventsHeap, isSweep, sweeps}
 use Rattle.model.specs.FreeListAllocator.{Search}
-use Rattle.model.specs.Sound.{linkOk, sound}
+use Rattle.model.specs.Sound.{soundOn}
 use Rattle.model.specs.Calls.{refused, Call, bind, destroy, alloc, prepare, mark, release, sharedRelease, End, Plan, refuses, takePlan, releasePlan, planPassed, planSound, plan, Step, takeCell, finish, step}
 use Rattle.model.specs.Runs.{Counted}
 use Rattle.laws.proofs.Base.{if-cases, not-both}
@@ -56,8 +56,7 @@ module _ (p : Params) (t : Tables) (h : List ℕ) where
   take-counts d size align offset offer s =
       if-cases (λ (e : End). CountedIn c (finish p (s .tables) (s .events) (eventsHeap p (s .events) h) e)) (eqb (s .at) 0)
       (λ e. refused-counted c Exhausted (s .events))
-      (λ e. if-cases (CountedIn c) (linkOk p (s .tables .words) _ _)
-      (λ f z. sym (sweeps-taken (s .events) _ _)) (λ f. refused-counted c BadLink (s .events)))
+      (λ e z. sym (sweeps-taken (s .events) _ _))
     where
       c : Call
       c = alloc d size align offset offer
@@ -77,4 +76,4 @@ module _ (p : Params) (t : Tables) (h : List ℕ) where
 
   pub counts : (c : Call) → Counted c (step p t h c .reply) (step p t h c .events)
   unfolding step plan
-  counts c = if-cases (Counts c) (sound p t) (λ e. plan-counts c) (λ e. refuses-counts c BadTables)
+  counts c = if-cases (Counts c) (soundOn p t h) (λ e. plan-counts c) (λ e. refuses-counts c BadTables)

@@ -2,38 +2,42 @@
 -- calls agree; and each turn keeps what is held.
 use mathlib.Core.Path.{_≡_, refl, sym, ap, _∙_, subst}
 use mathlib.Core.Logic.{_≢_, _⊎_, inl, inr, ⊎-elim}
-use mathlib.Core.Bool.{true, false}
+use mathlib.Core.Bool.{Bool, true, false, not, _&&_}
 use mathlib.Core.List.{List, [], _∷_, map}
 use Prim.Native.Nat.{ℕ, _+_, _-_, _*_, _/_, _%_, _≤_, _<_}
 use native.Mathlib.Omega.{arith}
+use lib.Dec.{leb}
 use lib.ListN.{length, getD, set, length-set, replicate, length-replicate, getD-replicate}
 use lib.Seq.{getD-set-other}
 use Rattle.model.specs.declared.Params.{Params}
-use Rattle.model.specs.Base.{In, Pairwise, member}
-use Rattle.model.specs.Params.{goodParams, Lent, fits, wordCount, heapBytes, blockAt, unswept}
+use Rattle.model.specs.declared.Refusal.the-variants.{BadSetup, BadTables, BadRequest, BadClasses}
+use Rattle.model.specs.Base.{if_then_else_, In, Pairwise, member}
+use Rattle.model.specs.Params.{goodParams, Lent, fits, wordCount, heapBytes, blockAt, unswept, lastBin}
 use Rattle.model.specs.Memory.{marked, cleared}
 use Rattle.model.specs.Tables.{blocksIn, Tables, view, flat}
 use Rattle.model.specs.Classes.{classesFit}
 use Rattle.model.specs.Events.{sweeps, releases}
 use Rattle.model.specs.Global.{freshWords, freshTables}
-use Rattle.model.specs.Calls.{Call, Step, step, Result, lentOf, resultFrom, setUp, pages}
-use Rattle.model.specs.Runs.{Cell, Book, bookAfter, Write, written, Turn, State, foundBy, stepOf, resultOf, bookOf, turned, emptyBook, begun, covers, Holds, HoldersWrite, Seen, seen, seenIn, TurnKeeps, RunKeeps, Demand3}
+use Rattle.model.specs.Block.{chainStands}
+use Rattle.model.specs.Sound.{sound, soundOn}
+use Rattle.model.specs.Calls.{Reply, answered, refused, Call, Step, step, Result, tablesIn, lentOf, resultFrom, setUp, pages, Question, freeCells, cellsOf, ask}
+use Rattle.model.specs.Runs.{Cell, Book, bookAfter, Write, written, Turn, State, foundBy, stepOf, resultOf, bookOf, turned, emptyBook, begun, covers, Holds, HoldersWrite, Seen, seen, seenIn, points, TurnKeeps, RunKeeps, Demand3}
 use Rattle.laws.proofs.Params.{Bounds}
 use Rattle.laws.proofs.Tables.{part-zeros, Sized, sized-view}
 use Rattle.laws.proofs.Memory as Mem
 use Rattle.laws.proofs.Marks.{marked-cleared}
-use Rattle.laws.proofs.Cells.{Whole, whole-from, whole-apart, whole-blockAt, stands-frame, chainStands}
-use Rattle.laws.proofs.Lent.{fits-parts, answered-fits, answered-classes, set-up-is, lent-tables, call-is}
+use Rattle.laws.proofs.Cells.{Whole, whole-from, whole-apart, whole-blockAt, stands-frame}
+use Rattle.laws.proofs.Lent.{fits-parts, answered-fits, answered-classes, set-up-is, lent-tables, lent-fits, call-is}
 use Rattle.runs.proofs.Inv.{Held, Core}
 use Rattle.runs.proofs.Plans.{Inv}
 use Rattle.runs.proofs.Finish.{ShadowStep, StepOk, held-apart}
-use Rattle.runs.proofs.Calls.{B, shadowStep, step-ok}
+use Rattle.runs.proofs.Calls.{B, shadowStep, sound-same, step-ok}
 use Rattle.runs.proofs.Counts.{counts}
 
 -- ---- what holders write
 
 module _ (p : Params) (fine : goodParams p ≡ true) (rows : classesFit p ≡ true) where
-  abbrev bounds : Bounds p
+  abbrev pub bounds : Bounds p
   bounds = B p fine
 
   -- one byte outside a word
@@ -41,7 +45,7 @@ module _ (p : Params) (fine : goodParams p ≡ true) (rows : classesFit p ≡ tr
   off-word h i v j (inl lt) k lo hi = sym (getD-set-other h i k v 0 (λ e. omega (arith, e)))
   off-word h i v j (inr le) k lo hi = sym (getD-set-other h i k v 0 (λ e. omega (arith, e)))
 
-  module _ (free size st ms h : List ℕ) (sh : List (List ℕ)) (bk : Book) (I : Core p free size st ms h sh bk) where
+  module _ (free size cells st ms h : List ℕ) (sh : List (List ℕ)) (bk : Book) (I : Core p free size cells st ms h sh bk) where
     -- a byte of a held cell is in no free cell's link
     write-word : (c : Cell) → In c (bk .cells) → (a : ℕ) → covers c a → (v d : ℕ) → d < p .blocks → (y : ℕ) → In y (getD sh d [])
         → Mem.Same h (set h (a - p .base) v) (y - p .base) 8
@@ -57,7 +61,7 @@ module _ (p : Params) (fine : goodParams p ≡ true) (rows : classesFit p ≡ tr
         H = I .held c m
 
         Y : Whole p d (getD size d 0) y
-        Y = I .blocks d ld .cells y k
+        Y = I .chains .blocks d ld .cells y k
 
         from-y : p .base ≤ y
         from-y = whole-from p bounds d _ y ld Y
@@ -70,24 +74,29 @@ module _ (p : Params) (fine : goodParams p ≡ true) (rows : classesFit p ≡ tr
             let at : d ≡ blockAt p (c .start) = sym (whole-blockAt p bounds d _ y ld Y) ∙ ap (blockAt p) e in
             I .off c m (subst (λ (x : ℕ). In x (getD sh (blockAt p (c .start)) [])) e (subst (λ (x : ℕ). In y (getD sh x [])) at k))
 
-    write-core : (w : Write) → Holds bk w → Core p free size st ms (set h (w .address - p .base) (w .byte)) sh bk
+    write-core : (w : Write) → Holds bk w → Core p free size cells st ms (set h (w .address - p .base) (w .byte)) sh bk
     unfolding Holds
     write-core w z =
         record {
-          heap = length-set h _ _ ∙ I .heap;
-          free-length = I .free-length;
-          sizes = I .sizes;
+          chains = record {
+            heap = length-set h _ _ ∙ I .chains .heap;
+            heads = I .chains .heads;
+            sizes = I .chains .sizes;
+            counts = I .chains .counts;
+            shadow = I .chains .shadow;
+            blocks = λ d ld.
+                let K = I .chains .blocks d ld in
+                record {
+                  stands = stands-frame p h _ _ _ (λ y k. write-word (z .0) (z .1) (w .address) (z .3) (w .byte) d ld y k) (K .stands);
+                  cells = K .cells;
+                  once = K .once;
+                  count = K .count;
+                };
+          };
           states = I .states;
           markings = I .markings;
-          shadow = I .shadow;
           bytes = I .bytes;
           words = I .words;
-          blocks = λ d ld.
-              record {
-                stands = stands-frame p h _ _ _ (λ y k. write-word (z .0) (z .1) (w .address) (z .3) (w .byte) d ld y k) (I .blocks d ld .stands);
-                cells = I .blocks d ld .cells;
-                desc = I .blocks d ld .desc;
-              };
           held = I .held;
           off = I .off;
           apart = I .apart;
@@ -95,16 +104,16 @@ module _ (p : Params) (fine : goodParams p ≡ true) (rows : classesFit p ≡ tr
           places = I .places;
         }
 
-  writes-core : (ws : List Write) (free size st ms h : List ℕ) (sh : List (List ℕ)) (bk : Book) → Core p free size st ms h sh bk
-      → ((w : Write) → In w ws → Holds bk w) → Core p free size st ms (written p ws h) sh bk
+  writes-core : (ws : List Write) (free size cells st ms h : List ℕ) (sh : List (List ℕ)) (bk : Book) → Core p free size cells st ms h sh bk
+      → ((w : Write) → In w ws → Holds bk w) → Core p free size cells st ms (written p ws h) sh bk
   unfolding written In
-  writes-core [] free size st ms h sh bk I f = I
-  writes-core (w ∷ ws) free size st ms h sh bk I f =
-      writes-core ws free size st ms _ sh bk (write-core free size st ms h sh bk I w (f w (inl refl))) (λ x m. f x (inr m))
+  writes-core [] free size cells st ms h sh bk I f = I
+  writes-core (w ∷ ws) free size cells st ms h sh bk I f =
+      writes-core ws free size cells st ms _ sh bk (write-core free size cells st ms h sh bk I w (f w (inl refl))) (λ x m. f x (inr m))
 
   -- ---- a turn, on lent buffers that hold tables and a heap
 
-  abbrev stateOf : Tables → List ℕ → Book → State
+  abbrev pub stateOf : Tables → List ℕ → Book → State
   stateOf t h bk = record { lent = lentOf t h; book = bk }
 
   -- the run over the shadow
@@ -130,9 +139,9 @@ module _ (p : Params) (fine : goodParams p ≡ true) (rows : classesFit p ≡ tr
     abbrev g : List ℕ
     g = written p (u .writes) h
 
-    J : Inv p bounds t g sh bk
+    pub J : Inv p bounds t g sh bk
     J = record {
-      core = writes-core (u .writes) (t .words .free) (t .words .size) (t .states) (t .marks) h sh bk (I .core) honest;
+      core = writes-core (u .writes) (t .words .free) (t .words .size) (t .words .cells) (t .states) (t .marks) h sh bk (I .core) honest;
       sized = I .sized;
       young = I .young;
       idle = I .idle;
@@ -141,18 +150,18 @@ module _ (p : Params) (fine : goodParams p ≡ true) (rows : classesFit p ≡ tr
     s : Step
     s = step p t g (u .call)
 
-    S : StepOk p bounds g bk (u .call) (step p t g (u .call)) (shadowStep p t sh (u .call))
+    pub S : StepOk p bounds g bk (u .call) (step p t g (u .call)) (shadowStep p t sh (u .call))
     S = step-ok p fine rows t g sh bk J (u .call)
 
     step-of : stepOf p (stateOf t h bk) u ≡ step p t g (u .call)
     unfolding stepOf foundBy
     step-of = ap (λ (x : Tables). step p x g (u .call)) (lent-tables (p .blocks) t h (I .sized))
 
-    result-of : resultOf p (stateOf t h bk) u ≡ resultFrom (step p t g (u .call))
+    pub result-of : resultOf p (stateOf t h bk) u ≡ resultFrom (step p t g (u .call))
     unfolding resultOf foundBy
-    result-of = call-is p t g fine rows (J .sized) (J .core .states) (J .core .markings) (J .core .heap) (u .call)
+    result-of = call-is p t g fine rows (J .sized) (J .core .states) (J .core .markings) (J .core .chains .heap) (u .call)
 
-    turn-of : turned p (stateOf t h bk) u
+    pub turn-of : turned p (stateOf t h bk) u
         ≡ stateOf (step p t g (u .call) .tables) (step p t g (u .call) .heap) (bookAfter p (u .call) (step p t g (u .call)) bk)
     unfolding turned bookOf
     turn-of = λ i. record { lent = result-of i .lent; book = bookAfter p (u .call) (step-of i) bk }
@@ -216,23 +225,73 @@ module _ (p : Params) (fine : goodParams p ≡ true) (rows : classesFit p ≡ tr
             (subst (λ (x : State). HoldersWrite p x us) e (H .1))),
       )
 
+  -- ---- what is asked at each point: the tables alone decide
+
+  shadowAsk : Tables → Question → Reply
+  shadowAsk t (freeCells bin) =
+      if not (sound p t) then refused BadTables
+      else if not (leb 1 bin && leb bin lastBin) then refused BadRequest
+      else answered (cellsOf p (t .words) bin ∷ [])
+
+  shadowAsks : Tables → List (List ℕ) → List Call → Question → List Reply
+  shadowAsks t sh [] q = shadowAsk t q ∷ []
+  shadowAsks t sh (c ∷ cs) q =
+      let a : ShadowStep = shadowStep p t sh c in
+      shadowAsk t q ∷ shadowAsk t q ∷ shadowAsks (a .tables) (a .shadow) cs q
+
+  -- once it is known whether buffers fit, rows pass and tables are sound
+  told : Bool → Bool → Bool → Tables → ℕ → Reply
+  told fit pass ok t bin =
+      if not fit then refused BadSetup
+      else if not pass then refused BadClasses
+      else if not ok then refused BadTables
+      else if not (leb 1 bin && leb bin lastBin) then refused BadRequest
+      else answered (cellsOf p (t .words) bin ∷ [])
+
+  ask-is : (t : Tables) (h : List ℕ) (sh : List (List ℕ)) (bk : Book) → Inv p bounds t h sh bk → (q : Question) → ask p (lentOf t h) q ≡ shadowAsk t q
+  unfolding ask shadowAsk told
+  ask-is t h sh bk I (freeCells bin) =
+      ap (λ (f : Bool). told f (classesFit p) (soundOn p (tablesIn (lentOf t h)) h) (tablesIn (lentOf t h)) bin) (lent-fits p t h fine (I .sized) (I .core .states) (I .core .markings) (I .core .chains .heap))
+      ∙ ap (λ (b : Bool). told true b (soundOn p (tablesIn (lentOf t h)) h) (tablesIn (lentOf t h)) bin) rows
+      ∙ ap (λ (u : Tables). told true true (soundOn p u h) u bin) (lent-tables (p .blocks) t h (I .sized))
+      ∙ ap (λ (b : Bool). told true true b t bin) (sound-same p fine rows t h sh bk I)
+
+  asks-follow : (us : List Turn) (t : Tables) (h : List ℕ) (sh : List (List ℕ)) (bk : Book) → Inv p bounds t h sh bk → HoldersWrite p (stateOf t h bk) us
+      → (q : Question) → map (λ (x : Lent). ask p x q) (points p (stateOf t h bk) us) ≡ shadowAsks t sh (map (λ (u : Turn). u .call) us) q
+  unfolding points shadowAsks HoldersWrite foundBy
+  asks-follow [] t h sh bk I H q = ap (λ (x : Reply). x ∷ []) (ask-is t h sh bk I q)
+  asks-follow (u ∷ us) t h sh bk I H q =
+      let g : List ℕ = written p (u .writes) h in
+      let c : Call = u .call in
+      let a : ShadowStep = shadowStep p t sh c in
+      let O : StepOk p bounds g bk c (step p t g c) a = S t h sh bk I u (H .0) in
+      let e = turn-of t h sh bk I u (H .0) in
+      let rest : map (λ (x : Lent). ask p x q) (points p (turned p (stateOf t h bk) u) us) ≡ shadowAsks (a .tables) (a .shadow) (map (λ (x : Turn). x .call) us) q =
+      ap (λ (x : State). map (λ (y : Lent). ask p y q) (points p x us)) e
+      ∙ asks-follow us (step p t g c .tables) (step p t g c .heap) (a .shadow) (bookAfter p c (step p t g c) bk) (O .inv) (subst (λ (x : State). HoldersWrite p x us) e (H .1)) q
+      ∙ ap (λ (x : Tables). shadowAsks x (a .shadow) (map (λ (x : Turn). x .call) us) q) (O .tables) in
+      λ i. ask-is t h sh bk I q i ∷ ask-is t g sh bk (J t h sh bk I u (H .0)) q i ∷ rest i
+
   -- ---- after set-up
 
-  fresh-inv : (h : List ℕ) → length h ≡ heapBytes p → Inv p bounds (freshTables p) h (replicate (p .blocks) []) emptyBook
+  pub fresh-inv : (h : List ℕ) → length h ≡ heapBytes p → Inv p bounds (freshTables p) h (replicate (p .blocks) []) emptyBook
   unfolding freshTables freshWords wordCount view In Pairwise member chainStands cleared
   fresh-inv h len =
       record {
         core = record {
-          heap = len;
-          free-length = Z .free;
-          sizes = Z .size;
+          chains = record {
+            heap = len;
+            heads = Z .free;
+            sizes = Z .size;
+            counts = Z .cells;
+            shadow = length-replicate (p .blocks) [];
+            blocks = λ b lb. rw (part-zeros (2958 + 2 * n) n k b, part-zeros (2958 + 3 * n) n k b, part-zeros (2958 + 6 * n) n k b, getD-replicate {A = List ℕ} (p .blocks) b [] [] lb)
+                (record { stands = refl; cells = λ x m. absurd m; once = tt; count = refl });
+          };
           states = length-replicate (p .blocks) 0;
           markings = length-replicate (heapBytes p / 64) 0;
-          shadow = length-replicate (p .blocks) [];
           bytes = Mem.bytes-zeros (heapBytes p / 64);
           words = λ b. ap (λ (x : ℕ). x % 8) (part-zeros (2958 + 3 * n) n k b);
-          blocks = λ b lb. rw (part-zeros (2958 + 2 * n) n k b, part-zeros (2958 + 3 * n) n k b, getD-replicate {A = List ℕ} (p .blocks) b [] [] lb)
-              (record { stands = refl; cells = λ x m. absurd m; desc = tt });
           held = λ c m. absurd m;
           off = λ c m. absurd m;
           apart = tt;
@@ -245,7 +304,7 @@ module _ (p : Params) (fine : goodParams p ≡ true) (rows : classesFit p ≡ tr
       }
     where
       k : ℕ
-      k = 2958 + 6 * p .blocks
+      k = 2958 + 7 * p .blocks
 
       n : ℕ
       n = blocksIn (replicate k 0)
@@ -266,6 +325,7 @@ demand3 p l l′ us us′ e e′ H H′ same = (
     calls = calls-same;
     pagesAtSetUp = λ firsts. ap (λ (x : Seen). pages p (x .words) firsts) seen-same;
     pagesAfter = λ firsts. ap (map (λ (x : Seen). pages p (x .words) firsts)) calls-same;
+    asked = λ q. asks-are l fit us H q ∙ ap (λ (cs : List Call). shadowAsks p fine rows (freshTables p) (replicate (p .blocks) []) cs q) same ∙ sym (asks-are l′ fit′ us′ H′ q);
   },
   run-keeps l fit us H,
   run-keeps l′ fit′ us′ H′,
@@ -295,6 +355,12 @@ demand3 p l l′ us us′ e e′ H H′ same = (
     run-is : (l : Lent) (f : fits p l ≡ true) (us : List Turn) → HoldersWrite p (begun p l) us
         → seenIn p (begun p l) us ≡ shadowSeenIn p fine rows (freshTables p) (replicate (p .blocks) []) (map (λ (u : Turn). u .call) us)
     run-is l f us H = ap (λ (x : State). seenIn p x us) (start-is l f) ∙ follows p fine rows us (freshTables p) (l .heap) (replicate (p .blocks) []) emptyBook (inv l f) (held l f us H)
+
+    asks-are : (l : Lent) (f : fits p l ≡ true) (us : List Turn) → HoldersWrite p (begun p l) us → (q : Question)
+        → map (λ (x : Lent). ask p x q) (points p (begun p l) us) ≡ shadowAsks p fine rows (freshTables p) (replicate (p .blocks) []) (map (λ (u : Turn). u .call) us) q
+    asks-are l f us H q =
+        ap (λ (x : State). map (λ (y : Lent). ask p y q) (points p x us)) (start-is l f)
+        ∙ asks-follow p fine rows us (freshTables p) (l .heap) (replicate (p .blocks) []) emptyBook (inv l f) (held l f us H) q
 
     run-keeps : (l : Lent) → fits p l ≡ true → (us : List Turn) → HoldersWrite p (begun p l) us → RunKeeps p (begun p l) us
     run-keeps l f us H =

@@ -18,7 +18,7 @@ use Rattle.model.specs.declared.Offer.the-variants.{Nothing, Fresh}
 use Rattle.model.specs.Base.{allBelow, anyBelow, member, filter, sumBelow, eachBelow, flag, In, any}
 use Rattle.model.specs.Params.{Lent, powerOfTwo, lowerOk, biased, plusLower, minusLower, heapBytes, heapEnd, goodParams, wordCount, fits, start, blockAt, inHeap, isStart, listOf, listWord, localSets, available, unswept, consumed}
 use Rattle.model.specs.Memory.{loadBytes, bytesOf, overwrite, load, store, zeroed, bitOf, setBit, markIndex, marked, setMark, cleared}
-use Rattle.model.specs.Tables.{Words, tablesOf, view, flat, setFirst, setLast, setBound, setReleased, setNext, setPrev, setFree, setSize, setList, setTls, setPhase, withReleased}
+use Rattle.model.specs.Tables.{Words, tablesOf, view, flat, setFirst, setLast, setBound, setReleased, setNext, setPrev, setFree, setSize, setList, setTls, setCells, setPhase, withReleased}
 use Rattle.model.specs.SizeClasses.{fours, classWords, classBytes, wordsIn, highestBit, binInOctave, miBin, binOf, cellBytes, raised, shift, alignAllocation}
 use Rattle.model.specs.Classes.{classesFit}
 use Rattle.model.specs.BlockList.{push, popHead, pop, removeBetween, remove, relabel, link, append, walk, blocksOn, appended}
@@ -26,7 +26,7 @@ use Rattle.model.specs.Block.{cellCount, isCell, cellsDown, linkAll, initChain,
 use Rattle.model.specs.Events.{Event, swept, released, taken, eventHeap, eventsHeap, isSweep, isRelease, sweeps, releases}
 use Rattle.model.specs.FreeListAllocator.{findFreeBlockWith, recycleLocalBlocks, acquireAbandoned, acquireFresh, findBlock}
 use Rattle.model.specs.Global.{freshWords, freshTables, isHolder, isBound, bindHolder, abandonBin, abandonBlocks, abandonedBin, abandonedBelow, abandonedBlocks, destroyHolder, unmarkedState, prepared, markPlace, releaseFrom, releaseBlocks, appendTo, releaseBin, releaseHolder, sweepLaterBin, sweepLater, hasReleased, allReleased, partReleased, merged}
-use Rattle.model.specs.Sound.{stateOf, stateKnown, blockClear, listNamed, binNamed, setNamed, onListNamed, sizeOk, linkOk, tlsOk, blockSound, linkedFrom, linked, ownerEmpty, unboundEmpty, inGcEmpty, phaseKnown, flagsKnown, releasedFew, releasedSome, releasedEmpty, sound}
+use Rattle.model.specs.Sound.{stateOf, stateKnown, blockClear, listNamed, binNamed, setNamed, onListNamed, sizeOk, linkOk, tlsOk, blockSound, linkedFrom, linked, ownerEmpty, unboundEmpty, inGcEmpty, phaseKnown, flagsKnown, releasedFew, releasedSome, releasedEmpty, sound, chainCounts, chainOk, chained}
 use Rattle.model.specs.Calls.{answered, Call, bind, destroy, alloc, prepare, mark, release, sharedRelease, refusalNumber, goodRequest, tooBig, goodOffer, goodObject, mayLeave, mayRelease, andThen, phaseTest, bindTests, leaveTests, boundTests, requestTests, markTests, releaseTests, sharedTests, callTests, takePlan, releasePlan, planPassed, ifPassed, planSound, plan, takeCell, finish, step, tablesIn, lentOf, call, setUp}
 use Rattle.model.specs.Census.{censusParams, letter, awaitsSweep, printedChain}
 use Rattle.model.specs.Runs.{Cell, frees, entered, bookEvent, bookEvents, bookAnswer, takerOf, bookAfter, Write, written, Turn, State, foundBy, stepOf, resultOf, bookOf, turned, begun, covers, Holds, HoldersWrite, unmarked, staysHeld, byteAt, RunKeeps, Demand3}
@@ -47,7 +47,7 @@ heap₀ = replicate 16384 255
 
 -- what is lent to set-up: no byte of it is 0
 unfoldable pub lent : Lent
-lent = record { words = replicate 2982 255; states = replicate 4 255; marks = replicate 256 255; heap = heap₀ }
+lent = record { words = replicate 2986 255; states = replicate 4 255; marks = replicate 256 255; heap = heap₀ }
 
 abbrev quiet : Call → Turn
 quiet c = record { writes = []; call = c }
@@ -79,9 +79,9 @@ afterReleasing = quiet (bind 2) ∷ quiet otherAsk ∷ []
 
 -- ---- what stands between its turns
 
--- the words while block 2, the only one in use, is on the list l with this free head
-standing : ℕ → ℕ → List ℕ → ℕ → Words
-standing l phase parts free =
+-- the words while block 2, the only one in use, is on the list l with this free head and free count
+standing : ℕ → ℕ → List ℕ → ℕ → ℕ → Words
+standing l phase parts free cells =
     record {
       first = set (replicate 1470 0) l 24576;
       last = set (replicate 1470 0) l 24576;
@@ -94,6 +94,7 @@ standing l phase parts free =
       size = 0 ∷ 0 ∷ 1024 ∷ 0 ∷ [];
       list = 0 ∷ 0 ∷ listWord l ∷ 0 ∷ [];
       tls = 0 ∷ 0 ∷ 1 ∷ 0 ∷ [];
+      cells = 0 ∷ 0 ∷ cells ∷ 0 ∷ [];
     }
 
 -- the parts that have released: none, or holder 1
@@ -145,49 +146,49 @@ after₁ : State
 after₁ = stands (setBound 0 1 (freshWords p)) (states 0) noMarks heap₀ [] []
 
 after₂ : State
-after₂ = stands (standing 24 0 none 26624) (states 255) noMarks heap₂ (first false ∷ []) []
+after₂ = stands (standing 24 0 none 26624 3) (states 255) noMarks heap₂ (first false ∷ []) []
 
 after₃ : State
-after₃ = stands (standing 24 0 none 25600) (states 255) noMarks heap₃ (second false ∷ first false ∷ []) []
+after₃ = stands (standing 24 0 none 25600 2) (states 255) noMarks heap₃ (second false ∷ first false ∷ []) []
 
 after₄ : State
-after₄ = stands (standing 24 1 none 25600) (states 255) noMarks heap₄ (second true ∷ first true ∷ []) []
+after₄ = stands (standing 24 1 none 25600 2) (states 255) noMarks heap₄ (second true ∷ first true ∷ []) []
 
 after₅ : State
-after₅ = stands (standing 24 1 none 25600) (states 254) oneMark heap₄ (second true ∷ first true ∷ []) (27648 ∷ [])
+after₅ = stands (standing 24 1 none 25600 2) (states 254) oneMark heap₄ (second true ∷ first true ∷ []) (27648 ∷ [])
 
 after₆ : State
-after₆ = stands (standing 1396 2 one 25600) (states 254) oneMark heap₄ (second true ∷ first true ∷ []) (27648 ∷ [])
+after₆ = stands (standing 1396 2 one 25600 2) (states 254) oneMark heap₄ (second true ∷ first true ∷ []) (27648 ∷ [])
 
 pub after₇ : State
-after₇ = stands (standing 1249 0 none 25600) (states 254) oneMark heap₄ (second true ∷ first true ∷ []) (27648 ∷ [])
+after₇ = stands (standing 1249 0 none 25600 2) (states 254) oneMark heap₄ (second true ∷ first true ∷ []) (27648 ∷ [])
 
 unfoldable pub after₈ : State
 unfolding standing states none oneMark noMarks heap₈ heap₄ heap₃ heap₂ heap₀
-after₈ = stands (standing 24 0 none 25600) (states 254) oneMark heap₈ (second false ∷ first true ∷ []) (27648 ∷ [])
+after₈ = stands (standing 24 0 none 25600 2) (states 254) oneMark heap₈ (second false ∷ first true ∷ []) (27648 ∷ [])
 
 -- after the fifth turn holder 1 leaves; then the shared release, holder 2, and its alloc. List 1200 is the abandoned available
 -- list of this class, 171 holder 2's
 pub left₆ : State
-left₆ = stands (setBound 0 0 (standing 1200 1 none 25600)) (states 254) oneMark heap₄ (second true ∷ first true ∷ []) (27648 ∷ [])
+left₆ = stands (setBound 0 0 (standing 1200 1 none 25600 2)) (states 254) oneMark heap₄ (second true ∷ first true ∷ []) (27648 ∷ [])
 
 left₇ : State
-left₇ = stands (setBound 0 0 (standing 1249 0 none 25600)) (states 254) oneMark heap₄ (second true ∷ first true ∷ []) (27648 ∷ [])
+left₇ = stands (setBound 0 0 (standing 1249 0 none 25600 2)) (states 254) oneMark heap₄ (second true ∷ first true ∷ []) (27648 ∷ [])
 
 pub left₈ : State
-left₈ = stands (setBound 1 1 (setBound 0 0 (standing 1249 0 none 25600))) (states 254) oneMark heap₄ (second true ∷ first true ∷ []) (27648 ∷ [])
+left₈ = stands (setBound 1 1 (setBound 0 0 (standing 1249 0 none 25600 2))) (states 254) oneMark heap₄ (second true ∷ first true ∷ []) (27648 ∷ [])
 
 -- the cell that holder 2 gets where the second stood
 abbrev third : Cell
 third = record { start = 26624; size = 1024; holder = 2; old = false }
 
 pub left₉ : State
-left₉ = stands (setTls 2 2 (setBound 1 1 (setBound 0 0 (standing 171 0 none 25600)))) (states 254) oneMark heap₈ (third ∷ first true ∷ []) (27648 ∷ [])
+left₉ = stands (setTls 2 2 (setBound 1 1 (setBound 0 0 (standing 171 0 none 25600 2)))) (states 254) oneMark heap₈ (third ∷ first true ∷ []) (27648 ∷ [])
 
 -- ---- each turn, computed. Who opens `machine` opens all that its line names
 
 machine : Params
-unfolding begun turned foundBy stepOf resultOf bookOf written takerOf bookAfter bookAnswer bookEvents bookEvent entered frees leadingZeros allBelow anyBelow member filter sumBelow eachBelow flag powerOfTwo lowerOk biased plusLower minusLower heapBytes heapEnd goodParams wordCount fits start blockAt inHeap isStart listOf listWord localSets available unswept consumed loadBytes bytesOf overwrite load store zeroed bitOf setBit markIndex marked setMark cleared view flat setFirst setLast setBound setReleased setNext setPrev setFree setSize setList setTls setPhase withReleased fours classWords classBytes wordsIn highestBit binInOctave miBin binOf cellBytes classesFit raised shift alignAllocation push pop popHead removeBetween remove relabel link append walk blocksOn cellCount isCell cellsDown headD linkAll initChain initBlock simple keeps sweepChain sweptWords clearBlock eventHeap eventsHeap isSweep isRelease sweeps releases findFreeBlockWith recycleLocalBlocks acquireAbandoned acquireFresh findBlock freshWords freshTables isHolder isBound bindHolder abandonBin abandonBlocks destroyHolder unmarkedState prepared markPlace releaseFrom releaseBlocks appendTo releaseBin releaseHolder sweepLaterBin sweepLater hasReleased allReleased partReleased stateOf stateKnown blockClear listNamed binNamed setNamed onListNamed sizeOk linkOk tlsOk blockSound linkedFrom linked ownerEmpty unboundEmpty inGcEmpty phaseKnown flagsKnown releasedFew releasedSome releasedEmpty sound refusalNumber goodRequest tooBig goodOffer goodObject mayRelease andThen phaseTest bindTests boundTests requestTests markTests releaseTests sharedTests callTests takePlan releasePlan planPassed ifPassed planSound plan takeCell finish step call setUp censusParams after₀ after₁ after₂ after₃ after₄ after₅ after₆ after₇ after₈ standing states none one noMarks oneMark heap₀ heap₂ heap₃ heap₄ heap₈ lent chainFrom freeChain letter awaitsSweep printedChain appended abandonedBin abandonedBelow abandonedBlocks merged mayLeave leaveTests left₆ left₇ left₈ left₉
+unfolding begun turned foundBy stepOf resultOf bookOf written takerOf bookAfter bookAnswer bookEvents bookEvent entered frees leadingZeros allBelow anyBelow member filter sumBelow eachBelow flag powerOfTwo lowerOk biased plusLower minusLower heapBytes heapEnd goodParams wordCount fits start blockAt inHeap isStart listOf listWord localSets available unswept consumed loadBytes bytesOf overwrite load store zeroed bitOf setBit markIndex marked setMark cleared view flat setFirst setLast setBound setReleased setNext setPrev setFree setSize setList setTls setCells setPhase withReleased fours classWords classBytes wordsIn highestBit binInOctave miBin binOf cellBytes classesFit raised shift alignAllocation push pop popHead removeBetween remove relabel link append walk blocksOn cellCount isCell cellsDown headD linkAll initChain initBlock simple keeps sweepChain sweptWords clearBlock eventHeap eventsHeap isSweep isRelease sweeps releases findFreeBlockWith recycleLocalBlocks acquireAbandoned acquireFresh findBlock freshWords freshTables isHolder isBound bindHolder abandonBin abandonBlocks destroyHolder unmarkedState prepared markPlace releaseFrom releaseBlocks appendTo releaseBin releaseHolder sweepLaterBin sweepLater hasReleased allReleased partReleased stateOf stateKnown blockClear listNamed binNamed setNamed onListNamed sizeOk linkOk tlsOk blockSound linkedFrom linked ownerEmpty unboundEmpty inGcEmpty phaseKnown flagsKnown releasedFew releasedSome releasedEmpty sound chainCounts chainOk chained refusalNumber goodRequest tooBig goodOffer goodObject mayRelease andThen phaseTest bindTests boundTests requestTests markTests releaseTests sharedTests callTests takePlan releasePlan planPassed ifPassed planSound plan takeCell finish step call setUp censusParams after₀ after₁ after₂ after₃ after₄ after₅ after₆ after₇ after₈ standing states none one noMarks oneMark heap₀ heap₂ heap₃ heap₄ heap₈ lent chainFrom freeChain letter awaitsSweep printedChain appended abandonedBin abandonedBelow abandonedBlocks merged mayLeave leaveTests left₆ left₇ left₈ left₉
 machine = censusParams
 
 set-up : begun p lent ≡ after₀

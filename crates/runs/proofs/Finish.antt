@@ -1,12 +1,11 @@
--- The end of a call: the one place where the heap is read. The link read is the one that the shadow says, so the reply, the
--- tables and the events are those of a step that sees the shadow and no heap.
+-- The end of a call: the one place where the heap is read once its chains are tested. The link read is the one that the shadow says,
+-- so the reply, the tables and the events are those of a step that sees the shadow and no heap.
 use mathlib.Core.Path.{_≡_, refl, sym, ap, _∙_, subst}
 use mathlib.Core.Logic.{_≢_, inl, inr, ⊎-elim}
 use mathlib.Core.Bool.{Bool, true, false, not}
 use mathlib.Core.List.{List, [], _∷_, _++_, append-nil, headD}
 use Prim.Native.Nat.{ℕ, _+_, _-_, _%_, _≤_, _<_}
 use native.Mathlib.Omega.{arith}
-use lib.Dec.{eqb}
 use lib.ListN.{getD, set}
 use borrow.Author.Tests.{eq-eqb}
 use Rattle.model.specs.declared.Params.{Params}
@@ -14,19 +13,19 @@ use Rattle.model.specs.declared.Offer.{Offer}
 use Rattle.model.specs.Base.{In, Pairwise, filter, flag}
 use Rattle.model.specs.Params.{start, blockAt, heapBytes, heapEnd}
 use Rattle.model.specs.Memory.{load, zeroed}
-use Rattle.model.specs.Tables.{Tables, withWords, setFree}
+use Rattle.model.specs.Tables.{Tables, withWords, setFree, setCells}
 use Rattle.model.specs.SizeClasses.{alignAllocation}
 use Rattle.model.specs.Events.{Event, initialised, swept, released, taken, eventHeap, eventsHeap, sweeps}
-use Rattle.model.specs.Sound.{linkOk}
 use Rattle.model.specs.Calls.{Reply, answered, Call, bind, destroy, alloc, prepare, mark, release, sharedRelease, End, says, takes, Step, takeCell, finish}
 use Rattle.model.specs.Runs.{Cell, Book, frees, entered, bookEvent, bookEvents, bookAnswer, bookAfter, takerOf, covers, Apart, Zeroed, Served, Unchanged, LostExactly, byteAt, hits}
-use Rattle.laws.proofs.Base.{or-right, if-true, not-both, in-append, in-append-right}
+use Rattle.laws.proofs.Base.{not-both, in-append, in-append-right}
 use Rattle.laws.proofs.Params.{Bounds}
 use Rattle.laws.proofs.Tables.{sized-same, kept-lengths}
 use Rattle.laws.proofs.Memory as Mem
-use Rattle.laws.proofs.Cells.{Whole, whole-isCell, whole-from, whole-to, whole-apart, whole-blockAt}
-use Rattle.runs.proofs.Inv.{Held, Core, whole-eight, first-whole, first-head, first-link, rest-cell, take-bytes, take-core}
-use Rattle.runs.proofs.Steps.{shadowEvents, EventsOk, none-taken, events-lost, events-unchanged, book-append, same-bytes}
+use Rattle.laws.proofs.Cells.{Whole, whole-from, whole-to, whole-apart, whole-blockAt}
+use Rattle.runs.proofs.Inv.{Held, Core, whole-eight, top-whole, take-bytes, take-core}
+use Rattle.soundness.proofs.Chains.{shadowEvents, first-head, first-link}
+use Rattle.runs.proofs.Steps.{EventsOk, none-taken, events-lost, events-unchanged, book-append, same-bytes}
 use Rattle.runs.proofs.Search.{Settled}
 use Rattle.runs.proofs.Plans.{bookFor, Serves, Inv}
 
@@ -48,7 +47,7 @@ shadowTake t es sh b align offset fresh =
     let size : ℕ = getD (t .words .size) b 0 in
     record {
       reply = answered (alignAllocation cell align offset ∷ size ∷ flag fresh ∷ sweeps es ∷ []);
-      tables = withWords (setFree b (headD (tail (getD sh b [])) 0) (t .words)) t;
+      tables = withWords (setCells b (getD (t .words .cells) b 0 - 1) (setFree b (headD (tail (getD sh b [])) 0) (t .words))) t;
       events = es ++ (taken cell size ∷ []);
       shadow = set sh b (tail (getD sh b []));
     }
@@ -164,46 +163,35 @@ module _ (p : Params) (B : Bounds p) where
       abbrev size : ℕ
       size = getD (t′ .words .size) b 0
 
-      C : Core p (t′ .words .free) (t′ .words .size) (t′ .states) (t′ .marks) H (shadowEvents es sh) bk′
+      C : Core p (t′ .words .free) (t′ .words .size) (t′ .words .cells) (t′ .states) (t′ .marks) H (shadowEvents es sh) bk′
       C = I .core
 
       W : Whole p b size x
-      W = first-whole p B (t′ .words .free) (t′ .words .size) (t′ .states) (t′ .marks) H (shadowEvents es sh) bk′ C b lb occ x l top (takerOf c)
+      W = top-whole p B (t′ .words .free) (t′ .words .size) (t′ .words .cells) (t′ .states) (t′ .marks) H (shadowEvents es sh) bk′ C b lb occ x l top (takerOf c)
 
       head-is : getD (t′ .words .free) b 0 ≡ x
-      head-is = first-head p B (t′ .words .free) (t′ .words .size) (t′ .states) (t′ .marks) H (shadowEvents es sh) bk′ C b lb occ x l top (takerOf c)
+      head-is = first-head p B (t′ .words .free) (t′ .words .size) (t′ .words .cells) H (shadowEvents es sh) (C .chains) b lb x l top
 
       link-is : load p H x ≡ headD l 0
-      link-is = first-link p B (t′ .words .free) (t′ .words .size) (t′ .states) (t′ .marks) H (shadowEvents es sh) bk′ C b lb occ x l top (takerOf c)
+      link-is = first-link p B (t′ .words .free) (t′ .words .size) (t′ .words .cells) H (shadowEvents es sh) (C .chains) b lb x l top
 
       tail-is : tail (getD (shadowEvents es sh) b []) ≡ l
       unfolding tail
       tail-is = ap tail top
-
-      -- the link is good
-      good-link : (l : List ℕ) → ((y : ℕ) → In y l → Whole p b size y) → linkOk p (t′ .words) b (headD l 0) ≡ true
-      unfolding linkOk headD In
-      good-link [] f = refl
-      good-link (y ∷ l) f = or-right (eqb y 0) (whole-isCell p b size y (f y (inl refl)))
-
-      link-good : linkOk p (t′ .words) b (load p H (getD (t′ .words .free) b 0)) ≡ true
-      link-good =
-          rw (head-is, link-is)
-          (good-link l (rest-cell p B (t′ .words .free) (t′ .words .size) (t′ .states) (t′ .marks) H (shadowEvents es sh) bk′ C b lb occ x l top (takerOf c)))
 
       -- the step, with the link read
       unfoldable pub taken-step : Step
       taken-step =
           record {
             reply = answered (alignAllocation x align offset ∷ size ∷ flag fresh ∷ sweeps es ∷ []);
-            tables = withWords (setFree b (headD l 0) (t′ .words)) t′;
+            tables = withWords (setCells b (getD (t′ .words .cells) b 0 - 1) (setFree b (headD l 0) (t′ .words))) t′;
             heap = zeroed p H x size;
             events = es ++ (taken x size ∷ []);
           }
 
       pub step-is : finish p t′ es H (takes b align offset fresh) ≡ taken-step
       unfolding finish takeCell taken-step eventHeap
-      step-is = if-true (linkOk p (t′ .words) b (load p H (getD (t′ .words .free) b 0))) _ _ link-good ∙ rw (head-is, link-is)
+      step-is = rw (head-is, link-is)
 
       pub shadow-is : shadowFinish t′ es (shadowEvents es sh) (takes b align offset fresh)
           ≡ record { reply = taken-step .reply; tables = taken-step .tables; events = taken-step .events; shadow = set (shadowEvents es sh) b l }
@@ -232,13 +220,13 @@ module _ (p : Params) (B : Bounds p) where
     abbrev s : Step
     s = record {
       reply = answered (alignAllocation x align offset ∷ n ∷ flag fresh ∷ sweeps es ∷ []);
-      tables = withWords (setFree b (headD l 0) (t′ .words)) t′;
+      tables = withWords (setCells b (getD (t′ .words .cells) b 0 - 1) (setFree b (headD l 0) (t′ .words))) t′;
       heap = zeroed p G x n;
       events = es ++ (taken x n ∷ []);
     }
 
     first : Whole p b n x
-    first = first-whole p B (t′ .words .free) (t′ .words .size) (t′ .states) (t′ .marks) G (shadowEvents es sh) held (I .core) b lb occ x l top d
+    first = top-whole p B (t′ .words .free) (t′ .words .size) (t′ .words .cells) (t′ .states) (t′ .marks) G (shadowEvents es sh) held (I .core) b lb occ x l top d
 
     book-is : bookAfter p c s bk
         ≡ record { cells = record { start = x; size = n; holder = d; old = false } ∷ held .cells; places = held .places }
@@ -247,10 +235,10 @@ module _ (p : Params) (B : Bounds p) where
         ∙ ap (λ (cs : List Cell). record { cells = record { start = x; size = n; holder = d; old = false } ∷ cs; places = held .places }) (filter-all (held .cells))
 
     after-inv : Inv p B (s .tables) (s .heap) (set (shadowEvents es sh) b l) (bookAfter p c s bk)
-    unfolding setFree In
+    unfolding setFree setCells In
     after-inv =
         rw book-is (record {
-          core = take-core p B (t′ .words .free) (t′ .words .size) (t′ .states) (t′ .marks) G (shadowEvents es sh) held (I .core) b lb occ x l top d;
+          core = take-core p B (t′ .words .free) (t′ .words .size) (t′ .words .cells) (t′ .states) (t′ .marks) G (shadowEvents es sh) held (I .core) b lb occ x l top d;
           sized = sized-same (simp kept-lengths) (I .sized);
           young = λ e m q. ⊎-elim
               (λ z. (running, subst (λ (y : ℕ). Settled (getD (t′ .words .list) y 0)) (sym (ap (λ (y : Cell). blockAt p (y .start)) z ∙ whole-blockAt p B b n x lb first)) settled))
@@ -286,6 +274,6 @@ module _ (p : Params) (B : Bounds p) where
           zeroed = zero-bytes;
           unchanged = events-unchanged p B d es (taken x n ∷ []) h bk o
               (λ e m q k v. same-bytes p B d (t′ .words .size) (t′ .states) G (zeroed p G x n) e (I .core .held e m)
-              (take-bytes p B (t′ .words .free) (t′ .words .size) (t′ .states) (t′ .marks) G (shadowEvents es sh) held (I .core) b lb occ x l top d e m) k v);
+              (take-bytes p B (t′ .words .free) (t′ .words .size) (t′ .words .cells) (t′ .states) (t′ .marks) G (shadowEvents es sh) held (I .core) b lb occ x l top d e m) k v);
           lost = events-lost p B d es (taken x n ∷ []) h bk o ((λ e m. (refl, λ q. absurd (not-both true refl (sym q)))), tt);
         }

@@ -1,8 +1,7 @@
 -- The invariant of a run, and what each event does to it.
 --
--- The shadow is each block's free chain, as a list of addresses. It stands in the heap, its cells are whole cells of their
--- block and descend, and no held cell is on it. Held cells are whole cells of occupied blocks. The mark bits say what the
--- book's places say, and a block with a place is Marked.
+-- The shadow is each block's free chain, as a list of addresses (soundness Chains). No held cell is on it. Held cells are whole
+-- cells of occupied blocks. The mark bits say what the book's places say, and a block with a place is Marked.
 use mathlib.Core.Path.{_≡_, refl, sym, ap, _∙_, subst}
 use mathlib.Core.Logic.{_≢_, _⊎_, inl, inr, ⊎-elim}
 use mathlib.Core.Bool.{Bool, true, false, not, _&&_}
@@ -12,50 +11,23 @@ use native.Mathlib.Omega.{arith}
 use native.Mathlib.Decide.{ℕ-discrete, decLt}
 use lib.Dec.{eqb}
 use lib.ListN.{length, getD, set, length-set, List·getD-eq-default}
-use lib.Seq.{getD-set-same, getD-set-other}
+use lib.Seq.{getD-set-other}
 use borrow.Author.Tests.{eqb-false, eq-eqb, ne-eqb, not-true}
 use Rattle.model.specs.declared.Params.{Params}
 use Rattle.model.specs.Base.{if_then_else_, In, Pairwise, member, anyBelow}
-use Rattle.model.specs.Params.{start, blockAt, inHeap, heapBytes, plusLower, minusLower, biased}
-use Rattle.model.specs.Memory.{load, zeroed, marked}
+use Rattle.model.specs.Params.{blockAt, inHeap, heapBytes, plusLower, minusLower, biased}
+use Rattle.model.specs.Memory.{zeroed, marked}
 use Rattle.model.specs.SizeClasses.{wordsIn}
-use Rattle.model.specs.Block.{linkAll, keeps, simple, sweepChain, initChain, cellCount, Marked}
+use Rattle.model.specs.Block.{linkAll, keeps, simple, sweepChain, initChain, Marked}
 use Rattle.model.specs.Events.{Event, initialised, swept, released}
 use Rattle.model.specs.Runs.{Cell, Book, frees, entered, bookEvent, unmarked, hits}
 use Rattle.laws.proofs.Base.{in-filter, pairwise-filter, in-member, member-in, same-test, any-same, not-both, below-none-any, and-right}
 use Rattle.laws.proofs.Params.{Bounds, start-in}
 use Rattle.laws.proofs.Memory as Mem
-use Rattle.laws.proofs.Cells.{Whole, whole-apart, whole-from, whole-block, whole-blockAt, Desc, in-chain, chain-in, desc-cellsDown, desc-less, chainStands, length-linkAll, same-linkAll, stands-frame, stands-linkAll, whole-placed}
-
--- a list's entry after a store, for any element
-pub set-cases : {A : Type 0} (l : List A) (i : ℕ) (v d : A) (j : ℕ) → i < length l
-    → ((j ≡ i) × (getD (set l i v) j d ≡ v)) ⊎ ((j ≢ i) × (getD (set l i v) j d ≡ getD l j d))
-set-cases l i v d j h = go (ℕ-discrete j i)
-  where
-    go : Dec (j ≡ i) → ((j ≡ i) × (getD (set l i v) j d ≡ v)) ⊎ ((j ≢ i) × (getD (set l i v) j d ≡ getD l j d))
-    go (yes e) = inl (e, ap (λ (x : ℕ). getD (set l i v) x d) e ∙ getD-set-same l i v d h)
-    go (no f) = inr (f, getD-set-other l i j v d f)
-
--- the entries of two lists after stores at one index
-pub set-two :
-    {X Y : Type 0} (l : List X) (m : List Y) (i : ℕ) (v dx : X) (u dy : Y) (d : ℕ) → i < length l → i < length m
-    → (P : X → Y → Type 0) → (d ≡ i → P v u) → (d ≢ i → P (getD l d dx) (getD m d dy))
-    → P (getD (set l i v) d dx) (getD (set m i u) d dy)
-set-two l m i v dx u dy d hl hm P same other = go (ℕ-discrete d i)
-  where
-    go : Dec (d ≡ i) → P (getD (set l i v) d dx) (getD (set m i u) d dy)
-    go (yes e) =
-        subst (λ (z : ℕ). P (getD (set l i v) z dx) (getD (set m i u) z dy)) (sym e)
-        (rw (getD-set-same l i v dx hl, getD-set-same m i u dy hm) (same e))
-    go (no f) = rw (getD-set-other l i d v dx f, getD-set-other m i d u dy f) (other f)
+use Rattle.laws.proofs.Cells.{Whole, whole-from, whole-block, whole-blockAt, chain-in, same-linkAll}
+use Rattle.soundness.proofs.Chains.{set-cases, Chains, cells-apart, word-apart, swept-cell, sweep-chains, init-cell, init-chains, release-chains, first-whole, rest-other, take-chains}
 
 module _ (p : Params) where
-  -- the free chain of a block
-  pub record BlockInv (h : List ℕ) (b head size : ℕ) (chain : List ℕ) : Type 0 where
-    pub stands : chainStands p h head chain
-    pub cells : (x : ℕ) → In x chain → Whole p b size x
-    pub desc : Desc 8 chain
-
   -- a held cell
   pub record Held (sz st : List ℕ) (c : Cell) : Type 0 where
     pub low : blockAt p (c .start) < p .blocks
@@ -69,16 +41,12 @@ module _ (p : Params) where
     pub whole : q % 8 ≡ 0
     pub state : getD st (blockAt p (minusLower p q)) 0 ≡ Marked
 
-  pub record Core (free size st ms h : List ℕ) (sh : List (List ℕ)) (bk : Book) : Type 0 where
-    pub heap : length h ≡ heapBytes p
-    pub free-length : length free ≡ p .blocks
-    pub sizes : length size ≡ p .blocks
+  pub record Core (free size cells st ms h : List ℕ) (sh : List (List ℕ)) (bk : Book) : Type 0 where
+    pub chains : Chains p free size cells h sh
     pub states : length st ≡ p .blocks
     pub markings : length ms ≡ heapBytes p / 64
-    pub shadow : length sh ≡ p .blocks
     pub bytes : Mem.Bytes ms
     pub words : (b : ℕ) → getD size b 0 % 8 ≡ 0
-    pub blocks : (b : ℕ) → b < p .blocks → BlockInv h b (getD free b 0) (getD size b 0) (getD sh b [])
     pub held : (c : Cell) → In c (bk .cells) → Held size st c
     pub off : (c : Cell) → In c (bk .cells) → In (c .start) (getD sh (blockAt p (c .start)) []) → ⊥
     pub apart : Pairwise (λ c d. c .start ≢ d .start) (bk .cells)
@@ -86,25 +54,6 @@ module _ (p : Params) where
     pub places : (q : ℕ) → In q (bk .places) → Placed st q
 
 module _ (p : Params) (B : Bounds p) where
-  -- ---- bytes
-
-  -- first words, and whole ranges, of two cells that are not one
-  module _ (b s x b′ s′ y : ℕ) (lb : b < p .blocks) (lb′ : b′ < p .blocks) (X : Whole p b s x) (Y : Whole p b′ s′ y)
-      (same : b ≡ b′ → s ≡ s′) (ne : x ≢ y) where
-    cells-apart : Mem.Apart (x - p .base) s (y - p .base) s′
-    cells-apart =
-        Mem.apart-places (p .base) x s y s′ (whole-from p B b s x lb X) (whole-from p B b′ s′ y lb′ Y)
-        (whole-apart p b s x b′ s′ y lb lb′ X Y same ne)
-
-    word-apart : Mem.Apart (x - p .base) 8 (y - p .base) s′
-    word-apart = Mem.apart-in _ _ _ _ _ _ _ _ cells-apart (omega arith) (omega (arith, X .word)) (omega arith) (omega arith)
-
-    words-apart : Mem.Apart (x - p .base) 8 (y - p .base) 8
-    words-apart = Mem.apart-in _ _ _ _ _ _ _ _ word-apart (omega arith) (omega arith) (omega arith) (omega (arith, Y .word))
-
-    wide-apart : Mem.Apart (x - p .base) s (y - p .base) 8
-    wide-apart = Mem.apart-in _ _ _ _ _ _ _ _ cells-apart (omega arith) (omega arith) (omega arith) (omega (arith, Y .word))
-
   -- cells of whole words start at multiples of 8
   times-eight : (k s : ℕ) → s % 8 ≡ 0 → (k * s) % 8 ≡ 0
   times-eight k s e =
@@ -116,48 +65,17 @@ module _ (p : Params) (B : Bounds p) where
   whole-eight b s a lb e W =
       omega (arith, W .at, start-in p b lb, times-eight (W .k) s e, times-eight b (p .bytes) (B .bytes-words), B .base-words)
 
-  -- a chain's first address
-  stands-head : (h : List ℕ) (a : ℕ) (l : List ℕ) → chainStands p h a l → a ≡ headD l 0
-  unfolding chainStands headD
-  stands-head h a [] c = c
-  stands-head h a (x ∷ l) c = c .0
-
   -- ---- a block's chain is built anew: a sweep, or an init with another size and state
 
-  module _ (free size st ms h : List ℕ) (sh : List (List ℕ)) (bk : Book) (I : Core p free size st ms h sh bk)
+  module _ (free size cells st ms h : List ℕ) (sh : List (List ℕ)) (bk : Book) (I : Core p free size cells st ms h sh bk)
       (b : ℕ) (lb : b < p .blocks) (chain : List ℕ) where
-    -- the cells of another block, or of the new chain, stand in the heap after linking
-    module _ (s : ℕ) (cells : (x : ℕ) → In x chain → Whole p b s x) (desc : Desc 8 chain) where
-      -- the new chain
-      new-block : BlockInv p (linkAll p chain h) b (headD chain 0) s chain
-      new-block =
-          record {
-            stands = stands-linkAll p chain h (whole-placed p h b s chain B (I .heap) lb cells) desc;
-            cells = cells;
-            desc = desc;
-          }
-
-      -- another block's
-      other-chain : (d : ℕ) → d < p .blocks → d ≢ b → BlockInv p (linkAll p chain h) d (getD free d 0) (getD size d 0) (getD sh d [])
-      other-chain d ld ne =
-          let K = I .blocks d ld in
-          record {
-            stands = stands-frame p h (linkAll p chain h) (getD free d 0) (getD sh d [])
-                (λ y m. same-linkAll p chain h (y - p .base) 8
-                (λ x k. words-apart b s x d (getD size d 0) y lb ld (cells x k) (K .cells y m) (λ e. absurd (ne (sym e)))
-                (λ e. ne (sym (whole-blockAt p B d (getD size d 0) y ld (K .cells y m)) ∙ ap (blockAt p) (sym e) ∙ whole-blockAt p B b s x lb (cells x k)))))
-                (K .stands);
-            cells = K .cells;
-            desc = K .desc;
-          }
-
-      -- the bytes of a held cell that is not on the new chain
-      kept-bytes : (c : Cell) → Held p size st c → (blockAt p (c .start) ≡ b → c .size ≡ s) → (In (c .start) chain → ⊥)
-          → Mem.Same h (linkAll p chain h) (c .start - p .base) (c .size)
-      kept-bytes c H same out =
-          same-linkAll p chain h (c .start - p .base) (c .size)
-          (λ x k. word-apart b s x (blockAt p (c .start)) (c .size) (c .start) lb (H .low) (cells x k) (H .whole)
-          (λ e. sym (same (sym e))) (λ e. out (subst (λ (z : ℕ). In z chain) e k)))
+    -- the bytes of a held cell that is not on the new chain
+    kept-bytes : (s : ℕ) → ((x : ℕ) → In x chain → Whole p b s x) → (c : Cell) → Held p size st c → (blockAt p (c .start) ≡ b → c .size ≡ s)
+        → (In (c .start) chain → ⊥) → Mem.Same h (linkAll p chain h) (c .start - p .base) (c .size)
+    kept-bytes s cells c H same out =
+        same-linkAll p chain h (c .start - p .base) (c .size)
+        (λ x k. word-apart p B b s x (blockAt p (c .start)) (c .size) (c .start) lb (H .low) (cells x k) (H .whole)
+        (λ e. sym (same (sym e))) (λ e. out (subst (λ (z : ℕ). In z chain) e k)))
 
     -- the mark bits and the book's places keep the same cells
     pub keeps-same : (s a : ℕ) → a % 8 ≡ 0 → 64 ≤ a → keeps p (marked p ms) s a ≡ keeps p (λ (x : ℕ). member x (bk .places)) s a
@@ -185,27 +103,18 @@ module _ (p : Params) (B : Bounds p) where
     -- ---- a sweep
 
     module _ (occ : getD st b 0 ≢ 0) (word : 8 ≤ getD size b 0) (is : chain ≡ sweepChain p ms b (getD size b 0)) (hd : ℕ) where
-      swept-cell : (x : ℕ) → In x chain → Whole p b (getD size b 0) x × (keeps p (marked p ms) (getD size b 0) x ≡ false)
-      unfolding sweepChain
-      swept-cell x m = in-chain p (keeps p (marked p ms) (getD size b 0)) b (getD size b 0) x word (subst (In x) is m)
+      cell-swept : (x : ℕ) → In x chain → Whole p b (getD size b 0) x × (keeps p (marked p ms) (getD size b 0) x ≡ false)
+      cell-swept = swept-cell p B free size cells h sh (I .chains) b lb ms chain word is
 
-      swept-desc : Desc 8 chain
-      unfolding sweepChain
-      swept-desc = subst (Desc 8) (sym is) (desc-less (getD size b 0) 8 _ word (desc-cellsDown _ (start p b) (getD size b 0) (cellCount p (getD size b 0))))
-
-      pub sweep-core : Core p (set free b (headD chain 0)) size st ms (linkAll p chain h) (set sh b chain) (bookEvent p hd (swept b chain) bk)
+      pub sweep-core : Core p (set free b (headD chain 0)) size (set cells b (length chain)) st ms (linkAll p chain h) (set sh b chain) (bookEvent p hd (swept b chain) bk)
       unfolding bookEvent entered frees
       sweep-core =
           record {
-            heap = length-linkAll p chain h ∙ I .heap;
-            free-length = length-set free b _ ∙ I .free-length;
-            sizes = I .sizes;
+            chains = sweep-chains p B free size cells h sh (I .chains) b lb ms chain word is;
             states = I .states;
             markings = I .markings;
-            shadow = length-set sh b chain ∙ I .shadow;
             bytes = I .bytes;
             words = I .words;
-            blocks = block-of;
             held = λ c m. I .held c (was c m .0);
             off = off-of;
             apart = still-apart hd (swept b chain) (λ cs. refl);
@@ -216,25 +125,17 @@ module _ (p : Params) (B : Bounds p) where
           was : (c : Cell) → In c (bookEvent p hd (swept b chain) bk .cells) → In c (bk .cells) × (member (c .start) chain ≡ false)
           was = was-held hd (swept b chain) (λ cs. refl)
 
-          block-of : (d : ℕ) → d < p .blocks → BlockInv p (linkAll p chain h) d (getD (set free b (headD chain 0)) d 0) (getD size d 0) (getD (set sh b chain) d [])
-          block-of d ld =
-              set-two free sh b (headD chain 0) 0 chain [] d (omega (arith, I .free-length)) (omega (arith, I .shadow))
-              (λ x y. BlockInv p (linkAll p chain h) d x (getD size d 0) y)
-              (λ e. subst (λ (x : ℕ). BlockInv p (linkAll p chain h) x (headD chain 0) (getD size x 0) chain) (sym e)
-              (new-block (getD size b 0) (λ x m. swept-cell x m .0) swept-desc))
-              (λ e. other-chain (getD size b 0) (λ x m. swept-cell x m .0) swept-desc d ld e)
-
           off-of : (c : Cell) → In c (bookEvent p hd (swept b chain) bk .cells) → In (c .start) (getD (set sh b chain) (blockAt p (c .start)) []) → ⊥
           off-of c m k = ⊎-elim
               (λ e. not-both _ (in-member (c .start) chain (subst (In (c .start)) (e .1) k)) (was c m .1))
               (λ e. I .off c (was c m .0) (subst (In (c .start)) (e .1) k))
-              (set-cases sh b chain [] (blockAt p (c .start)) (omega (arith, I .shadow)))
+              (set-cases sh b chain [] (blockAt p (c .start)) (omega (arith, I .chains .shadow)))
 
       -- a held cell that the sweep leaves keeps its bytes
       pub sweep-bytes : (c : Cell) → In c (bk .cells) → frees p (swept b chain) c ≡ false → Mem.Same h (linkAll p chain h) (c .start - p .base) (c .size)
       unfolding frees
       sweep-bytes c m out =
-          kept-bytes (getD size b 0) (λ x k. swept-cell x k .0) swept-desc c (I .held c m)
+          kept-bytes (getD size b 0) (λ x k. cell-swept x k .0) c (I .held c m)
           (λ e. I .held c m .size ∙ ap (λ (z : ℕ). getD size z 0) e)
           (λ k. not-both _ (in-member (c .start) chain k) out)
 
@@ -256,39 +157,30 @@ module _ (p : Params) (B : Bounds p) where
               (omega (arith, whole-from p B b (getD size b 0) (c .start) lb W, B .base-low))
               ∙ ap (λ (x : ℕ). keeps p (λ (y : ℕ). member y (bk .places)) x (c .start)) (sym z) in
               rw (eq-eqb _ _ e) (same-test _ _
-              (λ m′. ap not (sym k ∙ swept-cell (c .start) (member-in _ _ m′) .1))
+              (λ m′. ap not (sym k ∙ cell-swept (c .start) (member-in _ _ m′) .1))
               (λ n. in-member _ _ (subst (In (c .start)) (sym is)
               (chain-in p (keeps p (marked p ms) (getD size b 0)) b (getD size b 0) (c .start) W (k ∙ not-true _ n)))))
-          go (no f) = rw (ne-eqb _ _ f) (same-test _ _ (λ k. absurd (f (whole-blockAt p B b (getD size b 0) (c .start) lb (swept-cell (c .start) (member-in _ _ k) .0)))) (λ k. absurd (not-both _ k refl)))
+          go (no f) = rw (ne-eqb _ _ f) (same-test _ _ (λ k. absurd (f (whole-blockAt p B b (getD size b 0) (c .start) lb (cell-swept (c .start) (member-in _ _ k) .0)))) (λ k. absurd (not-both _ k refl)))
 
     -- ---- an init: the block was Unallocated, so no cell of it is held and it has no place
 
     module _ (none : getD st b 0 ≡ 0) (s : ℕ) (word : 8 ≤ s) (whole : s % 8 ≡ 0)
         (is : chain ≡ initChain p b s) (hd : ℕ) where
-      init-cell : (x : ℕ) → In x chain → Whole p b s x
-      unfolding initChain
-      init-cell x m = in-chain p (λ a. false) b s x word (subst (In x) is m) .0
-
-      init-desc : Desc 8 chain
-      unfolding initChain
-      init-desc = subst (Desc 8) (sym is) (desc-less s 8 _ word (desc-cellsDown (λ a. false) (start p b) s (cellCount p s)))
+      cell-init : (x : ℕ) → In x chain → Whole p b s x
+      cell-init = init-cell p B free size cells h sh (I .chains) b lb chain s word is
 
       not-here : (c : Cell) → In c (bk .cells) → blockAt p (c .start) ≢ b
       not-here c m e = I .held c m .occupied (ap (λ (x : ℕ). getD st x 0) e ∙ none)
 
-      pub init-core : Core p (set free b (headD chain 0)) (set size b s) (set st b 255) ms (linkAll p chain h) (set sh b chain) (bookEvent p hd (initialised b chain) bk)
+      pub init-core : Core p (set free b (headD chain 0)) (set size b s) (set cells b (length chain)) (set st b 255) ms (linkAll p chain h) (set sh b chain) (bookEvent p hd (initialised b chain) bk)
       unfolding bookEvent entered frees
       init-core =
           record {
-            heap = length-linkAll p chain h ∙ I .heap;
-            free-length = length-set free b _ ∙ I .free-length;
-            sizes = length-set size b s ∙ I .sizes;
+            chains = init-chains p B free size cells h sh (I .chains) b lb chain s word is;
             states = length-set st b 255 ∙ I .states;
             markings = I .markings;
-            shadow = length-set sh b chain ∙ I .shadow;
             bytes = I .bytes;
             words = λ d. word-of d;
-            blocks = block-of;
             held = λ c m. held-of c (was c m .0);
             off = off-of;
             apart = still-apart hd (initialised b chain) (λ cs. refl);
@@ -300,15 +192,7 @@ module _ (p : Params) (B : Bounds p) where
           was = was-held hd (initialised b chain) (λ cs. refl)
 
           word-of : (d : ℕ) → getD (set size b s) d 0 % 8 ≡ 0
-          word-of d = ⊎-elim (λ e. rw (e .1) whole) (λ e. rw (e .1) (I .words d)) (set-cases size b s 0 d (omega (arith, I .sizes)))
-
-          block-of : (d : ℕ) → d < p .blocks → BlockInv p (linkAll p chain h) d (getD (set free b (headD chain 0)) d 0) (getD (set size b s) d 0) (getD (set sh b chain) d [])
-          block-of d ld =
-              set-two free sh b (headD chain 0) 0 chain [] d (omega (arith, I .free-length)) (omega (arith, I .shadow))
-              (λ x y. BlockInv p (linkAll p chain h) d x (getD (set size b s) d 0) y)
-              (λ e. subst (λ (x : ℕ). BlockInv p (linkAll p chain h) x (headD chain 0) (getD (set size b s) x 0) chain) (sym e)
-              (rw (getD-set-same size b s 0 (omega (arith, I .sizes))) (new-block s init-cell init-desc)))
-              (λ e. rw (getD-set-other size b d s 0 e) (other-chain s init-cell init-desc d ld e))
+          word-of d = ⊎-elim (λ e. rw (e .1) whole) (λ e. rw (e .1) (I .words d)) (set-cases size b s 0 d (omega (arith, I .chains .sizes)))
 
           held-of : (c : Cell) → In c (bk .cells) → Held p (set size b s) (set st b 255) c
           held-of c m =
@@ -333,12 +217,12 @@ module _ (p : Params) (B : Bounds p) where
 
       pub init-bytes : (c : Cell) → In c (bk .cells) → Mem.Same h (linkAll p chain h) (c .start - p .base) (c .size)
       init-bytes c m =
-          kept-bytes s init-cell init-desc c (I .held c m) (λ e. absurd (not-here c m e))
-          (λ k. not-here c m (whole-blockAt p B b s (c .start) lb (init-cell (c .start) k)))
+          kept-bytes s cell-init c (I .held c m) (λ e. absurd (not-here c m e))
+          (λ k. not-here c m (whole-blockAt p B b s (c .start) lb (cell-init (c .start) k)))
 
   -- ---- a release: the block was Unmarked, so it has no place and none of its cells is marked
 
-  module _ (free size st ms h : List ℕ) (sh : List (List ℕ)) (bk : Book) (I : Core p free size st ms h sh bk)
+  module _ (free size cells st ms h : List ℕ) (sh : List (List ℕ)) (bk : Book) (I : Core p free size cells st ms h sh bk)
       (b : ℕ) (un : getD st b 0 ≡ 255) (hd : ℕ) where
     pub in-range : b < p .blocks
     in-range = go (decLt b (p .blocks))
@@ -347,38 +231,27 @@ module _ (p : Params) (B : Bounds p) where
         go (yes l) = l
         go (no f) = absurd (omega (arith, un, List·getD-eq-default st 0 {n = b} (omega (arith, I .states))))
 
-    pub release-core : Core p (set free b 0) (set size b 0) (set st b 0) ms h (set sh b []) (bookEvent p hd (released b) bk)
-    unfolding bookEvent entered frees chainStands In Pairwise
+    pub release-core : Core p (set free b 0) (set size b 0) (set cells b 0) (set st b 0) ms h (set sh b []) (bookEvent p hd (released b) bk)
+    unfolding bookEvent entered frees
     release-core =
         record {
-          heap = I .heap;
-          free-length = length-set free b 0 ∙ I .free-length;
-          sizes = length-set size b 0 ∙ I .sizes;
+          chains = release-chains p B free size cells h sh (I .chains) b in-range;
           states = length-set st b 0 ∙ I .states;
           markings = I .markings;
-          shadow = length-set sh b [] ∙ I .shadow;
           bytes = I .bytes;
           words = word-of;
-          blocks = block-of;
           held = λ c m. held-of c (was c m .0) (eqb-false _ _ (was c m .1));
           off = off-of;
-          apart = still-apart free size st ms h sh bk I b in-range [] hd (released b) (λ cs. refl);
+          apart = still-apart free size cells st ms h sh bk I b in-range [] hd (released b) (λ cs. refl);
           marks = I .marks;
           places = λ q m. place-of q (I .places q m);
         }
       where
         was : (c : Cell) → In c (bookEvent p hd (released b) bk .cells) → In c (bk .cells) × (eqb (blockAt p (c .start)) b ≡ false)
-        was = was-held free size st ms h sh bk I b in-range [] hd (released b) (λ cs. refl)
+        was = was-held free size cells st ms h sh bk I b in-range [] hd (released b) (λ cs. refl)
 
         word-of : (d : ℕ) → getD (set size b 0) d 0 % 8 ≡ 0
-        word-of d = ⊎-elim (λ e. rw (e .1)) (λ e. rw (e .1) (I .words d)) (set-cases size b 0 0 d (omega (arith, I .sizes, in-range)))
-
-        block-of : (d : ℕ) → d < p .blocks → BlockInv p h d (getD (set free b 0) d 0) (getD (set size b 0) d 0) (getD (set sh b []) d [])
-        block-of d ld =
-            set-two free sh b 0 0 [] [] d (omega (arith, I .free-length, in-range)) (omega (arith, I .shadow, in-range))
-            (λ x y. BlockInv p h d x (getD (set size b 0) d 0) y)
-            (λ e. record { stands = refl; cells = λ x m. absurd m; desc = tt })
-            (λ e. rw (getD-set-other size b d 0 0 e) (I .blocks d ld))
+        word-of d = ⊎-elim (λ e. rw (e .1)) (λ e. rw (e .1) (I .words d)) (set-cases size b 0 0 d (omega (arith, I .chains .sizes, in-range)))
 
         held-of : (c : Cell) → In c (bk .cells) → blockAt p (c .start) ≢ b → Held p (set size b 0) (set st b 0) c
         held-of c m ne =
@@ -436,70 +309,40 @@ module _ (p : Params) (B : Bounds p) where
 
   -- ---- the first cell of a block's chain is taken
 
-  module _ (free size st ms h : List ℕ) (sh : List (List ℕ)) (bk : Book) (I : Core p free size st ms h sh bk)
+  module _ (free size cells st ms h : List ℕ) (sh : List (List ℕ)) (bk : Book) (I : Core p free size cells st ms h sh bk)
       (b : ℕ) (lb : b < p .blocks) (occ : getD st b 0 ≢ 0) (x : ℕ) (l : List ℕ) (top : getD sh b [] ≡ x ∷ l) (hd : ℕ) where
-    here : BlockInv p h b (getD free b 0) (getD size b 0) (x ∷ l)
-    here = subst (λ (c : List ℕ). BlockInv p h b (getD free b 0) (getD size b 0) c) top (I .blocks b lb)
-
-    pub first-whole : Whole p b (getD size b 0) x
-    unfolding In
-    first-whole = here .cells x (inl refl)
-
-    pub first-head : getD free b 0 ≡ x
-    unfolding chainStands
-    first-head = here .stands .0
-
-    -- the link read is the rest's head
-    pub first-link : load p h x ≡ headD l 0
-    unfolding chainStands
-    first-link = stands-head h (load p h x) l (here .stands .1)
-
-    pub rest-cell : (y : ℕ) → In y l → Whole p b (getD size b 0) y
-    unfolding In
-    rest-cell y m = here .cells y (inr m)
-
-    rest-other : (y : ℕ) → In y l → x ≢ y
-    unfolding Pairwise
-    rest-other y m e = omega (arith, here .desc .0 y m, e)
+    -- the first cell
+    pub top-whole : Whole p b (getD size b 0) x
+    top-whole = first-whole p B free size cells h sh (I .chains) b lb x l top
 
     -- no held cell starts there
     pub not-held : (c : Cell) → In c (bk .cells) → x ≢ c .start
     unfolding In
     not-held c m e =
-        let at : blockAt p (c .start) ≡ b = ap (blockAt p) (sym e) ∙ whole-blockAt p B b _ x lb first-whole in
+        let at : blockAt p (c .start) ≡ b = ap (blockAt p) (sym e) ∙ whole-blockAt p B b _ x lb top-whole in
         I .off c m (subst (In (c .start)) (sym (ap (λ (d : ℕ). getD sh d []) at ∙ top)) (inl (sym e)))
 
     pub take-bytes : (c : Cell) → In c (bk .cells) → Mem.Same h (zeroed p h x (getD size b 0)) (c .start - p .base) (c .size)
     take-bytes c m =
         let H = I .held c m in
         Mem.same-zeroed p h x (getD size b 0) (c .start - p .base) (c .size)
-        (cells-apart b (getD size b 0) x (blockAt p (c .start)) (c .size) (c .start) lb (H .low) first-whole (H .whole)
+        (cells-apart p B b (getD size b 0) x (blockAt p (c .start)) (c .size) (c .start) lb (H .low) top-whole (H .whole)
         (λ e. ap (λ (d : ℕ). getD size d 0) e ∙ sym (H .size)) (not-held c m))
-
-    -- chains of other cells stay
-    zero-word : (d : ℕ) → d < p .blocks → (y : ℕ) → Whole p d (getD size d 0) y → x ≢ y → Mem.Same h (zeroed p h x (getD size b 0)) (y - p .base) 8
-    zero-word d ld y Y ne =
-        Mem.same-zeroed p h x (getD size b 0) (y - p .base) 8
-        (wide-apart b (getD size b 0) x d (getD size d 0) y lb ld first-whole Y (λ e. ap (λ (z : ℕ). getD size z 0) e) ne)
 
     -- the new cell
     abbrev pub new : Cell
     new = record { start = x; size = getD size b 0; holder = hd; old = false }
 
-    pub take-core : Core p (set free b (headD l 0)) size st ms (zeroed p h x (getD size b 0)) (set sh b l)
+    pub take-core : Core p (set free b (headD l 0)) size (set cells b (getD cells b 0 - 1)) st ms (zeroed p h x (getD size b 0)) (set sh b l)
         (record { cells = new ∷ bk .cells; places = bk .places })
-    unfolding In Pairwise chainStands
+    unfolding In Pairwise
     take-core =
         record {
-          heap = Mem.length-zeroed p h x (getD size b 0) ∙ I .heap;
-          free-length = length-set free b _ ∙ I .free-length;
-          sizes = I .sizes;
+          chains = take-chains p B free size cells h sh (I .chains) b lb x l top;
           states = I .states;
           markings = I .markings;
-          shadow = length-set sh b l ∙ I .shadow;
           bytes = I .bytes;
           words = I .words;
-          blocks = block-of;
           held = held-of;
           off = off-of;
           apart = ((λ c m. not-held c m), I .apart);
@@ -507,40 +350,15 @@ module _ (p : Params) (B : Bounds p) where
           places = I .places;
         }
       where
-        H : List ℕ
-        H = zeroed p h x (getD size b 0)
-
-        block-of : (d : ℕ) → d < p .blocks → BlockInv p H d (getD (set free b (headD l 0)) d 0) (getD size d 0) (getD (set sh b l) d [])
-        block-of d ld =
-            set-two free sh b (headD l 0) 0 l [] d (omega (arith, I .free-length)) (omega (arith, I .shadow))
-            (λ u v. BlockInv p H d u (getD size d 0) v)
-            (λ e. subst (λ (z : ℕ). BlockInv p H z (headD l 0) (getD size z 0) l) (sym e)
-            (record {
-              stands = stands-frame p h H (headD l 0) l (λ y m. zero-word b lb y (rest-cell y m) (rest-other y m))
-                  (subst (λ (v : ℕ). chainStands p h v l) first-link (here .stands .1));
-              cells = rest-cell;
-              desc = here .desc .1;
-            }))
-            (λ e.
-            let K = I .blocks d ld in
-            record {
-              stands = stands-frame p h H (getD free d 0) (getD sh d [])
-                  (λ y m. zero-word d ld y (K .cells y m)
-                  (λ q. e (sym (whole-blockAt p B d _ y ld (K .cells y m)) ∙ ap (blockAt p) (sym q) ∙ whole-blockAt p B b _ x lb first-whole)))
-                  (K .stands);
-              cells = K .cells;
-              desc = K .desc;
-            })
-
         at : blockAt p x ≡ b
-        at = whole-blockAt p B b _ x lb first-whole
+        at = whole-blockAt p B b _ x lb top-whole
 
         held-of : (c : Cell) → (c ≡ new) ⊎ In c (bk .cells) → Held p size st c
         held-of c (inl e) = subst (Held p size st) (sym e)
             (record {
               low = subst (λ (z : ℕ). z < p .blocks) (sym at) lb;
               occupied = subst (λ (z : ℕ). getD st z 0 ≢ 0) (sym at) occ;
-              whole = subst (λ (z : ℕ). Whole p z (getD size b 0) x) (sym at) first-whole;
+              whole = subst (λ (z : ℕ). Whole p z (getD size b 0) x) (sym at) top-whole;
               size = ap (λ (z : ℕ). getD size z 0) (sym at);
             })
         held-of c (inr m) = I .held c m
@@ -549,9 +367,9 @@ module _ (p : Params) (B : Bounds p) where
         shorter : (d y : ℕ) → In y (getD (set sh b l) d []) → In y (getD sh d []) × ((d ≡ b) → x ≢ y)
         shorter d y m = ⊎-elim
             (λ e. let m′ : In y l = subst (In y) (e .1) m in
-            (subst (In y) (sym (ap (λ (z : ℕ). getD sh z []) (e .0) ∙ top)) (inr m′), λ q. rest-other y m′))
+            (subst (In y) (sym (ap (λ (z : ℕ). getD sh z []) (e .0) ∙ top)) (inr m′), λ q. rest-other p B free size cells h sh (I .chains) b lb x l top y m′))
             (λ e. (subst (In y) (e .1) m, λ q. absurd (e .0 q)))
-            (set-cases sh b l [] d (omega (arith, I .shadow)))
+            (set-cases sh b l [] d (omega (arith, I .chains .shadow)))
 
         off-of : (c : Cell) → (c ≡ new) ⊎ In c (bk .cells) → In (c .start) (getD (set sh b l) (blockAt p (c .start)) []) → ⊥
         off-of c (inl e) k =

@@ -8,6 +8,7 @@ pub mod Finish
 pub mod Calls
 pub mod Counts
 pub mod Demand3
+pub mod Never
 pub mod Port
 pub mod SpanLaws
 pub mod Example

@@ -16,7 +16,7 @@ use Rattle.model.specs.declared.Refusal.the-variants.{BadSetup, BadTables, Wron
 use Rattle.model.specs.Base.{if_then_else_, In, Pairwise, member, eachBelow, flag}
 use Rattle.model.specs.Params.{start, blockAt, inHeap, minusLower, listWord, localSets, abandoned, inGc, available, unswept, consumed, bins}
 use Rattle.model.specs.Memory.{marked}
-use Rattle.model.specs.Tables.{Words, Tables, setFirst, setLast, setBound, setReleased, setPhase, withReleased, setFree, setSize, setNext, setPrev, setList, setTls}
+use Rattle.model.specs.Tables.{Words, Tables, setFirst, setLast, setBound, setReleased, setPhase, withReleased, setFree, setSize, setNext, setPrev, setList, setTls, setCells}
 use Rattle.model.specs.SizeClasses.{alignAllocation}
 use Rattle.model.specs.BlockList.{append, remove, relabel, link}
 use Rattle.model.specs.Block.{Marked, clearBlock}
@@ -33,8 +33,9 @@ use Rattle.laws.proofs.Marks.{marked-cleared, length-setMark, length-cleared, b
 use Rattle.laws.proofs.Frame.{LinksOnly, links-refl, append-links, remove-links, each-keeps, FirstsBut, link-list, append-first, append-none, relabel-keeps}
 use Rattle.laws.proofs.Walks.{releasedOne, blocks-keep-any, bins-keep-any, later-keeps-any}
 use Rattle.soundness.proofs.Owners.{unswept-numbered, abandon-links, abandon-framed, holder-framed, holder-empties, shared-framed}
-use Rattle.runs.proofs.Inv.{Held, Placed, Core, set-cases, release-core, release-unmarked}
-use Rattle.runs.proofs.Steps.{shadowEvent, shadowEvents, isTaken, EventOk, EventsOk, no-events, events-behind, behind}
+use Rattle.runs.proofs.Inv.{Held, Placed, Core, release-core, release-unmarked}
+use Rattle.soundness.proofs.Chains.{set-cases, shadowEvent, shadowEvents}
+use Rattle.runs.proofs.Steps.{isTaken, EventOk, EventsOk, no-events, events-behind, behind}
 use Rattle.runs.proofs.Search.{Settled, Idle, available-settled, consumed-settled, unswept-unsettled}
 
 -- no refusal has the number 0
@@ -109,7 +110,7 @@ refused-serves sharedRelease w r = tt
 
 module _ (p : Params) (B : Bounds p) where
   pub record Inv (t : Tables) (h : List ℕ) (sh : List (List ℕ)) (bk : Book) : Type 0 where
-    pub core : Core p (t .words .free) (t .words .size) (t .states) (t .marks) h sh bk
+    pub core : Core p (t .words .free) (t .words .size) (t .words .cells) (t .states) (t .marks) h sh bk
     pub sized : Sized (p .blocks) (t .words)
     -- a cell that is not old: no collection runs, and its block waits for no sweep
     pub young : (c : Cell) → In c (bk .cells) → c .old ≡ false
@@ -173,15 +174,11 @@ module _ (p : Params) (B : Bounds p) where
               record {
                 core =
                     record {
-                      heap = I .core .heap;
-                      free-length = I .core .free-length;
-                      sizes = I .core .sizes;
+                      chains = I .core .chains;
                       states = length-map (t .states) unmarkedState ∙ I .core .states;
                       markings = length-cleared (t .marks) ∙ I .core .markings;
-                      shadow = I .core .shadow;
                       bytes = bytes-cleared (t .marks);
                       words = I .core .words;
-                      blocks = I .core .blocks;
                       held = λ c m. held-of c (in-aged (bk .cells) c m);
                       off = λ c m k. off-of c (in-aged (bk .cells) c m) k;
                       apart = apart-aged (bk .cells) (I .core .apart);
@@ -261,15 +258,11 @@ module _ (p : Params) (B : Bounds p) where
           old-mark e =
               rw e (record {
                 core = record {
-                  heap = I .core .heap;
-                  free-length = I .core .free-length;
-                  sizes = I .core .sizes;
+                  chains = I .core .chains;
                   states = I .core .states;
                   markings = I .core .markings;
-                  shadow = I .core .shadow;
                   bytes = I .core .bytes;
                   words = I .core .words;
-                  blocks = I .core .blocks;
                   held = I .core .held;
                   off = I .core .off;
                   apart = I .core .apart;
@@ -292,15 +285,11 @@ module _ (p : Params) (B : Bounds p) where
           new-mark e =
               rw e (record {
                 core = record {
-                  heap = I .core .heap;
-                  free-length = I .core .free-length;
-                  sizes = I .core .sizes;
+                  chains = I .core .chains;
                   states = length-set (t .states) b Marked ∙ I .core .states;
                   markings = length-setMark p (t .marks) place ∙ I .core .markings;
-                  shadow = I .core .shadow;
                   bytes = bytes-setMark p (t .marks) place (I .core .bytes);
                   words = I .core .words;
-                  blocks = I .core .blocks;
                   held = λ c m. held-of c (I .core .held c m);
                   off = I .core .off;
                   apart = I .core .apart;
@@ -340,23 +329,23 @@ module _ (p : Params) (B : Bounds p) where
   -- the invariant on the way through a release
   pub record Freeing (hd : ℕ) (ms h : List ℕ) (sh : List (List ℕ)) (bk : Book) (f : Freed) : Type 0 where
     pub events : EventsOk p B hd (f .events) h bk
-    pub core : Core p (f .words .free) (f .words .size) (f .states) ms (eventsHeap p (f .events) h) (shadowEvents (f .events) sh) (bookEvents p hd (f .events) bk)
+    pub core : Core p (f .words .free) (f .words .size) (f .words .cells) (f .states) ms (eventsHeap p (f .events) h) (shadowEvents (f .events) sh) (bookEvents p hd (f .events) bk)
     pub sized : Sized (p .blocks) (f .words)
     pub old : (c : Cell) → In c (bookEvents p hd (f .events) bk .cells) → c .old ≡ true
 
   module _ (hd : ℕ) (ms : List ℕ) where
     -- a release frees out every cell of its block, all of them unmarked and old
-    released-ok : (free size st h : List ℕ) (sh : List (List ℕ)) (bk : Book) → Core p free size st ms h sh bk → (b : ℕ) → getD st b 0 ≡ 255
+    released-ok : (free size cells st h : List ℕ) (sh : List (List ℕ)) (bk : Book) → Core p free size cells st ms h sh bk → (b : ℕ) → getD st b 0 ≡ 255
         → ((c : Cell) → In c (bk .cells) → c .old ≡ true) → EventOk p B hd (released b) h bk
     unfolding eventHeap frees hits
-    released-ok free size st h sh bk I b un old =
+    released-ok free size cells st h sh bk I b un old =
         record {
           lost = λ c m. (both c m (ℕ-discrete (blockAt p (c .start)) b), λ s. old c m);
           bytes = λ c m out k v. refl;
         }
       where
         both : (c : Cell) → In c (bk .cells) → Dec (blockAt p (c .start) ≡ b) → eqb (blockAt p (c .start)) b ≡ (eqb (blockAt p (c .start)) b && unmarked p bk c)
-        both c m (yes e) = rw (eq-eqb _ _ e, release-unmarked p B free size st ms h sh bk I b un hd c m e)
+        both c m (yes e) = rw (eq-eqb _ _ e, release-unmarked p B free size cells st ms h sh bk I b un hd c m e)
         both c m (no f) = rw (ne-eqb _ _ f)
 
     -- cells that were old are old after a release
@@ -364,7 +353,7 @@ module _ (p : Params) (B : Bounds p) where
     unfolding bookEvent entered
     old-after b bk old c m = old c (in-filter (λ (x : Cell). not (frees p (released b) x)) c (bk .cells) m .0)
 
-    nothing-freed : (w : Words) (st h : List ℕ) (sh : List (List ℕ)) (bk : Book) → Core p (w .free) (w .size) st ms h sh bk → Sized (p .blocks) w
+    nothing-freed : (w : Words) (st h : List ℕ) (sh : List (List ℕ)) (bk : Book) → Core p (w .free) (w .size) (w .cells) st ms h sh bk → Sized (p .blocks) w
         → ((c : Cell) → In c (bk .cells) → c .old ≡ true) → Freeing hd ms h sh bk (freed w st)
     unfolding eventsHeap shadowEvents bookEvents
     nothing-freed w st h sh bk I z old = record { events = no-events p B hd h bk; core = I; sized = z; old = old }
@@ -373,13 +362,13 @@ module _ (p : Params) (B : Bounds p) where
 
     module _ (h : List ℕ) (sh : List (List ℕ)) (bk : Book) where
       one-freed : (l b : ℕ) (f : Freed) → Freeing hd ms h sh bk f → getD (f .states) b 0 ≡ 255 → Freeing hd ms h sh bk (releasedOne p l b f)
-      unfolding isTaken eventHeap shadowEvent clearBlock setTls setList setSize setFree setPrev setNext
+      unfolding isTaken eventHeap shadowEvent clearBlock setCells setTls setList setSize setFree setPrev setNext
       one-freed l b f F un =
           let L : LinksOnly (f .words) (remove p l b (f .words)) = remove-links p l b (f .words) (links-refl (f .words)) in
           record {
-            events = events-behind p B hd (f .events) (released b) h bk (F .events) refl (released-ok (f .words .free) (f .words .size) (f .states) _ _ _ (F .core) b un (F .old));
-            core = behind p B hd (Core p (R .free) (R .size) (set (f .states) b 0) ms) (f .events) (released b) h sh bk
-                (rw (L .free, L .size) (release-core p B (f .words .free) (f .words .size) (f .states) ms _ _ _ (F .core) b un hd));
+            events = events-behind p B hd (f .events) (released b) h bk (F .events) refl (released-ok (f .words .free) (f .words .size) (f .words .cells) (f .states) _ _ _ (F .core) b un (F .old));
+            core = behind p B hd (Core p (R .free) (R .size) (R .cells) (set (f .states) b 0) ms) (f .events) (released b) h sh bk
+                (rw (L .free, L .size, L .cells) (release-core p B (f .words .free) (f .words .size) (f .words .cells) (f .states) ms _ _ _ (F .core) b un hd));
             sized = sized-same (simp kept-lengths (L .lengths)) (F .sized);
             old = behind p B hd (λ g c k. (d : Cell) → In d (k .cells) → d .old ≡ true) (f .events) (released b) h sh bk (old-after b _ (F .old));
           }
@@ -396,7 +385,7 @@ module _ (p : Params) (B : Bounds p) where
           let L : LinksOnly (f .words) (append p l o (f .words)) = append-links p l o (f .words) (links-refl (f .words)) in
           record {
             events = F .events;
-            core = rw (L .free, L .size) (F .core);
+            core = rw (L .free, L .size, L .cells) (F .core);
             sized = sized-same (L .lengths) (F .sized);
             old = F .old;
           }
@@ -471,7 +460,7 @@ module _ (p : Params) (B : Bounds p) where
         record {
           events = no-events p B _ h bk;
           inv = record {
-            core = rw (L .links .free, L .links .size) (I .core);
+            core = rw (L .links .free, L .links .size, L .links .cells) (I .core);
             sized = sized-same (simp kept-lengths (L .links .lengths)) (I .sized);
             young = λ c m o. let y = I .young c m o in (L .links .phase ∙ y .0, L .steady _ (y .1));
             idle = L .idle;
@@ -487,6 +476,7 @@ module _ (p : Params) (B : Bounds p) where
   pub record Ended (w w′ : Words) : Type 0 where
     pub free : w′ .free ≡ w .free
     pub size : w′ .size ≡ w .size
+    pub cells : w′ .cells ≡ w .cells
     pub sized : Sized (p .blocks) w′
     pub idle : Idle w′
 
@@ -498,7 +488,7 @@ module _ (p : Params) (B : Bounds p) where
       w₁ = setReleased part 1 (setPhase 2 w)
 
       more : Ended w w₁
-      more = record { free = refl; size = refl; sized = sized-same (simp kept-lengths) z; idle = idle }
+      more = record { free = refl; size = refl; cells = refl; sized = sized-same (simp kept-lengths) z; idle = idle }
 
       last : Ended w (setPhase 0 (withReleased (replicate 9 0) (abandonBlocks p abandoned inGc w₁)))
       last =
@@ -507,7 +497,8 @@ module _ (p : Params) (B : Bounds p) where
           record {
             free = L .free;
             size = L .size;
-            sized = record { first = Z .first; last = Z .last; bound = Z .bound; released = refl; next = Z .next; prev = Z .prev; free = Z .free; size = Z .size; list = Z .list; tls = Z .tls };
+            cells = L .cells;
+            sized = record { first = Z .first; last = Z .last; bound = Z .bound; released = refl; next = Z .next; prev = Z .prev; free = Z .free; size = Z .size; list = Z .list; tls = Z .tls; cells = Z .cells };
             idle = λ j n lj ln.
                 let o : unswept (3 * j) n / 147 ≡ j = unswept-numbered j n (omega arith) ln .owner in
                 abandon-framed p 9 8 (omega arith) (omega arith) w₁ .first (unswept (3 * j) n) (omega arith) (omega arith) ∙ idle j n lj ln;
@@ -535,7 +526,7 @@ module _ (p : Params) (B : Bounds p) where
         record {
           events = F .events;
           inv = rw same (record {
-            core = rw (E .free, E .size) (F .core);
+            core = rw (E .free, E .size, E .cells) (F .core);
             sized = E .sized;
             young = λ d m o. absurd (not-both true refl (sym (F .old d m) ∙ o));
             idle = E .idle;
@@ -550,7 +541,7 @@ module _ (p : Params) (B : Bounds p) where
         part-planned (release d) d (releaseHolder p d (t .words) (t .states)) refl
         (record {
           events = F .events;
-          core = rw (L .free, L .size) (F .core);
+          core = rw (L .free, L .size, L .cells) (F .core);
           sized = sized-same (L .lengths) (F .sized);
           old = F .old;
         })

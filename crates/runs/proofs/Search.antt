@@ -13,7 +13,7 @@ use borrow.Author.Tests.{eqb-true}
 use Rattle.model.specs.declared.Params.{Params}
 use Rattle.model.specs.Base.{In}
 use Rattle.model.specs.Params.{start, blockAt, listWord, listOf, available, unswept, consumed, localSets}
-use Rattle.model.specs.Tables.{Words, setFree, setTls}
+use Rattle.model.specs.Tables.{Words, setFree, setTls, setCells}
 use Rattle.model.specs.SizeClasses.{cellBytes}
 use Rattle.model.specs.BlockList.{Popped, push, pop}
 use Rattle.model.specs.Block.{linkAll, sweepChain, sweptWords}
@@ -28,7 +28,8 @@ use Rattle.laws.proofs.Walks.{Files, Steps}
 use Rattle.soundness.proofs.Owners.{available-numbered, unswept-numbered, consumed-numbered}
 use Rattle.runs.proofs.Links.{Occupied, Linked, Loose, linked-same, loose-same, Pop, pop-cases, Pushed, push-pushed}
 use Rattle.runs.proofs.Inv.{Core, was-held, sweep-core, sweep-bytes, sweep-frees}
-use Rattle.runs.proofs.Steps.{shadowEvent, shadowEvents, isTaken, EventOk, EventsOk, events-behind, behind, same-bytes}
+use Rattle.soundness.proofs.Chains.{shadowEvent, shadowEvents}
+use Rattle.runs.proofs.Steps.{isTaken, EventOk, EventsOk, events-behind, behind, same-bytes}
 
 -- ---- list words
 
@@ -78,7 +79,7 @@ module _ (p : Params) (B : Bounds p) (st ms : List ℕ) (hd : ℕ) where
   pub record Searching (w : Words) (h : List ℕ) (sh : List (List ℕ)) (bk : Book) : Type 0 where
     pub linked : Linked p st w
     pub lengths : Sized (p .blocks) w
-    pub core : Core p (w .free) (w .size) st ms h sh bk
+    pub core : Core p (w .free) (w .size) (w .cells) st ms h sh bk
     pub young : Young w bk
     pub wide : (b : ℕ) → Occupied p st b → 8 ≤ getD (w .size) b 0
     -- a block has the cell size of the bin of its list
@@ -104,7 +105,7 @@ module _ (p : Params) (B : Bounds p) (st ms : List ℕ) (hd : ℕ) where
         record {
           linked = P .popping .linked;
           lengths = P .popping .lengths;
-          core = rw (L .free, L .size) (S .core);
+          core = rw (L .free, L .size, L .cells) (S .core);
           young = λ c m o. subst Settled (sym (P .popping .lists (blockAt p (c .start)))) (S .young c m o);
           wide = λ d od. rw (L .size) (S .wide d od);
           class = λ d od. rw (L .size) (S .class d od ∙ ap (λ (x : ℕ). cellBytes p (wordBin x)) (sym (P .popping .lists d)));
@@ -134,7 +135,7 @@ module _ (p : Params) (B : Bounds p) (st ms : List ℕ) (hd : ℕ) where
           record {
             linked = pushing .linked;
             lengths = pushing .lengths;
-            core = rw (pushed-links .free, pushed-links .size) (S .core);
+            core = rw (pushed-links .free, pushed-links .size, pushed-links .cells) (S .core);
             young = λ d m o. young-of d m o (ℕ-discrete (blockAt p (d .start)) b);
             wide = λ d od. rw (pushed-links .size) (S .wide d od);
             class = λ d od. rw (pushed-links .size) (class-of d od (ℕ-discrete d b));
@@ -191,13 +192,13 @@ module _ (p : Params) (B : Bounds p) (st ms : List ℕ) (hd : ℕ) where
 
       pub swept-searching :
           Searching (sweptWords p ms b w) (eventHeap p (sweepOf p ms b w) h) (shadowEvent (sweepOf p ms b w) sh) (bookEvent p hd (sweepOf p ms b w) bk)
-      unfolding sweptWords setFree eventHeap shadowEvent entered
+      unfolding sweptWords setFree setCells eventHeap shadowEvent entered
       swept-searching =
           record {
             linked = linked-same p st _ refl (S .linked);
             lengths = sized-same (simp kept-lengths) (S .lengths);
-            core = sweep-core p B (w .free) (w .size) st ms h sh bk (S .core) b (ob .0) chain (ob .1) (S .wide b ob) refl hd;
-            young = λ c m o. S .young c (was-held p B (w .free) (w .size) st ms h sh bk (S .core) b (ob .0) chain hd (sweepOf p ms b w) (λ cs. refl) c m .0) o;
+            core = sweep-core p B (w .free) (w .size) (w .cells) st ms h sh bk (S .core) b (ob .0) chain (ob .1) (S .wide b ob) refl hd;
+            young = λ c m o. S .young c (was-held p B (w .free) (w .size) (w .cells) st ms h sh bk (S .core) b (ob .0) chain hd (sweepOf p ms b w) (λ cs. refl) c m .0) o;
             wide = S .wide;
             class = S .class;
             idle = S .idle;
@@ -210,11 +211,11 @@ module _ (p : Params) (B : Bounds p) (st ms : List ℕ) (hd : ℕ) where
           record {
             lost = λ c m. (strike c m, λ s. aged c m (eqb-true _ _ (and-left (eqb (blockAt p (c .start)) b) _ (sym (strike c m) ∙ s))));
             bytes = λ c m out. same-bytes p B hd (w .size) st h (linkAll p chain h) c (S .core .held c m)
-                (sweep-bytes p B (w .free) (w .size) st ms h sh bk (S .core) b (ob .0) chain (ob .1) (S .wide b ob) refl hd c m out);
+                (sweep-bytes p B (w .free) (w .size) (w .cells) st ms h sh bk (S .core) b (ob .0) chain (ob .1) (S .wide b ob) refl hd c m out);
           }
         where
           strike : (c : Cell) → In c (bk .cells) → frees p (sweepOf p ms b w) c ≡ (hits p (sweepOf p ms b w) c && unmarked p bk c)
-          strike = sweep-frees p B (w .free) (w .size) st ms h sh bk (S .core) b (ob .0) chain (ob .1) (S .wide b ob) refl hd
+          strike = sweep-frees p B (w .free) (w .size) (w .cells) st ms h sh bk (S .core) b (ob .0) chain (ob .1) (S .wide b ob) refl hd
 
   -- ---- the search on its way: es happened so far
 
@@ -273,11 +274,11 @@ module _ (p : Params) (B : Bounds p) (st ms : List ℕ) (hd : ℕ) where
       tls-size w b v c = refl
 
       swept-size : (w : Words) (b c : ℕ) → getD (sweptWords p ms b w .size) c 0 ≡ getD (w .size) c 0
-      unfolding sweptWords setFree
+      unfolding sweptWords setFree setCells
       swept-size w b c = refl
 
       swept-loose : (w : Words) (b c : ℕ) → Loose p st w c → Loose p st (sweptWords p ms b w) c
-      unfolding sweptWords setFree
+      unfolding sweptWords setFree setCells
       swept-loose w b c L = loose-same p st _ refl L
 
       module _ (es : List Event) (w : Words) (G : Going es w) where

@@ -5,7 +5,6 @@ use mathlib.Core.Bool.{Bool, true, false, not, _&&_}
 use mathlib.Core.List.{List, [], _∷_, _++_}
 use Prim.Native.Nat.{ℕ, _-_}
 use native.Mathlib.Omega.{arith}
-use lib.ListN.{set}
 use borrow.Author.Tests.{not-true}
 use Rattle.model.specs.declared.Params.{Params}
 use Rattle.model.specs.Base.{In, any}
@@ -15,19 +14,8 @@ use Rattle.laws.proofs.Base.{filter-in, or-none-left, or-none-right, not-both}
 use Rattle.laws.proofs.Params.{Bounds}
 use Rattle.laws.proofs.Memory as Mem
 use Rattle.laws.proofs.Cells.{whole-from}
+use Rattle.soundness.proofs.Chains.{shadowEvent, shadowEvents}
 use Rattle.runs.proofs.Inv.{Held}
-
--- ---- the shadow
-
-unfoldable pub shadowEvent : Event → List (List ℕ) → List (List ℕ)
-shadowEvent (initialised b chain) sh = set sh b chain
-shadowEvent (swept b chain) sh = set sh b chain
-shadowEvent (released b) sh = set sh b []
-shadowEvent (taken a s) sh = sh
-
-unfoldable pub shadowEvents : List Event → List (List ℕ) → List (List ℕ)
-shadowEvents [] sh = sh
-shadowEvents (e ∷ es) sh = shadowEvents es (shadowEvent e sh)
 
 unfoldable pub isTaken : Event → Bool
 isTaken (initialised b chain) = false

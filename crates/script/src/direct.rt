@@ -10,26 +10,41 @@ use model::Address;
 use model::AllocAnswer;
 use model::BINS;
 use model::Block;
+use model::CellsAnswer;
 use model::MarkAnswer;
 use model::Offer;
 use model::PagesAnswer;
 use model::Params;
 use model::SETS;
 use native_ms::allocator::Request;
+use native_ms::free_counts;
 use native_ms::free_list_allocator;
 use native_ms::global;
 
+// The words of a `T` line that has the count too.
+const WITH_COUNT: usize = 9;
+
 // How many words stand behind a line's letter; where there is no such line, more than any line has.
-pub(crate) fn shape(letter: u8) -> usize {
+fn shape(letter: u8) -> usize {
     match letter {
         b'p' | b's' | b'D' | b'H' => 0,
-        b'b' | b'd' | b'r' | b'u' | b'n' | b't' => 1,
+        b'b' | b'd' | b'r' | b'u' | b'v' | b'n' | b't' => 1,
         b'm' | b'q' | b'w' => 2,
         b'g' | b'F' | b'G' => 3,
         b'a' => 5,
         b'T' => 8,
         _ => 100,
     }
+}
+
+// Whether a line of this letter may have so many words: a `T` line may have its count or not.
+pub(crate) fn has_form(letter: u8, count: usize) -> bool {
+    if letter == b'T' {
+        if count == WITH_COUNT {
+            return true;
+        }
+    }
+    count == shape(letter)
 }
 
 // `a h size align offset block`.
@@ -89,6 +104,14 @@ fn pages(p: Params, w: &[usize], set: usize) -> Reply {
     }
 }
 
+// `v bin`: the total free cells of the bin.
+fn free_cells(p: Params, w: &[usize], st: &[u8], marks: &[u8], heap: &[u8], bin: usize) -> Reply {
+    match free_counts::free_cells(p, w, st, marks, heap, bin) {
+        CellsAnswer::Refused(r) => Reply::Refused(r),
+        CellsAnswer::Cells(n) => Reply::One(n),
+    }
+}
+
 fn offer_of(form: u8, block: usize) -> Offer {
     if form == numbers::DASH {
         return Offer::Nothing;
@@ -114,6 +137,7 @@ fn space(
         b'r' => reply::of_release(global::release(p, w, st, marks, heap, v[0])),
         b's' => reply::of_release(global::shared_release(p, w, st, marks, heap)),
         b'u' => pages(p, w, v[0]),
+        b'v' => free_cells(p, w, st, marks, heap, v[0]),
         _ => Reply::Bad,
     }
 }
@@ -134,14 +158,13 @@ fn plain(
         b'q' => leaves::raised(p, v[0], v[1]),
         b'g' => leaves::aligned(p, v[0], v[1], v[2]),
         b'w' => loads::heap_word(p, heap, v[0], v[1]),
-        b'T' => loads::block(w, st, v),
         b'F' => loads::list(w, v[0], v[1], v[2]),
         b'G' => loads::phase(w, v[0], v[1], v[2]),
         _ => space(p, w, st, marks, heap, letter, v),
     }
 }
 
-// The answer to a line of one letter, its words taken apart.
+// The answer to a line of one letter, its words taken apart and counted.
 pub(crate) fn answer(
     p: Params,
     w: &mut [usize],
@@ -151,12 +174,16 @@ pub(crate) fn answer(
     letter: u8,
     v: &[usize; numbers::MOST_WORDS],
     form: u8,
+    count: usize,
 ) -> Reply {
     if letter == b'a' {
         if form == numbers::NEGATIVE {
             return Reply::Bad;
         }
         return alloc(p, w, st, marks, heap, v, offer_of(form, v[4]));
+    }
+    if letter == b'T' {
+        return loads::block(w, st, v, count == WITH_COUNT);
     }
     plain(p, w, st, marks, heap, letter, v)
 }

@@ -52,7 +52,8 @@ fn block(w: &[usize], st: &[u8], i: usize, o: &mut [u8; out::OUT], n: usize) -> 
     let g = out::word(o, f, tables::size(w, i));
     let h = out::word(o, g, tables::list(w, i));
     let k = out::word(o, h, tables::tls(w, i));
-    out::put(o, k, b'\n')
+    let l = out::word(o, k, tables::cells(w, i));
+    out::put(o, l, b'\n')
 }
 
 fn blocks(w: &[usize], st: &[u8], o: &mut [u8; out::OUT], n: usize) -> usize {

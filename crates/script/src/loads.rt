@@ -27,8 +27,13 @@ pub(crate) fn heap_word(p: Params, heap: &mut [u8], address: usize, value: usize
     Reply::Done
 }
 
-// `T block state next prev free size list tls`.
-pub(crate) fn block(w: &mut [usize], st: &mut [u8], v: &[usize; numbers::MOST_WORDS]) -> Reply {
+// `T block state next prev free size list tls count`; without its count the word is left as it stands.
+pub(crate) fn block(
+    w: &mut [usize],
+    st: &mut [u8],
+    v: &[usize; numbers::MOST_WORDS],
+    counted: bool,
+) -> Reply {
     let i = v[0];
     let state = v[1];
     if st.len() <= i {
@@ -44,6 +49,9 @@ pub(crate) fn block(w: &mut [usize], st: &mut [u8], v: &[usize; numbers::MOST_WO
     tables::set_size(w, i, v[5]);
     tables::set_list(w, i, v[6]);
     tables::set_tls(w, i, v[7]);
+    if counted {
+        tables::set_cells(w, i, v[8]);
+    }
     Reply::Done
 }
 

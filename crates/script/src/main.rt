@@ -142,7 +142,7 @@ fn ask(
     let letter = lines::byte(line, 0);
     let mut v = [0usize; numbers::MOST_WORDS];
     let f = numbers::words(line, 1, len, free_word(letter), &mut v);
-    if f.count != direct::shape(letter) {
+    if !direct::has_form(letter, f.count) {
         return tell(Reply::Bad, o, n);
     }
     if through::takes(via, letter) {
@@ -165,7 +165,7 @@ fn ask(
         };
     }
     tell(
-        direct::answer(p, w, st, marks, heap, letter, &v, f.form),
+        direct::answer(p, w, st, marks, heap, letter, &v, f.form, f.count),
         o,
         n,
     )

@@ -17,7 +17,7 @@ ghost use Prim.Native.Nat.{_≤_};
 // What is lent: 4 MiB of arena at most, and the tables of 1,024 blocks.
 pub(crate) const BLOCKS: usize = 1024;
 
-pub(crate) const TABLES: usize = 9102;
+pub(crate) const TABLES: usize = 10126;
 
 pub(crate) const MARKS: usize = 65536;
 

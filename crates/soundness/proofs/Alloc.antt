@@ -16,7 +16,7 @@ use Rattle.model.specs.declared.Offer.{Offer}
 use Rattle.model.specs.declared.Offer.the-variants.{Nothing, Fresh}
 use Rattle.model.specs.Base.{if_then_else_, In}
 use Rattle.model.specs.Params.{start, blockAt, listWord, localSets, abandoned, available, unswept, consumed}
-use Rattle.model.specs.Tables.{Words, Tables, tablesOf, withWords, setFirst, setLast, setNext, setPrev, setFree, setSize, setList, setTls}
+use Rattle.model.specs.Tables.{Words, Tables, tablesOf, withWords, setFirst, setLast, setNext, setPrev, setFree, setSize, setList, setTls, setCells}
 use Rattle.model.specs.SizeClasses.{cellBytes}
 use Rattle.model.specs.BlockList.{push, pop}
 use Rattle.model.specs.Block.{Unmarked, isCell, cellsDown, cellCount, keeps, sweepChain, sweptWords, initChain, initBlock}
@@ -36,7 +36,7 @@ use Rattle.laws.proofs.Walks.{Files, Steps, plain-steps, find-keeps}
 use Rattle.soundness.proofs.Lists.{Lists, AllOn, Off, OnSome, put, put-in, in-put, linksOf, Links, On, on-list, free-off, lists-same, first-none, first-some}
 use Rattle.soundness.proofs.Moves.{push-stays, push-lists, pop-off, pop-stays, pop-lists}
 use Rattle.soundness.proofs.SoundLists.{Fit, Good}
-use Rattle.soundness.proofs.Owners.{Numbered, available-numbered, unswept-numbered, consumed-numbered, Framed, framed-refl, framed-trans, Theirs, push-framed, pop-framed, free-framed, size-framed, tls-framed}
+use Rattle.soundness.proofs.Owners.{Numbered, available-numbered, unswept-numbered, consumed-numbered, Framed, framed-refl, framed-trans, Theirs, push-framed, pop-framed, free-framed, size-framed, tls-framed, cells-framed}
 use Rattle.soundness.proofs.GoodTables.{GoodTables, SameWords, links-words, fit-as, fit-same, clear-same}
 
 -- ---- a block out of all lists
@@ -51,26 +51,36 @@ record Out (p : Params) (t : Tables) (L : ℕ → List ℕ) (x : ℕ) : Type 0 w
   fit : (l b : ℕ) → l < 1470 → In b (L l) → Fit p t l b
   clear : (b : ℕ) → b < p .blocks → stateOf t b ≡ 0 → blockClear (t .words) b ≡ true
 
--- u differs from w in the free, size and tls words of x alone
+-- u differs from w in the free, size, tls and cells words of x alone
 pub record Tweaked (x : ℕ) (w u : Words) : Type 0 where
   pub links : linksOf u ≡ linksOf w
   pub words : (b : ℕ) → b ≢ x → SameWords w u b
 
--- a free head, a cell size, a holder stored into x
-pub tweak-free : (x v : ℕ) (w : Words) → Tweaked x w (setFree x v w)
-unfolding setFree
-tweak-free x v w = record { links = refl; words = λ b f. record { free = set-off (w .free) x v b f; size = refl; tls = refl } }
+-- a free head and a free count, a holder, what init gives stored into x
+pub tweak-free : (x v n : ℕ) (w : Words) → Tweaked x w (setCells x n (setFree x v w))
+unfolding setFree setCells
+tweak-free x v n w =
+    record {
+      links = refl;
+      words = λ b f. record { free = set-off (w .free) x v b f; size = refl; tls = refl; cells = set-off (w .cells) x n b f };
+    }
 
 pub tweak-tls : (x v : ℕ) (w : Words) → Tweaked x w (setTls x v w)
 unfolding setTls
-tweak-tls x v w = record { links = refl; words = λ b f. record { free = refl; size = refl; tls = set-off (w .tls) x v b f } }
+tweak-tls x v w = record { links = refl; words = λ b f. record { free = refl; size = refl; tls = set-off (w .tls) x v b f; cells = refl } }
 
 tweak-init : (p : Params) (x s h : ℕ) (w : Words) → Tweaked x w (initBlock p x s h w)
-unfolding initBlock setFree setSize setTls
+unfolding initBlock setFree setSize setTls setCells
 tweak-init p x s h w =
     record {
       links = refl;
-      words = λ b f. record { free = set-off (w .free) x _ b f; size = set-off (w .size) x s b f; tls = set-off (w .tls) x h b f };
+      words = λ b f.
+          record {
+            free = set-off (w .free) x _ b f;
+            size = set-off (w .size) x s b f;
+            tls = set-off (w .tls) x h b f;
+            cells = set-off (w .cells) x _ b f;
+          };
     }
 
 module _ (p : Params) (B : Bounds p) (st ms : List ℕ) where
@@ -249,14 +259,16 @@ module _ (p : Params) (B : Bounds p) (st ms : List ℕ) (h bin : ℕ) (lo : 1 �
 
   -- it is swept
   swept-taken : (w : Words) (l x : ℕ) → Taken l x w → Taken l x (sweptWords p ms x w) × (sweptWords p ms x w .tls ≡ w .tls)
-  unfolding sweptWords setFree sweepChain
+  unfolding sweptWords setFree setCells sweepChain
   swept-taken w l x T =
       let s : ℕ = getD (w .size) x 0 in
       let c : ℕ = headD (sweepChain p ms x s) 0 in
+      let n : ℕ = length (sweepChain p ms x s) in
+      let u : Words = setCells x n (setFree x c w) in
       let word : 8 ≤ s = T .fit .word in (
-        tweak-taken l x w (setFree x c w) T (tweak-free x c w) (free-framed x c w)
-            (fit-as p (tablesOf w st ms) (tablesOf (setFree x c w) st ms) l l x (T .fit) refl refl refl
-            (chain-link p (setFree x c w) x s _ (keeps p (marked p ms) s) word refl (set-at (w .free) x c (omega (arith, T .out .low, T .sized .free))))
+        tweak-taken l x w u T (tweak-free x c n w) (framed-trans (free-framed x c w) (cells-framed x n (setFree x c w)))
+            (fit-as p (tablesOf w st ms) (tablesOf u st ms) l l x (T .fit) refl refl refl
+            (chain-link p u x s _ (keeps p (marked p ms) s) word refl (set-at (w .free) x c (omega (arith, T .out .low, T .sized .free))))
             (T .fit .holder) (T .fit .local)),
         refl,
       )
@@ -328,7 +340,7 @@ if-map f false x y = refl
 
 -- a push reads and writes links alone, so init may come before it
 init-push : (p : Params) (b s h l : ℕ) (w : Words) → initBlock p b s h (push p l b w) ≡ push p l b (initBlock p b s h w)
-unfolding initBlock push setFirst setLast setNext setPrev setFree setSize setList setTls
+unfolding initBlock push setFirst setLast setNext setPrev setFree setSize setList setTls setCells
 init-push p b s h l w = if-map (initBlock p b s h) (eqb (getD (w .first) l 0) 0) _ _
 
 module _ (p : Params) (B : Bounds p) (st ms : List ℕ) (w : Words) (H : GoodTables p ms w st) (x : ℕ) (lx : x < p .blocks) (z : getD st x 0 ≡ 0) where
@@ -342,7 +354,7 @@ module _ (p : Params) (B : Bounds p) (st ms : List ℕ) (w : Words) (H : GoodTab
         lists = lists-same p (H .good .lists) refl (λ l b ll i q. on-list p (H .good .lists) l b ll i .occupied (sym (same b (ne l b ll i)) ∙ q));
         off = free-off p (H .good .lists) x z;
         on = λ b lb ob f. H .good .on b lb (λ q. ob (same b f ∙ q));
-        fit = λ l b ll i. fit-same p ms l b (same b (ne l b ll i)) (record { free = refl; size = refl; tls = refl }) (H .good .fit l b ll i);
+        fit = λ l b ll i. fit-same p ms l b (same b (ne l b ll i)) (record { free = refl; size = refl; tls = refl; cells = refl }) (H .good .fit l b ll i);
         clear = λ b lb q. unused b lb q (ℕ-discrete b x);
       }
     where
@@ -367,7 +379,7 @@ module _ (p : Params) (B : Bounds p) (st ms : List ℕ) (w : Words) (H : GoodTab
     N = my-available p B st ms h bin lo hi low w
 
     init-fit : Fit p (tablesOf (initBlock p x (cellBytes p bin) h w) (set st x Unmarked) ms) av x
-    unfolding initBlock initChain setFree setSize setTls stateKnown stateOf
+    unfolding initBlock initChain setFree setSize setTls setCells stateKnown stateOf
     init-fit =
         record {
           known = rw (set-at st x Unmarked (omega (arith, H .states))) refl;
@@ -391,7 +403,7 @@ module _ (p : Params) (B : Bounds p) (st ms : List ℕ) (w : Words) (H : GoodTab
     offer-framed =
         framed-trans (push-framed p (h - 1) 8 av x w (inl (N .owner)))
         (framed-trans (free-framed x _ _)
-        (framed-trans (size-framed x _ _) (tls-framed x h _)))
+        (framed-trans (size-framed x _ _) (framed-trans (tls-framed x h _) (cells-framed x _ _))))
 
     init-sized : Sized (p .blocks) (initBlock p x (cellBytes p bin) h w)
     unfolding initBlock
@@ -454,24 +466,24 @@ module _ (p : Params) (B : Bounds p) (t : Tables) (H : GoodTables p (t .marks) (
       find-keeps p h bin t (λ es w. Good′ w) (λ es a w. Good′ w) (steps p B (t .states) (t .marks) h bin lo hi low (t .words)) Ok offer
       (λ f e S. fresh-ok offer fine f S) (λ f e S. record { good = S .good; frame = S .frame }) (record { good = H; frame = framed-refl (t .words) })
 
--- ---- a cell is taken: the block's free head moves on
-pub take-good : (p : Params) (t : Tables) (L : ℕ → List ℕ) → Sized (p .blocks) (t .words) → Good p t L → (b v : ℕ)
-    → b < p .blocks → stateOf t b ≢ 0 → linkOk p (t .words) b v ≡ true → Good p (withWords (setFree b v (t .words)) t) L
-unfolding stateOf setFree linkOk
-take-good p t L Z G b v low ob ok =
+-- ---- a cell is taken: the block's free head moves on, and it has another free count
+pub take-good : (p : Params) (t : Tables) (L : ℕ → List ℕ) → Sized (p .blocks) (t .words) → Good p t L → (b v n : ℕ)
+    → b < p .blocks → stateOf t b ≢ 0 → linkOk p (t .words) b v ≡ true → Good p (withWords (setCells b n (setFree b v (t .words))) t) L
+unfolding stateOf setFree setCells linkOk
+take-good p t L Z G b v n low ob ok =
     record {
       lists = lists-same p (G .lists) refl (λ l d ll i. on-list p (G .lists) l d ll i .occupied);
       on = G .on;
       fit = λ l d ll i. fit l d (G .fit l d ll i) (ℕ-discrete d b);
       clear = λ d ld z.
           clear-same {st = t .states} d (record { occupied = λ o. o; next = refl; prev = refl; list = refl })
-          (tweak-free b v (t .words) .words d (λ q. ob (ap (λ (y : ℕ). getD (t .states) y 0) (sym q) ∙ z))) (G .clear d ld z);
+          (tweak-free b v n (t .words) .words d (λ q. ob (ap (λ (y : ℕ). getD (t .states) y 0) (sym q) ∙ z))) (G .clear d ld z);
     }
   where
     u : Words
-    u = setFree b v (t .words)
+    u = setCells b n (setFree b v (t .words))
 
     fit : (l d : ℕ) → Fit p t l d → Dec (d ≡ b) → Fit p (withWords u t) l d
-    fit l d F (no f) = fit-same p (t .marks) l d refl (tweak-free b v (t .words) .words d f) F
+    fit l d F (no f) = fit-same p (t .marks) l d refl (tweak-free b v n (t .words) .words d f) F
     fit l d F (yes e) =
         fit-as p t (withWords u t) l l d F refl refl refl (rw (e, set-at (t .words .free) b v (omega (arith, Z .free))) ok) (F .holder) (F .local)

@@ -4,7 +4,7 @@ use mathlib.Core.Path.{_≡_, refl, sym, ap, _∙_}
 use mathlib.Core.Bool.{Bool, true, false, not, _&&_, _||_}
 use mathlib.Core.List.{List, [], _∷_, _++_, headD}
 use Prim.Native.Nat.{ℕ, zero, suc, _+_, _*_, _/_}
-use lib.Dec.{eqb}
+use lib.Dec.{eqb, leb}
 use lib.ListN.{length, getD, set, replicate}
 use Rattle.model.specs.declared.Params.{Params}
 use Rattle.model.specs.declared.Row.{Row}
@@ -17,7 +17,7 @@ use Rattle.model.specs.Block.{Unallocated, Unmarked, cellCount, isCell, linkAll
 use Rattle.model.specs.Events.{Event, initialised, swept, released, taken, eventHeap, eventsHeap}
 use Rattle.model.specs.FreeListAllocator.{findFreeBlockWith, Found, found, after, sweepOf, filed, recycleLocalBlocks, acquireAbandoned}
 use Rattle.model.specs.Global.{Running, Releasing, abandonBin, abandonBlocks, abandonedBin, abandonedBelow, abandonedBlocks, Freed, freed, afterRelease, releaseFrom, releaseBlocks, appendTo, releaseBin, releaseHolder, sweepLaterBin, sweepLater, allReleased, partReleased, merged}
-use Rattle.model.specs.Sound.{stateOf, linkedFrom}
+use Rattle.model.specs.Sound.{stateOf, linkedFrom, chainCounts, chainOk, chained}
 
 -- the parameters with other rows
 abbrev pub otherRows : Params → List Row → ℕ → Params
@@ -215,3 +215,19 @@ module _ (p : Params) (rows : List Row) (count : ℕ) where
       if eqb a 0 then eqb (getD (t .words .last) l 0) before
       else (isStart p a && not (eqb (stateOf t b) Unallocated) && eqb (getD (t .words .list) b 0) (listWord l)
       && eqb (getD (t .words .prev) b 0) before && linkedFrom-same k i t l a (getD (t .words .next) b 0))
+
+  -- ---- and their chains
+
+  chainCounts-same : (k : ℕ) → chainCounts k q ≡ chainCounts k p
+  unfolding chainCounts isCell start load
+  chainCounts-same zero = refl
+  chainCounts-same (suc k) = λ i h b size a. isCell p b size a && chainCounts-same k i h b size (load p h a)
+
+  pub chained-same : chained q ≡ chained p
+  unfolding chained chainOk cellCount
+  chained-same = λ i t h.
+      let w : Words = t .words in
+      allBelow (p .blocks)
+      (λ b. eqb (stateOf t b) Unallocated
+      || (leb (getD (w .cells) b 0) (cellCount p (getD (w .size) b 0))
+      && chainCounts-same (getD (w .cells) b 0) i h b (getD (w .size) b 0) (getD (w .free) b 0)))

@@ -1,5 +1,5 @@
 -- Refused calls, computed on the machine, of which the theorems of Refused.antt and Released.antt speak: a mark out of its
--- phase, an alloc that is Exhausted after it has swept and moved a block, one that meets a bad link in a block that it took over;
+-- phase, an alloc that is Exhausted after it has swept and moved a block, one on tables with a bad chain;
 -- and a release that makes one block Unallocated, a destroy and a last release by which one block goes over.
 use Prim.Native.Nat.{ℕ, zero, suc}
 use native.Mathlib.Omega.{arith}
@@ -9,12 +9,12 @@ use lib.Count.{leadingZeros}
 use borrow.Author.Tests.{leb-true}
 use lib.ListN.{set, replicate}
 use Rattle.model.specs.declared.Params.{Params}
-use Rattle.model.specs.declared.Refusal.the-variants.{WrongPhase, BadLink, Exhausted}
+use Rattle.model.specs.declared.Refusal.the-variants.{BadTables, WrongPhase, Exhausted}
 use Rattle.model.specs.declared.Offer.the-variants.{Nothing, Fresh}
 use Rattle.model.specs.Base.{allBelow, anyBelow, member, filter, sumBelow, eachBelow, flag}
 use Rattle.model.specs.Params.{Lent, powerOfTwo, lowerOk, biased, plusLower, minusLower, heapBytes, heapEnd, goodParams, wordCount, fits, start, blockAt, inHeap, isStart, listOf, listWord, localSets, available, unswept, consumed}
 use Rattle.model.specs.Memory.{loadBytes, bytesOf, overwrite, load, store, zeroed, bitOf, setBit, markIndex, marked, setMark, cleared}
-use Rattle.model.specs.Tables.{Words, view, flat, setFirst, setLast, setBound, setReleased, setNext, setPrev, setFree, setSize, setList, setTls, setPhase, withReleased}
+use Rattle.model.specs.Tables.{Words, view, flat, setFirst, setLast, setBound, setReleased, setNext, setPrev, setFree, setSize, setList, setTls, setCells, setPhase, withReleased}
 use Rattle.model.specs.SizeClasses.{fours, classWords, classBytes, wordsIn, highestBit, binInOctave, miBin, binOf, cellBytes, raised, shift, alignAllocation}
 use Rattle.model.specs.Classes.{classesFit}
 use Rattle.model.specs.BlockList.{push, popHead, pop, removeBetween, remove, relabel, link, append, walk, blocksOn, appended}
@@ -22,11 +22,11 @@ use Rattle.model.specs.Block.{cellCount, isCell, cellsDown, linkAll, initChain,
 use Rattle.model.specs.Events.{eventHeap, eventsHeap, isSweep, isRelease, sweeps, releases}
 use Rattle.model.specs.FreeListAllocator.{findFreeBlockWith, recycleLocalBlocks, acquireAbandoned, acquireFresh, findBlock}
 use Rattle.model.specs.Global.{freshWords, freshTables, isHolder, isBound, bindHolder, abandonBin, abandonBlocks, abandonedBin, abandonedBelow, abandonedBlocks, destroyHolder, unmarkedState, prepared, markPlace, releaseFrom, releaseBlocks, appendTo, releaseBin, releaseHolder, sweepLaterBin, sweepLater, hasReleased, allReleased, partReleased, merged}
-use Rattle.model.specs.Sound.{stateOf, stateKnown, blockClear, listNamed, binNamed, setNamed, onListNamed, sizeOk, linkOk, tlsOk, blockSound, linkedFrom, linked, ownerEmpty, unboundEmpty, inGcEmpty, phaseKnown, flagsKnown, releasedFew, releasedSome, releasedEmpty, sound}
-use Rattle.model.specs.Calls.{Reply, Call, alloc, mark, release, Result, refusalNumber, goodRequest, tooBig, goodOffer, goodObject, mayRelease, andThen, phaseTest, bindTests, boundTests, requestTests, markTests, releaseTests, sharedTests, callTests, takePlan, releasePlan, planPassed, ifPassed, planSound, plan, takeCell, finish, step, refused, answered, call, setUp, destroy, sharedRelease, mayLeave, leaveTests}
+use Rattle.model.specs.Sound.{stateOf, stateKnown, blockClear, listNamed, binNamed, setNamed, onListNamed, sizeOk, linkOk, tlsOk, blockSound, linkedFrom, linked, ownerEmpty, unboundEmpty, inGcEmpty, phaseKnown, flagsKnown, releasedFew, releasedSome, releasedEmpty, sound, chainCounts, chainOk, chained}
+use Rattle.model.specs.Calls.{Reply, Call, alloc, mark, release, Result, refusalNumber, goodRequest, tooBig, goodOffer, goodObject, mayRelease, andThen, phaseTest, bindTests, boundTests, requestTests, markTests, releaseTests, sharedTests, callTests, takePlan, releasePlan, planPassed, ifPassed, planSound, plan, takeCell, finish, step, refused, answered, call, setUp, destroy, sharedRelease, mayLeave, leaveTests, freeCells, cellsOf, ask}
 use Rattle.model.specs.OwnRows.{withOwnRows, LowBins, OwnRows}
 use Rattle.model.specs.Census.{censusParams}
-use Rattle.model.specs.Refusals.{OfAlloc, KeptExhausted, KeptBadLink, RefusalKeeps, madeUnallocated, blocksOf, wentOver, CountsReleased, ReleasedCounts, DestroyedCounts}
+use Rattle.model.specs.Refusals.{OfAlloc, KeptExhausted, RefusalKeeps, madeUnallocated, blocksOf, wentOver, CountsReleased, ReleasedCounts, DestroyedCounts}
 use Rattle.soundness.proofs.Refused.{refusal-keeps}
 use Rattle.soundness.proofs.OwnRows.{own-rows}
 use Rattle.soundness.proofs.Released.{destroyed-counted, released-counted}
@@ -34,9 +34,14 @@ use Rattle.soundness.proofs.Released.{destroyed-counted, released-count
 abbrev p : Params
 p = censusParams
 
--- no byte of it is 0, so any link in it is bad
+-- every byte of it is 0, so that a chain in it has one cell
 pub heap₀ : List ℕ
-heap₀ = replicate 16384 255
+heap₀ = replicate 16384 0
+
+-- the cell at 27648 holds its own address
+pub ring : List ℕ
+unfolding heap₀
+ring = set heap₀ 11265 108
 
 -- no marks, and one at each of the four cells of 1,024 bytes of block 2
 pub noMarks : List ℕ
@@ -46,9 +51,9 @@ pub allMarked : List ℕ
 unfolding noMarks
 allMarked = set (set (set (set noMarks 128 1) 144 1) 160 1) 176 1
 
--- holders 1 and 2 are bound, and block 2, the only one in use, is on the list l with this free head and holder
-pub standing : ℕ → ℕ → ℕ → ℕ → Words
-standing l phase free tls =
+-- holders 1 and 2 are bound, and block 2, the only one in use, is on the list l with this free head, free count and holder
+pub standing : ℕ → ℕ → ℕ → ℕ → ℕ → Words
+standing l phase free cells tls =
     record {
       first = set (replicate 1470 0) l 24576;
       last = set (replicate 1470 0) l 24576;
@@ -61,25 +66,30 @@ standing l phase free tls =
       size = 0 ∷ 0 ∷ 1024 ∷ 0 ∷ [];
       list = 0 ∷ 0 ∷ listWord l ∷ 0 ∷ [];
       tls = 0 ∷ 0 ∷ tls ∷ 0 ∷ [];
+      cells = 0 ∷ 0 ∷ cells ∷ 0 ∷ [];
     }
 
 -- all that is lent, with this state byte of block 2
+pub lentOn : List ℕ → Words → ℕ → List ℕ → Lent
+lentOn h w s m = record { words = flat w; states = 0 ∷ 0 ∷ s ∷ 0 ∷ []; marks = m; heap = h }
+
 pub lent : Words → ℕ → List ℕ → Lent
-lent w s m = record { words = flat w; states = 0 ∷ 0 ∷ s ∷ 0 ∷ []; marks = m; heap = heap₀ }
+unfolding lentOn heap₀
+lent w s m = lentOn heap₀ w s m
 
 -- holder 2 asks for a cell of block 2's class, and nothing is offered
-abbrev ask : Call
-ask = alloc 2 1024 8 0 Nothing
+abbrev wants : Call
+wants = alloc 2 1024 8 0 Nothing
 
 -- who opens `machine` opens all that its line names
 machine : Params
-unfolding leadingZeros allBelow anyBelow member filter eachBelow flag powerOfTwo lowerOk biased plusLower minusLower heapBytes heapEnd goodParams wordCount fits start blockAt inHeap isStart listOf listWord localSets available unswept consumed loadBytes bytesOf overwrite load store zeroed bitOf setBit markIndex marked setMark cleared view flat setFirst setLast setBound setReleased setNext setPrev setFree setSize setList setTls setPhase withReleased fours classWords classBytes wordsIn highestBit binInOctave miBin binOf cellBytes classesFit raised shift alignAllocation push pop popHead removeBetween remove relabel link append walk blocksOn cellCount isCell cellsDown headD linkAll initChain initBlock simple keeps sweepChain sweptWords clearBlock eventHeap eventsHeap isSweep isRelease sweeps releases findFreeBlockWith recycleLocalBlocks acquireAbandoned acquireFresh findBlock freshWords freshTables isHolder isBound bindHolder abandonBin abandonBlocks destroyHolder unmarkedState prepared markPlace releaseFrom releaseBlocks appendTo releaseBin releaseHolder sweepLaterBin sweepLater hasReleased allReleased partReleased stateOf stateKnown blockClear listNamed binNamed setNamed onListNamed sizeOk linkOk tlsOk blockSound linkedFrom linked ownerEmpty unboundEmpty inGcEmpty phaseKnown flagsKnown releasedFew releasedSome releasedEmpty sound refusalNumber goodRequest tooBig goodOffer goodObject mayRelease andThen phaseTest bindTests boundTests requestTests markTests releaseTests sharedTests callTests takePlan releasePlan planPassed ifPassed planSound plan takeCell finish step call setUp censusParams heap₀ noMarks allMarked standing lent sumBelow appended abandonedBin abandonedBelow abandonedBlocks merged mayLeave leaveTests
+unfolding leadingZeros allBelow anyBelow member filter eachBelow flag powerOfTwo lowerOk biased plusLower minusLower heapBytes heapEnd goodParams wordCount fits start blockAt inHeap isStart listOf listWord localSets available unswept consumed loadBytes bytesOf overwrite load store zeroed bitOf setBit markIndex marked setMark cleared view flat setFirst setLast setBound setReleased setNext setPrev setFree setSize setList setTls setCells setPhase withReleased fours classWords classBytes wordsIn highestBit binInOctave miBin binOf cellBytes classesFit raised shift alignAllocation push pop popHead removeBetween remove relabel link append walk blocksOn cellCount isCell cellsDown headD linkAll initChain initBlock simple keeps sweepChain sweptWords clearBlock eventHeap eventsHeap isSweep isRelease sweeps releases findFreeBlockWith recycleLocalBlocks acquireAbandoned acquireFresh findBlock freshWords freshTables isHolder isBound bindHolder abandonBin abandonBlocks destroyHolder unmarkedState prepared markPlace releaseFrom releaseBlocks appendTo releaseBin releaseHolder sweepLaterBin sweepLater hasReleased allReleased partReleased stateOf stateKnown blockClear listNamed binNamed setNamed onListNamed sizeOk linkOk tlsOk blockSound linkedFrom linked ownerEmpty unboundEmpty inGcEmpty phaseKnown flagsKnown releasedFew releasedSome releasedEmpty sound chainCounts chainOk chained refusalNumber goodRequest tooBig goodOffer goodObject mayRelease andThen phaseTest bindTests boundTests requestTests markTests releaseTests sharedTests callTests takePlan releasePlan planPassed ifPassed planSound plan takeCell finish step call setUp censusParams heap₀ ring noMarks allMarked standing lentOn lent sumBelow appended abandonedBin abandonedBelow abandonedBlocks merged mayLeave leaveTests cellsOf ask
 machine = censusParams
 
 -- ---- a mark in Running, of a block on the available list (24) of holder 1: nothing changes
 
 abbrev idle : Lent
-idle = lent (standing 24 0 27648 1) 255 noMarks
+idle = lent (standing 24 0 27648 1 1) 255 noMarks
 
 pub mark-refused : call p idle (mark 27648 2) .reply ≡ refused WrongPhase
 unfolding machine
@@ -89,45 +99,53 @@ pub mark-changes-nothing : call p idle (mark 27648 2) .lent ≡ idle
 unfolding RefusalKeeps refusalNumber
 mark-changes-nothing =
     let n : call p idle (mark 27648 2) .reply .number ≡ 3 = ap (λ (r : Reply). r .number) mark-refused in
-    refusal-keeps p idle (mark 27648 2) (λ z. omega (arith, sym n ∙ z)) .nothing (λ z. omega (arith, sym n ∙ z)) (λ z. omega (arith, sym n ∙ z))
+    refusal-keeps p idle (mark 27648 2) (λ z. omega (arith, sym n ∙ z)) .nothing (λ z. omega (arith, sym n ∙ z))
 
 -- ---- Exhausted: block 2 is abandoned and unswept (1249), all its cells are marked. It is swept, and moved to the consumed list
 -- (269) of holder 2
 
 abbrev full : Lent
-full = lent (standing 1249 0 27648 1) 254 allMarked
+full = lent (standing 1249 0 27648 1 1) 254 allMarked
 
-pub exhausted : call p full ask ≡ record { reply = refused Exhausted; lent = lent (standing 269 0 0 2) 254 allMarked }
+pub exhausted : call p full wants ≡ record { reply = refused Exhausted; lent = lent (standing 269 0 0 0 2) 254 allMarked }
 unfolding machine
 exhausted = refl
 
-pub exhausted-keeps : KeptExhausted p 2 (binOf p (raised p 1024 8)) full (call p full ask .lent)
+pub exhausted-keeps : KeptExhausted p 2 (binOf p (raised p 1024 8)) full (call p full wants .lent)
 unfolding RefusalKeeps OfAlloc refusalNumber
 exhausted-keeps =
-    let n : call p full ask .reply .number ≡ 9 = ap (λ (r : Result). r .reply .number) exhausted in
-    refusal-keeps p full ask (λ z. omega (arith, sym n ∙ z)) .exhausted n
+    let n : call p full wants .reply .number ≡ 9 = ap (λ (r : Result). r .reply .number) exhausted in
+    refusal-keeps p full wants (λ z. omega (arith, sym n ∙ z)) .exhausted n
 
--- ---- BadLink: block 2 is abandoned and available (1200), and what stands at its free head is no link. It is moved to the
--- available list (171) of holder 2, with that head
+-- ---- R-7. A bad link is BadTables, and nothing changes: block 2 is available to holder 2 (171), and its chain is a ring
 
 abbrev spoilt : Lent
-spoilt = lent (standing 1200 0 27648 1) 255 noMarks
+spoilt = lentOn ring (standing 171 0 27648 1 2) 255 noMarks
 
-pub bad-link : call p spoilt ask ≡ record { reply = refused BadLink; lent = lent (standing 171 0 27648 2) 255 noMarks }
+pub ring-refused : call p spoilt wants .reply ≡ refused BadTables
 unfolding machine
-bad-link = refl
+ring-refused = refl
 
-pub bad-link-keeps : KeptBadLink p 2 (binOf p (raised p 1024 8)) spoilt (call p spoilt ask .lent)
-unfolding RefusalKeeps OfAlloc refusalNumber
-bad-link-keeps =
-    let n : call p spoilt ask .reply .number ≡ 8 = ap (λ (r : Result). r .reply .number) bad-link in
-    refusal-keeps p spoilt ask (λ z. omega (arith, sym n ∙ z)) .badLink n
+pub ring-changes-nothing : call p spoilt wants .lent ≡ spoilt
+unfolding RefusalKeeps refusalNumber
+ring-changes-nothing =
+    let n : call p spoilt wants .reply .number ≡ 2 = ap (λ (r : Reply). r .number) ring-refused in
+    refusal-keeps p spoilt wants (λ z. omega (arith, sym n ∙ z)) .nothing (λ z. omega (arith, sym n ∙ z))
+
+-- ---- asked for bin 24, that of 1,024 bytes, the total is 1: block 2 has one free cell
+
+abbrev single : Lent
+single = lent (standing 171 0 27648 1 2) 255 noMarks
+
+pub one-free : ask p single (freeCells 24) ≡ answered (1 ∷ [])
+unfolding machine
+one-free = refl
 
 -- ---- a release in Marking of holder 1, whose block 2 is Unmarked: one block, by the answer and by the state bytes. It is not the
 -- last, and merges none
 
 abbrev unmarked : Lent
-unmarked = lent (standing 24 1 27648 1) 255 noMarks
+unmarked = lent (standing 24 1 27648 1 1) 255 noMarks
 
 pub one-released : call p unmarked (release 1) .reply ≡ answered (1 ∷ 0 ∷ [])
 unfolding machine
@@ -145,7 +163,7 @@ unfolding machine
 one-left = refl
 
 abbrev kept : Lent
-kept = lent (standing 73 0 27648 1) 254 noMarks
+kept = lent (standing 73 0 27648 1 1) 254 noMarks
 
 pub unswept-left : call p kept (destroy 1) .reply ≡ answered (1 ∷ [])
 unfolding machine
@@ -161,7 +179,7 @@ left-counted =
 -- ---- the shared release is the last: both holders have released, and block 2 waits in in-gc, unswept (1396)
 
 abbrev waiting : Lent
-waiting = lent (withReleased (0 ∷ 1 ∷ 1 ∷ 0 ∷ 0 ∷ 0 ∷ 0 ∷ 0 ∷ 0 ∷ []) (standing 1396 2 27648 1)) 254 noMarks
+waiting = lent (withReleased (0 ∷ 1 ∷ 1 ∷ 0 ∷ 0 ∷ 0 ∷ 0 ∷ 0 ∷ 0 ∷ []) (standing 1396 2 27648 1 1)) 254 noMarks
 
 pub one-merged : call p waiting sharedRelease .reply ≡ answered (0 ∷ 1 ∷ [])
 unfolding machine

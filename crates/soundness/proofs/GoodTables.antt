@@ -12,7 +12,7 @@ use Rattle.model.specs.Tables.{Words, Tables, tablesOf}
 use Rattle.model.specs.SizeClasses.{cellBytes}
 use Rattle.model.specs.Global.{isHolder}
 use Rattle.model.specs.Sound.{stateOf, stateKnown, linkOk, blockClear}
-use Rattle.laws.proofs.Below.{and-left, and-five}
+use Rattle.laws.proofs.Below.{and-left, and-right, and-five}
 use Rattle.laws.proofs.Tables.{Sized}
 use Rattle.laws.proofs.Frame.{LinksOnly}
 use Rattle.soundness.proofs.Lists.{Same}
@@ -30,6 +30,7 @@ pub record SameWords (w w′ : Words) (b : ℕ) : Type 0 where
   pub free : getD (w′ .free) b 0 ≡ getD (w .free) b 0
   pub size : getD (w′ .size) b 0 ≡ getD (w .size) b 0
   pub tls : getD (w′ .tls) b 0 ≡ getD (w .tls) b 0
+  pub cells : getD (w′ .cells) b 0 ≡ getD (w .cells) b 0
 
 -- list operations leave them
 pub links-words : {w w′ : Words} → LinksOnly w w′ → (b : ℕ) → SameWords w w′ b
@@ -38,6 +39,7 @@ links-words K b =
       free = ap (λ (x : List ℕ). getD x b 0) (K .free);
       size = ap (λ (x : List ℕ). getD x b 0) (K .size);
       tls = ap (λ (x : List ℕ). getD x b 0) (K .tls);
+      cells = ap (λ (x : List ℕ). getD x b 0) (K .cells);
     }
 
 -- b, which fits the list l in t, fits the list m of the same bin in u
@@ -80,10 +82,11 @@ fit-same p ms l b es S F = fit-moves p ms l l b es S refl (λ z. refl) F
 -- a block stays clear where its words stay
 pub clear-same : {st : List ℕ} {w w′ : Words} (b : ℕ) → Same st st w w′ b → SameWords w w′ b → blockClear w b ≡ true → blockClear w′ b ≡ true
 unfolding blockClear
-clear-same b S T c = rw (S .next, S .prev, S .list, T .free, T .size, T .tls) c
+clear-same b S T c = rw (S .next, S .prev, S .list, T .free, T .size, T .tls, T .cells) c
 
--- the free head and the cell size of a clear block are 0
-pub clear-words : (w : Words) (b : ℕ) → blockClear w b ≡ true → (getD (w .free) b 0 ≡ 0) × (getD (w .size) b 0 ≡ 0)
+-- the free head, the cell size and the free count of a clear block are 0
+pub clear-words : (w : Words) (b : ℕ) → blockClear w b ≡ true
+    → (getD (w .free) b 0 ≡ 0) × (getD (w .size) b 0 ≡ 0) × (getD (w .cells) b 0 ≡ 0)
 unfolding blockClear
 clear-words w b e =
     let n = eqb (getD (w .next) b 0) 0 in
@@ -91,5 +94,6 @@ clear-words w b e =
     let f = eqb (getD (w .free) b 0) 0 in
     let s = eqb (getD (w .size) b 0) 0 in
     let l = eqb (getD (w .list) b 0) 0 in
-    let h = and-five n r f s l (and-left (n && r && f && s && l) _ e) in
-    (eqb-true _ _ (h .2), eqb-true _ _ (h .3))
+    let t = eqb (getD (w .tls) b 0) 0 in
+    let h = and-five n r f s l (and-left (n && r && f && s && l) t (and-left (n && r && f && s && l && t) _ e)) in
+    (eqb-true _ _ (h .2), eqb-true _ _ (h .3), eqb-true _ _ (and-right (n && r && f && s && l && t) _ e))

@@ -1,42 +1,47 @@
--- Every call keeps tables sound, and set-up makes sound ones. So from set-up on no call is refused BadTables. Assumes nothing.
+-- Every call keeps tables sound, chains and free counts too, and set-up makes sound ones. Assumes nothing.
 use mathlib.Core.Path.{_≡_, refl, sym, ap, _∙_, subst}
 use mathlib.Core.Logic.{_≢_, inl, inr, ⊎-elim}
-use mathlib.Core.Bool.{Bool, true, not, _&&_}
-use mathlib.Core.List.{List, []}
+use mathlib.Core.Bool.{Bool, true, false, not, _&&_}
+use mathlib.Core.List.{List, [], _∷_, headD}
 use Prim.Native.Nat.{ℕ, _+_, _-_, _*_, _%_, _<_, _≤_}
 use native.Mathlib.Omega.{arith}
 use lib.Dec.{eqb, ltb, leb}
 use lib.ListN.{getD, set, length, length-set, length-map, replicate, length-replicate}
-use lib.Seq.{set-getD, set-out}
-use native.Mathlib.Decide.{ℕ-discrete}
-use borrow.Author.Tests.{eq-eqb, eqb-true}
+use borrow.Author.Tests.{eq-eqb}
 use Rattle.model.specs.declared.Params.{Params}
 use Rattle.model.specs.declared.Offer.{Offer}
 use Rattle.model.specs.declared.Tested.the-variants.{Passed}
-use Rattle.model.specs.Params.{wordCount, inHeap, start, minusLower, lists, localSets}
-use Rattle.model.specs.Tables.{Words, Tables, withWords, setBound, setReleased, withReleased, setPhase, setFree}
+use Rattle.model.specs.Base.{In}
+use Rattle.model.specs.Params.{wordCount, heapBytes, inHeap, start, minusLower, lists, localSets, abandoned}
+use Rattle.model.specs.Tables.{Words, Tables, withWords, setBound, setReleased, withReleased, setPhase, setFree, setCells}
 use Rattle.model.specs.Global.{Running, isHolder, isBound, unmarkedState, freshWords, freshTables, bindHolder, destroyHolder, prepared, markPlace, allReleased, hasReleased, releaseHolder, sweepLater, partReleased}
-use Rattle.model.specs.Memory.{marked}
-use Rattle.model.specs.Sound.{stateOf, linkOk, ownerEmpty, unboundEmpty, inGcEmpty, phaseKnown, flagsKnown, releasedFew, releasedSome, releasedEmpty, sound}
+use Rattle.model.specs.Memory.{load, zeroed, marked}
+use Rattle.model.specs.Sound.{stateOf, linkOk, ownerEmpty, unboundEmpty, inGcEmpty, phaseKnown, flagsKnown, releasedFew, releasedSome, releasedEmpty, sound, chained, soundOn}
 use Rattle.model.specs.BlockList.{blocksOn}
 use Rattle.model.specs.SizeClasses.{binOf, cellBytes, raised}
 use Rattle.model.specs.Classes.{classesFit}
-use Rattle.model.specs.Block.{isCell}
-use Rattle.model.specs.Events.{Event}
+use Rattle.model.specs.Events.{Event, eventHeap, eventsHeap}
 use Rattle.model.specs.FreeListAllocator.{findBlock}
-use Rattle.model.specs.Calls.{goodOffer, takePlan, goodObject, releasePlan, callTests, planPassed, Call, bind, destroy, alloc, prepare, mark, release, sharedRelease, End, says, takes, Plan, plan, planSound, Step, takeCell, finish, step}
-use Rattle.laws.proofs.Base.{and-left, and-right, if-cases, if-false, or-cases}
+use Rattle.model.specs.Calls.{changes, goodOffer, takePlan, goodObject, releasePlan, callTests, planPassed, Call, bind, destroy, alloc, prepare, mark, release, sharedRelease, End, says, takes, Plan, plan, planSound, Step, takeCell, finish, step, Result, tablesIn, lentOf, call}
+use Rattle.model.specs.Refusals.{SoundKept}
+use Rattle.laws.proofs.Base.{and-left, and-right, if-cases, if-false, or-left, or-right, bool-cases, below-all}
+use Rattle.laws.proofs.Memory.{getD-zeros}
 use Rattle.laws.proofs.Classes.{chosen, fits-raised}
+use Rattle.laws.proofs.Cells.{Whole, whole-isCell}
 use Rattle.laws.proofs.Below.{true-not-false, and-both}
-use Rattle.laws.proofs.Params.{Bounds}
-use Rattle.laws.proofs.Tests.{phase-passed, bind-passed, leave-passed, alloc-passed, mark-passed, release-passed, plan-cases}
-use Rattle.laws.proofs.Tables.{Sized, sized-same, kept-lengths, sized-view, lengths-setBound, lengths-setFree, by-lt}
+use Rattle.laws.proofs.Params.{Bounds, good-bounds}
+use Rattle.laws.proofs.Lent.{Fitting, fitting, lent-tables}
+use Rattle.laws.proofs.Tests.{Asked, phase-passed, bind-passed, leave-passed, alloc-passed, mark-passed, release-passed, plan-cases}
+use Rattle.laws.proofs.Tables.{Sized, sized-same, kept-lengths, sized-view, lengths-setBound}
 use Rattle.soundness.proofs.SoundLists.{Good, sound-good, good-blocks, good-linked}
-use Rattle.soundness.proofs.Owners.{holder-framed, holder-empties, shared-framed}
+use Rattle.soundness.proofs.Owners.{abandon-links, holder-framed, holder-empties, shared-framed}
 use Rattle.soundness.proofs.Flags.{Flags, sound-flags, bind-flags, prepare-flags, destroy-flags, same-flags, released-flags, bound-at}
 use Rattle.soundness.proofs.GoodTables.{GoodTables, clear-words}
 use Rattle.soundness.proofs.Release.{abandon-good, holder-good, shared-good}
 use Rattle.soundness.proofs.Alloc.{find-served, take-good}
+use Rattle.soundness.proofs.Chains.{shadowEvents, Chains, first-whole, first-head, first-link, rest-cell, take-chains}
+use Rattle.soundness.proofs.Chained.{shadowOf, chains-found, chained-by}
+use Rattle.soundness.proofs.ChainPlans.{Top, EndsOn, After, find-after, take-ends, holder-after, shared-after}
 use Rattle.soundness.proofs.Simple.{rowsOf, good-stays, same-states, bind-good, prepare-good, mark-good, fresh-good, fresh-flags}
 
 module _ (p : Params) (B : Bounds p) where
@@ -58,7 +63,7 @@ module _ (p : Params) (B : Bounds p) where
   unfolding freshTables freshWords wordCount
   fresh-kept =
       record {
-        sized = sized-view (p .blocks) (replicate (2958 + 6 * p .blocks) 0) (length-replicate (2958 + 6 * p .blocks) 0);
+        sized = sized-view (p .blocks) (replicate (2958 + 7 * p .blocks) 0) (length-replicate (2958 + 7 * p .blocks) 0);
         states = length-replicate (p .blocks) 0;
         passes = good-sound (freshTables p) (λ l. []) (fresh-good p) (fresh-flags p);
       }
@@ -75,7 +80,7 @@ module _ (p : Params) (B : Bounds p) where
       (λ e.
       let A = abandon-good p B ms 8 9 (omega arith) (omega arith) (omega arith) (omega arith) st w₁ H₁ in
       let S = A .sized in
-      still-good _ refl (record { first = S .first; last = S .last; bound = S .bound; released = refl; next = S .next; prev = S .prev; free = S .free; size = S .size; list = S .list; tls = S .tls }) A)
+      still-good _ refl (record { first = S .first; last = S .last; bound = S .bound; released = refl; next = S .next; prev = S .prev; free = S .free; size = S .size; list = S .list; tls = S .tls; cells = S .cells }) A)
       (λ e. H₁)
     where
       w₁ : Words
@@ -169,58 +174,85 @@ module _ (p : Params) (B : Bounds p) where
 
   -- ---- the end of a call: the cell taken
 
-  free-flags : (w : Words) (b v : ℕ) → Flags w → Flags (setFree b v w)
-  unfolding setFree unboundEmpty inGcEmpty phaseKnown flagsKnown releasedFew releasedSome releasedEmpty ownerEmpty isBound hasReleased allReleased
-  free-flags w b v F =
+  free-flags : (w : Words) (b v n : ℕ) → Flags w → Flags (setCells b n (setFree b v w))
+  unfolding setFree setCells unboundEmpty inGcEmpty phaseKnown flagsKnown releasedFew releasedSome releasedEmpty ownerEmpty isBound hasReleased allReleased
+  free-flags w b v n F =
       record { unbound = F .unbound; in-gc = F .in-gc; phase = F .phase; flags = F .flags; few = F .few; some = F .some; empty = F .empty }
 
-  -- a block of no size has no cell, so its link is 0
-  no-cell : (w : Words) (b v : ℕ) → getD (w .size) b 0 ≡ 0 → linkOk p w b v ≡ true → v ≡ 0
-  unfolding linkOk isCell
-  no-cell w b v e q = ⊎-elim (λ z. eqb-true v 0 z) (λ z. absurd (true-not-false (sym (rw e at z)))) (or-cases (eqb v 0) (isCell p b (getD (w .size) b 0) v) q)
+  -- the head of what is left of a chain is a good link
+  head-good : (w : Words) (b : ℕ) (l : List ℕ) → ((y : ℕ) → In y l → Whole p b (getD (w .size) b 0) y) → linkOk p w b (headD l 0) ≡ true
+  unfolding linkOk headD In
+  head-good w b [] f = refl
+  head-good w b (y ∷ l) f = or-right (eqb y 0) (whole-isCell p b (getD (w .size) b 0) y (f y (inl refl)))
 
-  -- the head of any block is set to a link that is good for it
-  take-any : (t : Tables) (L : ℕ → List ℕ) → Sized (p .blocks) (t .words) → Good p t L → (b v : ℕ) → linkOk p (t .words) b v ≡ true
-      → Good p (withWords (setFree b v (t .words)) t) L
-  unfolding setFree stateOf
-  take-any t L Z G b v q = by-lt b (p .blocks) inside outside
-    where
-      w : Words
-      w = t .words
+  module _ (t : Tables) (h : List ℕ) (sh : List (List ℕ)) (K : Kept t) (C : Chains p (t .words .free) (t .words .size) (t .words .cells) h sh)
+      (b : ℕ) (T : Top p sh b) where
+    abbrev w : Words
+    w = t .words
 
-      still : set (w .free) b v ≡ w .free → Good p (withWords (setFree b v w) t) L
-      still e = rw e G
+    whole : Whole p b (getD (w .size) b 0) (T .cell)
+    whole = first-whole p B (w .free) (w .size) (w .cells) h sh C b (T .low) (T .cell) (T .rest) (T .is)
 
-      inside : b < p .blocks → Good p (withWords (setFree b v w) t) L
-      inside low = go (ℕ-discrete (getD (t .states) b 0) 0)
-        where
-          go : Dec (getD (t .states) b 0 ≡ 0) → Good p (withWords (setFree b v w) t) L
-          go (yes z) =
-              let C = clear-words w b (G .clear b low z) in
-              still (ap (set (w .free) b) (no-cell w b v (C .1) q ∙ sym (C .0)) ∙ set-getD (w .free) b 0)
-          go (no o) = take-good p t L Z G b v low o q
+    -- the link read at the free head
+    link-is : load p h (getD (w .free) b 0) ≡ headD (T .rest) 0
+    link-is =
+        ap (load p h) (first-head p B (w .free) (w .size) (w .cells) h sh C b (T .low) (T .cell) (T .rest) (T .is))
+        ∙ first-link p B (w .free) (w .size) (w .cells) h sh C b (T .low) (T .cell) (T .rest) (T .is)
 
-      outside : p .blocks ≤ b → Good p (withWords (setFree b v w) t) L
-      outside far = still (set-out (w .free) b v (omega (arith, Z .free)))
+    link-good : linkOk p w b (load p h (getD (w .free) b 0)) ≡ true
+    link-good = rw link-is (head-good w b (T .rest) (rest-cell p B (w .free) (w .size) (w .cells) h sh C b (T .low) (T .cell) (T .rest) (T .is)))
 
-  finish-kept : (t : Tables) (es : List Event) (h : List ℕ) (e : End) → Kept t → Kept (finish p t es h e .tables)
-  unfolding finish takeCell
-  finish-kept t es h (says r) K = K
-  finish-kept t es h (takes b align offset fresh) K =
-      if-cases (λ (x : Step). Kept (x .tables)) (linkOk p (t .words) b _)
-      (λ e.
-      record {
-        sized = sized-same (lengths-setFree b _ (t .words)) (K .sized);
-        states = K .states;
-        passes = good-sound _ _ (take-any t _ (K .sized) (sound-good p B t (K .passes)) b _ e) (free-flags (t .words) b _ (sound-flags p t (K .passes)));
-      })
-      (λ e. K)
+    -- a block that has cells is in use
+    in-use : stateOf t b ≢ 0
+    in-use z = absurd (omega (arith, whole .word, clear-words w b (sound-good p B t (K .passes) .clear b (T .low) z) .1))
+
+    take-kept : (n : ℕ) → Kept (withWords (setCells b n (setFree b (load p h (getD (w .free) b 0)) w)) t)
+    take-kept n =
+        record {
+          sized = sized-same (simp kept-lengths) (K .sized);
+          states = K .states;
+          passes = good-sound _ _ (take-good p t _ (K .sized) (sound-good p B t (K .passes)) b _ n (T .low) in-use link-good)
+              (free-flags w b _ n (sound-flags p t (K .passes)));
+        }
+
+    take-after : Chains p (set (w .free) b (load p h (getD (w .free) b 0))) (w .size) (set (w .cells) b (getD (w .cells) b 0 - 1))
+        (zeroed p h (getD (w .free) b 0) (getD (w .size) b 0)) (set sh b (T .rest))
+    take-after =
+        rw (link-is, first-head p B (w .free) (w .size) (w .cells) h sh C b (T .low) (T .cell) (T .rest) (T .is))
+        (take-chains p B (w .free) (w .size) (w .cells) h sh C b (T .low) (T .cell) (T .rest) (T .is))
+
+  -- tables that a call finds and leaves, with their heap
+  pub record Sound (t : Tables) (h : List ℕ) : Type 0 where
+    pub kept : Kept t
+    pub shadow : List (List ℕ)
+    pub chains : Chains p (t .words .free) (t .words .size) (t .words .cells) h shadow
+
+  finish-sound : (t : Tables) (es : List Event) (h : List ℕ) (sh : List (List ℕ)) (e : End) → Kept t
+      → Chains p (t .words .free) (t .words .size) (t .words .cells) h sh → EndsOn p sh e → Sound (finish p t es h e .tables) (finish p t es h e .heap)
+  unfolding finish takeCell EndsOn setFree setCells eventHeap
+  finish-sound t es h sh (says r) K C E = record { kept = K; shadow = sh; chains = C }
+  finish-sound t es h sh (takes b align offset fresh) K C T =
+      record { kept = take-kept t h sh K C b T _; shadow = set sh b (T .rest); chains = take-after t h sh K C b T }
 
   -- ---- every call
 
-  module _ (rows : classesFit p ≡ true) (t : Tables) (K : Kept t) where
-    abbrev Leaves : Plan → Type 0
-    Leaves q = Kept (q .tables)
+  module _ (rows : classesFit p ≡ true) (t : Tables) (h : List ℕ) (S : Sound t h) where
+    K : Kept t
+    K = S .kept
+
+    abbrev ws : Words
+    ws = t .words
+
+    -- what a plan leaves, before its end
+    record Leaves (q : Plan) : Type 0 where
+      kept : Kept (q .tables)
+      chains : After p B h (S .shadow) (q .events) (q .tables .words)
+      ends : EndsOn p (shadowEvents (q .events) (S .shadow)) (q .end)
+
+    -- chains of words that have the same heads, sizes and counts
+    leaves : (u : Tables) (vs : List ℕ) → Kept u → (u .words .free ≡ ws .free) × (u .words .size ≡ ws .size) × (u .words .cells ≡ ws .cells) → Leaves (changes u vs)
+    unfolding EndsOn eventsHeap shadowEvents
+    leaves u vs k e = record { kept = k; chains = rw (e .0, e .1, e .2) (S .chains); ends = tt }
 
     object-occupied : (place b : ℕ) → goodObject p t place b ≡ true → stateOf t b ≢ 0
     unfolding goodObject
@@ -231,22 +263,111 @@ module _ (p : Params) (B : Bounds p) where
         let E : Bool = leb (start p b) (minusLower p place) && ltb (minusLower p place) (start p b + p .bytes) in
         true-not-false (sym (and-right C D (and-right A (C && D) (and-left (A && (C && D)) E e))) ∙ ap not (eq-eqb _ _ z))
 
-    passed-kept : (c : Call) → callTests p t c ≡ Passed → Leaves (planPassed p t c)
-    unfolding callTests planPassed takePlan
-    passed-kept (bind h) e = let b = bind-passed (t .words) h e in bind-kept t K h (b .0) (b .1)
-    passed-kept (destroy h) e = let b = leave-passed (t .words) h e in destroy-kept t K h (b .0) (b .1)
-    passed-kept (alloc h size align offset offer) e =
-        let a = alloc-passed p t h size align offset offer e in
-        let n = chosen p B rows (raised p size align) (fits-raised p size align (a .small)) in
-        find-kept t K h (binOf p (raised p size align)) offer (a .running) (a .bound) (n .from) (omega (arith, n .to)) (n .word) (a .offered)
-    passed-kept prepare e = prepare-kept t K (phase-passed (t .words) Running e)
-    passed-kept (mark place b) e = mark-kept t K place b (object-occupied place b (mark-passed p t place b e .1))
-    passed-kept (release h) e = release-kept t K h (release-passed (t .words) h e .1)
-    passed-kept sharedRelease e = shared-kept t K
+    bind-same : (d : ℕ) → (bindHolder d t .words .free ≡ ws .free) × (bindHolder d t .words .size ≡ ws .size) × (bindHolder d t .words .cells ≡ ws .cells)
+    unfolding bindHolder setBound
+    bind-same d = (refl, refl, refl)
 
-    plan-kept : (c : Call) → Leaves (planSound p t c)
-    plan-kept c = plan-cases Leaves p t c (λ r b. K) (λ e. passed-kept c e)
+    destroy-same : (d : ℕ) → (destroyHolder p d t .words .free ≡ ws .free) × (destroyHolder p d t .words .size ≡ ws .size) × (destroyHolder p d t .words .cells ≡ ws .cells)
+    unfolding destroyHolder setBound
+    destroy-same d = let L = abandon-links p abandoned (localSets d) ws in (L .free, L .size, L .cells)
 
-  pub step-kept : classesFit p ≡ true → (t : Tables) (h : List ℕ) (c : Call) → Kept t → Kept (step p t h c .tables)
+    prepare-same : (prepared t .words .free ≡ ws .free) × (prepared t .words .size ≡ ws .size) × (prepared t .words .cells ≡ ws .cells)
+    unfolding prepared setPhase
+    prepare-same = (refl, refl, refl)
+
+    mark-same : (place b : ℕ) → (markPlace p place b t .words .free ≡ ws .free) × (markPlace p place b t .words .size ≡ ws .size) × (markPlace p place b t .words .cells ≡ ws .cells)
+    unfolding markPlace
+    mark-same place b =
+        if-cases (λ (u : Tables). (u .words .free ≡ ws .free) × (u .words .size ≡ ws .size) × (u .words .cells ≡ ws .cells)) (marked p (t .marks) place)
+        (λ e. (refl, refl, refl)) (λ e. (refl, refl, refl))
+
+    -- the search of an alloc
+    alloc-leaves : (d size align offset : ℕ) (offer : Offer) → Asked p t d size align offset offer
+        → Leaves (takePlan p align offset (findBlock p d (binOf p (raised p size align)) offer t))
+    unfolding takePlan
+    alloc-leaves d size align offset offer a =
+        let P = bound-at ws d (a .bound) in
+        let f = fits-raised p size align (a .small) in
+        let n = chosen p B rows (raised p size align) f in
+        let bin : ℕ = binOf p (raised p size align) in
+        let lb : bin < 49 = omega (arith, n .to) in
+        let F = find-after p B h (S .shadow) t (H t K) (S .chains) d bin (P .low) (P .high) lb (n .word) (n .room) offer (a .offered) in
+        record {
+          kept = find-kept t K d bin offer (a .running) (a .bound) (n .from) lb (n .word) (a .offered);
+          chains = F .chains;
+          ends = take-ends p B h (S .shadow) t (H t K) (S .chains) d bin (P .low) (P .high) lb (n .word) (n .room) align offset _ F;
+        }
+
+    passed-leaves : (c : Call) → callTests p t c ≡ Passed → Leaves (planPassed p t c)
+    unfolding callTests planPassed releasePlan EndsOn
+    passed-leaves (bind d) e = let b = bind-passed ws d e in leaves (bindHolder d t) [] (bind-kept t K d (b .0) (b .1)) (bind-same d)
+    passed-leaves (destroy d) e = let b = leave-passed ws d e in leaves (destroyHolder p d t) _ (destroy-kept t K d (b .0) (b .1)) (destroy-same d)
+    passed-leaves (alloc d size align offset offer) e = alloc-leaves d size align offset offer (alloc-passed p t d size align offset offer e)
+    passed-leaves prepare e = leaves (prepared t) [] (prepare-kept t K (phase-passed ws Running e)) prepare-same
+    passed-leaves (mark place b) e =
+        leaves (markPlace p place b t) _ (mark-kept t K place b (object-occupied place b (mark-passed p t place b e .1))) (mark-same place b)
+    passed-leaves (release d) e =
+        record { kept = release-kept t K d (release-passed ws d e .1); chains = holder-after p B h (S .shadow) t (K .states) (S .chains) d; ends = tt }
+    passed-leaves sharedRelease e =
+        record { kept = shared-kept t K; chains = shared-after p B h (S .shadow) t (K .states) (S .chains); ends = tt }
+
+    plan-leaves : (c : Call) → Leaves (planSound p t c)
+    unfolding EndsOn eventsHeap shadowEvents
+    plan-leaves c = plan-cases Leaves p t c (λ r b. record { kept = K; chains = S .chains; ends = tt }) (λ e. passed-leaves c e)
+
+  -- the test of chains, and what it finds
+  pub kept-sound : (t : Tables) (h : List ℕ) → Kept t → length h ≡ heapBytes p → chained p t h ≡ true → Sound t h
+  kept-sound t h K len e = record { kept = K; shadow = shadowOf p h (t .words); chains = chains-found p B t h (K .passes) e (K .sized) len }
+
+  -- set-up makes sound tables, whatever the heap holds
+  fresh-chained : (h : List ℕ) → chained p (freshTables p) h ≡ true
+  unfolding chained stateOf freshTables
+  fresh-chained h = below-all (p .blocks) _ (λ b low. or-left _ (eq-eqb _ _ (getD-zeros (p .blocks) b)))
+
+  pub fresh-sound : (h : List ℕ) → length h ≡ heapBytes p → Sound (freshTables p) h
+  fresh-sound h len = kept-sound (freshTables p) h fresh-kept len (fresh-chained h)
+
+  pub sound-on : (t : Tables) (h : List ℕ) → Sound t h → soundOn p t h ≡ true
+  sound-on t h S = and-both (S .kept .passes) (chained-by p B t h (S .shadow) (S .chains))
+
+  -- a call on sound tables and heap leaves them so
+  pub step-sound : classesFit p ≡ true → (t : Tables) (h : List ℕ) (c : Call) → Sound t h → Sound (step p t h c .tables) (step p t h c .heap)
   unfolding step plan
-  step-kept rows t h c K = rw (K .passes, plan) (finish-kept _ _ _ _ (plan-kept rows t K c))
+  step-sound rows t h c S =
+      let L = plan-leaves rows t h S c in
+      rw (S .kept .passes, chained-by p B t h (S .shadow) (S .chains)) (finish-sound _ _ _ _ _ (L .kept) (L .chains) (L .ends))
+
+  -- and one on tables that are sound but for their chains changes nothing
+  pub step-kept : classesFit p ≡ true → (t : Tables) (h : List ℕ) (c : Call) → length h ≡ heapBytes p → Kept t → Kept (step p t h c .tables)
+  unfolding step plan finish
+  step-kept rows t h c len K =
+      ⊎-elim (λ e. step-sound rows t h c (kept-sound t h K len e) .kept) (λ e. let no : soundOn p t h ≡ false = ap (λ (b : Bool). b && chained p t h) (K .passes) ∙ e in rw no K) (bool-cases (chained p t h))
+
+pub sound-kept : SoundKept
+unfolding SoundKept call wordCount
+sound-kept p l c fit ok =
+    rw fit (if-cases (λ (r : Result). soundOn p (tablesIn (r .lent)) (r .lent .heap) ≡ true) (classesFit p) served (λ k. ok))
+  where
+    F : Fitting p l
+    F = fitting p l fit
+
+    B : Bounds p
+    B = good-bounds p (F .good)
+
+    t : Tables
+    t = tablesIn l
+
+    K : Kept p B t
+    K = record {
+      sized = sized-view (p .blocks) (l .words) (F .words);
+      states = F .states;
+      passes = and-left (sound p t) (chained p t (l .heap)) ok;
+    }
+
+    S : Sound p B t (l .heap)
+    S = kept-sound p B t (l .heap) K (F .heap) (and-right (sound p t) (chained p t (l .heap)) ok)
+
+    served : classesFit p ≡ true → let s : Step = step p t (l .heap) c in soundOn p (tablesIn (lentOf (s .tables) (s .heap))) (s .heap) ≡ true
+    served rows =
+        let T : Sound p B (step p t (l .heap) c .tables) (step p t (l .heap) c .heap) = step-sound p B rows t (l .heap) c S in
+        rw (lent-tables (p .blocks) (step p t (l .heap) c .tables) (step p t (l .heap) c .heap) (T .kept .sized)) (sound-on p B _ _ T)

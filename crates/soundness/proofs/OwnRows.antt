@@ -29,17 +29,17 @@ use Rattle.model.specs.OwnRows.{ownRow, withOwnRows, LowBins, OwnRows}
 use Rattle.model.specs.BlockList.{Popped, push, pagesUsed, pagesEnd}
 use Rattle.model.specs.Block.{Unallocated, Unmarked, cellCount, isCell, initChain, initBlock}
 use Rattle.model.specs.Events.{Event, initialised, taken, eventHeap, eventsHeap, sweeps, releases}
-use Rattle.model.specs.FreeListAllocator.{Found, found, andThen, Search, inFound, acquireFresh, findBlock}
+use Rattle.model.specs.FreeListAllocator.{Found, found, followedBy, Search, inFound, acquireFresh, findBlock}
 use Rattle.model.specs.Global.{freshWords, freshTables, bindHolder, abandonBlocks, abandonedBlocks, destroyHolder, prepared, markPlace, Freed, releaseHolder, sweepLater, partReleased, merged}
-use Rattle.model.specs.Sound.{stateOf, stateKnown, blockClear, binNamed, listNamed, onListNamed, sizeOk, linkOk, tlsOk, blockSound, linked, unboundEmpty, inGcEmpty, phaseKnown, flagsKnown, releasedFew, releasedSome, releasedEmpty, sound}
-use Rattle.model.specs.Calls.{Reply, answered, refused, Call, bind, destroy, alloc, prepare, mark, release, sharedRelease, End, says, takes, Plan, refuses, goodRequest, tooBig, goodOffer, goodObject, callTests, requestTests, markTests, takePlan, releasePlan, planPassed, ifPassed, planSound, plan, Step, takeCell, finish, carried, step, Result, tablesIn, lentOf, resultFrom, badSetup, badClasses, call, setUp, pages}
+use Rattle.model.specs.Sound.{stateOf, stateKnown, blockClear, binNamed, listNamed, onListNamed, sizeOk, linkOk, tlsOk, blockSound, linked, unboundEmpty, inGcEmpty, phaseKnown, flagsKnown, releasedFew, releasedSome, releasedEmpty, sound, soundOn}
+use Rattle.model.specs.Calls.{Reply, answered, refused, Call, bind, destroy, alloc, prepare, mark, release, sharedRelease, End, says, takes, Plan, refuses, goodRequest, tooBig, goodOffer, goodObject, callTests, requestTests, markTests, takePlan, releasePlan, planPassed, ifPassed, planSound, plan, Step, takeCell, finish, carried, step, Result, tablesIn, lentOf, resultFrom, badSetup, badClasses, call, setUp, pages, Question, freeCells, cellsOf, ask}
 use Rattle.laws.proofs.Base.{if-true, if-false, if-cases}
 use Rattle.laws.proofs.Below.{test, allBelow-at, allBelow-from, allBelow-off}
 use Rattle.laws.proofs.Params.{Bounds, good-bounds}
 use Rattle.laws.proofs.Classes.{mi-chosen, fits-raised}
 use Rattle.laws.proofs.Lent.{fits-parts}
 use Rattle.laws.proofs.Tests.{alloc-passed}
-use Rattle.soundness.proofs.Elsewhere.{blocksOn-same, pagesUsed-same, pagesEnd-same, eventHeap-same, eventsHeap-same, findFree-same, recycle-same, abandoned-same, abandonBlocks-same, abandonedBlocks-same, releaseHolder-same, sweepLater-same, partReleased-same, merged-same, linkedFrom-same}
+use Rattle.soundness.proofs.Elsewhere.{blocksOn-same, pagesUsed-same, pagesEnd-same, eventHeap-same, eventsHeap-same, findFree-same, recycle-same, abandoned-same, abandonBlocks-same, abandonedBlocks-same, releaseHolder-same, sweepLater-same, partReleased-same, merged-same, linkedFrom-same, chained-same}
 use Rattle.soundness.proofs.OwnTable.{own-fit, own-bin, own-cell, own-low}
 
 module _ (p : Params) where
@@ -115,6 +115,11 @@ module _ (p : Params) where
           && (releasedFew (t .words) && releasedSome (t .words))
           && releasedEmpty (t .words)
 
+      sound-on-same : (t : Tables) (h : List ℕ) → ((b : ℕ) → b < p .blocks → stateOf t b ≢ 0 → binNamed (t .words) b ≤ n)
+          → soundOn q t h ≡ soundOn p t h
+      unfolding withOwnRows
+      sound-on-same t h low = λ i. sound-same t low i && chained-same p rs n i t h
+
       -- ---- the search, for a bin of the table
 
       fresh-same : (h bin : ℕ) (offer : Offer) → cellBytes q bin ≡ cellBytes p bin → acquireFresh q h bin offer ≡ acquireFresh p h bin offer
@@ -133,7 +138,7 @@ module _ (p : Params) where
           let owner : ℕ = localSets h in
           let g : Popped = findFree-same p rs n (p .blocks) i (available owner bin) (consumed owner bin) (t .words) in
           let f : Found = recycle-same p rs n (p .blocks) i (t .marks) owner bin (g .words) in
-          let a : Found = andThen f (abandoned-same p rs n (p .blocks) i (t .marks) h bin (f .words)) in
+          let a : Found = followedBy f (abandoned-same p rs n (p .blocks) i (t .marks) h bin (f .words)) in
           if eqb (g .at) 0
           then (if eqb (f .at) 0 then (if eqb (a .at) 0 then fresh-same h bin offer e i a t else inFound a t)
           else inFound f t)
@@ -201,16 +206,17 @@ module _ (p : Params) where
       planned-same t c Passed e = passed-same t c e
       planned-same t c (Refused r) e = refl
 
-      plan-same : (t : Tables) (c : Call) → ((b : ℕ) → b < p .blocks → stateOf t b ≢ 0 → binNamed (t .words) b ≤ n) → plan q t c ≡ plan p t c
+      plan-same : (t : Tables) (h : List ℕ) (c : Call) → ((b : ℕ) → b < p .blocks → stateOf t b ≢ 0 → binNamed (t .words) b ≤ n)
+          → plan q t h c ≡ plan p t h c
       unfolding plan planSound
-      plan-same t c low =
-          (λ i. if sound-same t low i then ifPassed (tests-same t c i) t (planPassed q t c) else refuses t BadTables)
-          ∙ ap (λ (x : Plan). if sound p t then x else refuses t BadTables) (planned-same t c (callTests p t c) refl)
+      plan-same t h c low =
+          (λ i. if sound-on-same t h low i then ifPassed (tests-same t c i) t (planPassed q t c) else refuses t BadTables)
+          ∙ ap (λ (x : Plan). if soundOn p t h then x else refuses t BadTables) (planned-same t c (callTests p t c) refl)
 
       -- ---- the end of a call
 
       end-same : (t : Tables) (es : List Event) (h : List ℕ) (e : End) → finish q t es h e ≡ finish p t es h e
-      unfolding finish takeCell linkOk isCell start load zeroed eventHeap withOwnRows
+      unfolding finish takeCell load zeroed eventHeap withOwnRows
       end-same t es h (says r) = refl
       end-same t es h (takes b align offset fresh) = refl
 
@@ -218,9 +224,9 @@ module _ (p : Params) where
           → step q t h c ≡ step p t h c
       unfolding step finish withOwnRows
       step-same t h c low =
-          ap (carried q h) (plan-same t c low)
-          ∙ ap (λ (x : List ℕ). finish q (plan p t c .tables) (plan p t c .events) x (plan p t c .end)) (eventsHeap-same p rs n (plan p t c .events) h)
-          ∙ end-same (plan p t c .tables) (plan p t c .events) (eventsHeap p (plan p t c .events) h) (plan p t c .end)
+          ap (carried q h) (plan-same t h c low)
+          ∙ ap (λ (x : List ℕ). finish q (plan p t h c .tables) (plan p t h c .events) x (plan p t h c .end)) (eventsHeap-same p rs n (plan p t h c .events) h)
+          ∙ end-same (plan p t h c .tables) (plan p t h c .events) (eventsHeap p (plan p t h c .events) h) (plan p t h c .end)
 
     -- ---- the calls
 
@@ -250,6 +256,10 @@ module _ (p : Params) where
             rw (fits-same l, f, own-fit p B, plain-fit, step-same B (tablesIn l) (l .heap) c low)
         go (inr f) = rw (fits-same l, f)
 
+    cells-same : (w : Words) (bin : ℕ) → cellsOf q w bin ≡ cellsOf p w bin
+    unfolding cellsOf withOwnRows
+    cells-same w bin = refl
+
     pages-same : (words firsts : List ℕ) → pages q words firsts ≡ pages p words firsts
     unfolding pages wordCount withOwnRows
     pages-same words firsts = λ i.
@@ -257,6 +267,17 @@ module _ (p : Params) where
         else if not (pagesEnd-same p rs n i (view words .next) firsts) then refused BadTables
         else answered (pagesUsed-same p rs n i (view words .next) firsts ∷ [])
 
+    -- what is asked for (02, R-7) is answered alike too
+    pub ask-same : (l : Lent) → LowBins p l → (question : Question) → ask q l question ≡ ask p l question
+    unfolding ask LowBins stateOf
+    ask-same l low (freeCells bin) = go (test (fits p l))
+      where
+        go : (fits p l ≡ true) ⊎ (fits p l ≡ false) → ask q l (freeCells bin) ≡ ask p l (freeCells bin)
+        go (inl f) =
+            let B : Bounds p = good-bounds p (fits-parts p l f .0) in
+            rw (fits-same l, f, own-fit p B, plain-fit, sound-on-same B (tablesIn l) (l .heap) low, cells-same (view (l .words)) bin)
+        go (inr f) = rw (fits-same l, f)
+
 pub own-rows : OwnRows
 unfolding OwnRows
-own-rows p plain = (set-up-same p plain, call-same p plain, pages-same p plain)
+own-rows p plain = (set-up-same p plain, call-same p plain, pages-same p plain, ask-same p plain)

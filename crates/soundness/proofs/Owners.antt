@@ -10,7 +10,7 @@ use lib.ListN.{getD}
 use Rattle.model.specs.declared.Params.{Params}
 use Rattle.model.specs.Base.{eachBelow}
 use Rattle.model.specs.Params.{start, listOf, localSets, available, unswept, consumed, bins}
-use Rattle.model.specs.Tables.{Words, setNext, setPrev, setFree, setSize, setList, setTls}
+use Rattle.model.specs.Tables.{Words, setNext, setPrev, setFree, setSize, setList, setTls, setCells}
 use Rattle.model.specs.BlockList.{push, pop, remove, append}
 use Rattle.model.specs.Block.{clearBlock}
 use Rattle.model.specs.Global.{abandonBin, abandonBlocks, Freed, freed, releaseBlocks, appendTo, releaseBin, releaseHolder, sweepLater}
@@ -63,8 +63,12 @@ pub tls-framed : {j k : ℕ} (b v : ℕ) (w : Words) → Framed j k w (setTls b 
 unfolding setTls
 tls-framed b v w = record { phase = refl; bound = refl; released = refl; lengths = simp kept-lengths; first = λ m f g. refl }
 
+pub cells-framed : {j k : ℕ} (b v : ℕ) (w : Words) → Framed j k w (setCells b v w)
+unfolding setCells
+cells-framed b v w = record { phase = refl; bound = refl; released = refl; lengths = simp kept-lengths; first = λ m f g. refl }
+
 cleared-framed : {j k : ℕ} (b : ℕ) (w : Words) → Framed j k w (clearBlock b w)
-unfolding clearBlock setTls setList setSize setFree setPrev setNext
+unfolding clearBlock setCells setTls setList setSize setFree setPrev setNext
 cleared-framed b w = record { phase = refl; bound = refl; released = refl; lengths = simp kept-lengths; first = λ m f g. refl }
 
 module _ (p : Params) (j k : ℕ) where

@@ -9,14 +9,14 @@ use Rattle.model.specs.declared.Params.{Params}
 use Rattle.model.specs.declared.Offer.{Offer}
 use Rattle.model.specs.declared.Offer.the-variants.{Nothing, Fresh}
 use Rattle.model.specs.Base.{In}
-use Rattle.model.specs.Tables.{Words, Tables, setFree, setTls}
+use Rattle.model.specs.Tables.{Words, Tables, setFree, setTls, setCells}
 use Rattle.model.specs.SizeClasses.{binOf, raised}
 use Rattle.model.specs.BlockList.{push, pop}
 use Rattle.model.specs.Block.{sweepChain, sweptWords}
 use Rattle.model.specs.Events.{Event, initialised, swept, released, taken}
 use Rattle.model.specs.FreeListAllocator.{sweepOf, Found, Search, acquireFresh, findBlock}
-use Rattle.model.specs.Sound.{sound, linkOk}
-use Rattle.model.specs.Calls.{alloc, Plan, takePlan, planPassed, plan, End, says, takes, Step, takeCell, finish, step}
+use Rattle.model.specs.Sound.{soundOn}
+use Rattle.model.specs.Calls.{alloc, Plan, takePlan, planPassed, plan, End, says, takes, takeCell, finish, step}
 use Rattle.model.specs.Census.{censusParams, printedChain, PrintedIsBuilt}
 use Rattle.laws.proofs.Base.{if-cases, in-append}
 use Rattle.laws.proofs.Frame.{links-refl, push-links, pop-links}
@@ -59,7 +59,7 @@ module _ (p : Params) (ms sz : List ℕ) where
   mine b h o = record { size = o .size; built = o .built }
 
   sweep : (b : ℕ) {es : List Event} {w : Words} → So es w → So (es ++ (sweepOf p ms b w ∷ [])) (sweptWords p ms b w)
-  unfolding sweptWords setFree Built
+  unfolding sweptWords setFree setCells Built
   sweep b {es} {w} o =
       record { size = o .size; built = one-more es _ (o .built) (ap (λ (z : List ℕ). sweepChain p ms b (getD z b 0)) (o .size)) }
 
@@ -92,10 +92,10 @@ module _ (p : Params) (t : Tables) where
       (λ f z o. fresh-built h bin offer f (o .built)) (λ f z o. o .built)
       (record { size = refl; built = none-built p (t .marks) (t .words .size) })
 
-  plan-built : (h size align offset : ℕ) (offer : Offer) → All (plan p t (alloc h size align offset offer) .events)
+  plan-built : (heap : List ℕ) (h size align offset : ℕ) (offer : Offer) → All (plan p t heap (alloc h size align offset offer) .events)
   unfolding plan planPassed takePlan
-  plan-built h size align offset offer =
-      if-cases Q (sound p t)
+  plan-built heap h size align offset offer =
+      if-cases Q (soundOn p t heap)
       (λ s. plan-cases Q p t (alloc h size align offset offer) (λ r b. none) (λ e. find-built h (binOf p (raised p size align)) offer))
       (λ s. none)
     where
@@ -108,13 +108,11 @@ module _ (p : Params) (t : Tables) where
   finish-built : (u : Tables) (es : List Event) (h : List ℕ) (e : End) → All es → All (finish p u es h e .events)
   unfolding finish takeCell Built
   finish-built u es h (says r) a = a
-  finish-built u es h (takes b align offset fresh) a =
-      if-cases (λ (s : Step). All (s .events)) (linkOk p (u .words) b _)
-      (λ y. one-more p (t .marks) (t .words .size) es _ a tt) (λ z. a)
+  finish-built u es h (takes b align offset fresh) a = one-more p (t .marks) (t .words .size) es _ a tt
 
   pub alloc-built : (h size align offset : ℕ) (offer : Offer) (heap : List ℕ) → All (step p t heap (alloc h size align offset offer) .events)
   unfolding step
-  alloc-built h size align offset offer heap = finish-built _ _ _ _ (plan-built h size align offset offer)
+  alloc-built h size align offset offer heap = finish-built _ _ _ _ (plan-built heap h size align offset offer)
 
 pub printed-is-built : PrintedIsBuilt
 unfolding printedChain Built

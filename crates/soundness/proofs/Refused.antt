@@ -1,48 +1,48 @@
--- A refused call changes nothing, save for the block moves and sweeps of an alloc that is refused BadLink or Exhausted.
+-- A refused call changes nothing, save for the block moves and sweeps of an alloc that is refused Exhausted.
 -- Assumes nothing.
 use mathlib.Core.Path.{_≡_, refl, sym, ap, _∙_, subst}
-use mathlib.Core.Logic.{_≢_, _⊎_, inl, inr, ⊎-elim}
-use mathlib.Core.Bool.{true, false}
-use mathlib.Core.List.{List, [], _∷_, _++_, headD}
-use Prim.Native.Nat.{ℕ, _-_, _/_, _<_, _≤_}
+use mathlib.Core.Logic.{_≢_, _⊎_, inl, inr}
+use mathlib.Core.Bool.{true}
+use mathlib.Core.List.{List, [], _∷_}
+use Prim.Native.Nat.{ℕ, _-_, _<_, _≤_}
 use native.Mathlib.Omega.{arith}
-use lib.Dec.{eqb, ltb}
-use lib.ListN.{getD, length}
-use borrow.Author.Tests.{eqb-true, ltb-true, eq-eqb, ne-eqb}
+use lib.Dec.{ltb}
+use lib.ListN.{getD, length, List·getD-eq-default}
+use borrow.Author.Tests.{ltb-true, eq-eqb, ne-eqb}
 use Rattle.model.specs.declared.Params.{Params}
 use Rattle.model.specs.declared.Offer.{Offer}
 use Rattle.model.specs.declared.Offer.the-variants.{Nothing, Fresh}
 use Rattle.model.specs.declared.Refusal.{Refusal}
 use Rattle.model.specs.declared.Refusal.the-variants.{BadTables}
 use Rattle.model.specs.declared.Tested.the-variants as Test
-use Rattle.model.specs.Params.{goodParams, Lent, fits, wordCount, heapBytes, start, blockAt, localSets, available}
-use Rattle.model.specs.Memory.{load}
-use Rattle.model.specs.Tables.{Words, Tables, tablesOf, view, flat, setFree, setSize, setTls}
-use Rattle.model.specs.SizeClasses.{binOf, raised, cellBytes}
+use Rattle.model.specs.Base.{In}
+use Rattle.model.specs.Params.{Lent, fits, wordCount}
+use Rattle.model.specs.Tables.{Words, Tables, tablesOf, view, flat}
+use Rattle.model.specs.SizeClasses.{binOf, raised}
 use Rattle.model.specs.Classes.{classesFit}
-use Rattle.model.specs.BlockList.{blocksOn, push}
-use Rattle.model.specs.Block.{initChain, initBlock, linkAll}
-use Rattle.model.specs.Events.{Event, initialised, eventHeap, eventsHeap}
+use Rattle.model.specs.BlockList.{blocksOn}
+use Rattle.model.specs.Block.{chainStands}
+use Rattle.model.specs.Events.{Event, eventsHeap}
 use Rattle.model.specs.FreeListAllocator.{Found, Search, inFound, acquireFresh, findBlock}
-use Rattle.model.specs.Sound.{linkOk, sound}
-use Rattle.model.specs.Calls.{refusalNumber, Call, bind, destroy, alloc, prepare, mark, release, sharedRelease, Plan, refuses, changes, goodOffer, takePlan, releasePlan, callTests, planPassed, planSound, plan, Step, takeCell, finish, step, Result, tablesIn, lentOf, resultFrom, badSetup, badClasses, call, setUp}
-use Rattle.model.specs.Refusals.{PassedOver, Unmoved, TakenOver, SearchKeeps, KeptExhausted, KeptBadLink, OfAlloc, Refused, RefusalKeeps, SetUpKeeps}
-use Rattle.laws.proofs.Below.{and-five}
-use Rattle.laws.proofs.Base.{if-cases, and-left, not-both}
-use Rattle.laws.proofs.Good.{good}
-use Rattle.laws.proofs.Params.{Bounds, good-bounds, some-start, blockAt-start}
-use Rattle.laws.proofs.Stores.{set-at}
-use Rattle.laws.proofs.Tables.{Sized, sized-same, sized-view, flat-view, view-flat}
+use Rattle.model.specs.Sound.{sound, chained, soundOn}
+use Rattle.model.specs.Calls.{refusalNumber, Call, bind, destroy, alloc, prepare, mark, release, sharedRelease, Plan, refuses, changes, goodOffer, takePlan, releasePlan, callTests, planPassed, planSound, plan, takeCell, finish, step, Result, tablesIn, lentOf, resultFrom, badSetup, badClasses, call, setUp}
+use Rattle.model.specs.Refusals.{PassedOver, SearchKeeps, KeptExhausted, OfAlloc, Refused, RefusalKeeps, SetUpKeeps}
+use Rattle.laws.proofs.Base.{if-cases, and-left, and-right}
+use Rattle.laws.proofs.Params.{Bounds, good-bounds, some-start}
+use Rattle.laws.proofs.Tables.{Sized, sized-view, flat-view, view-flat, by-lt}
+use Rattle.laws.proofs.Lent.{Fitting, fitting}
 use Rattle.laws.proofs.Classes.{chosen, fits-raised}
-use Rattle.laws.proofs.Cells.{chain-in}
-use Rattle.laws.proofs.Frame.{links-refl, push-links}
+use Rattle.laws.proofs.Cells.{Whole, whole-nonzero}
 use Rattle.laws.proofs.Walks.{find-keeps}
 use Rattle.laws.proofs.Tests.{alloc-passed, plan-cases}
 use Rattle.soundness.proofs.SoundLists.{sound-good}
 use Rattle.soundness.proofs.Owners.{Framed, framed-refl}
 use Rattle.soundness.proofs.GoodTables.{GoodTables}
 use Rattle.soundness.proofs.Flags.{bound-at}
-use Rattle.soundness.proofs.Searches.{chain-above, some-head, chain-link, events-behind, Quiet, quiet-start, Going, Stopped, search-steps}
+use Rattle.soundness.proofs.Chains.{Chains}
+use Rattle.soundness.proofs.Chained.{shadowOf, chains-found}
+use Rattle.soundness.proofs.Alloc.{SearchedSoFar}
+use Rattle.soundness.proofs.Searches.{Quiet, quiet-start, Going, search-steps}
 
 -- ---- what was lent, with what the search left in it
 
@@ -76,23 +76,6 @@ module _ (p : Params) (h bin : ℕ) (l : Lent) (w : Words) (heap : List ℕ) (Z 
   exhausted-lent Q F f =
       record { keeps = keeps-lent Q F; blocks = λ b. subst (λ (x : Words). PassedOver p (l .marks) h bin w₀ x b) (sym seen) (f b) }
 
-  -- its free head and cell size are as they were, so its link was bad before
-  head-same : (x : ℕ) → Unmoved w₀ w x ⊎ TakenOver h bin w₀ w x → getD (w .free) x 0 ≡ getD (w₀ .free) x 0
-  head-same x (inl U) = U .free
-  head-same x (inr T) = T .free
-
-  bad-lent : (x : ℕ) → Quiet h bin w₀ w → Framed (h - 1) 8 w₀ w → Unmoved w₀ w x ⊎ TakenOver h bin w₀ w x
-      → ((b : ℕ) → b ≢ x → PassedOver p (l .marks) h bin w₀ w b) → linkOk p w x (load p heap (getD (w .free) x 0)) ≡ false → KeptBadLink p h bin l m
-  unfolding linkOk
-  bad-lent x Q F here f bad =
-      record {
-        keeps = keeps-lent Q F;
-        block = x;
-        link = rw (← Q .size, ← head-same x here, ← same) bad;
-        here = subst (λ (y : Words). Unmoved w₀ y x ⊎ TakenOver h bin w₀ y x) (sym seen) here;
-        others = λ b g. subst (λ (y : Words). PassedOver p (l .marks) h bin w₀ y b) (sym seen) (f b g);
-      }
-
 -- ---- calls on buffers that fit
 
 module _ (p : Params) (l : Lent) where
@@ -111,10 +94,9 @@ module _ (p : Params) (l : Lent) where
     unfolding wordCount
     back = ap (λ (w : List ℕ). record { words = w; states = l .states; marks = l .marks; heap = l .heap }) (flat-view (p .blocks) (l .words) e)
 
-    plain : (c : Call) (r : Refusal) → refusalNumber r ≢ 8 → refusalNumber r ≢ 9 → Fine c (refuses t r)
+    plain : (c : Call) (r : Refusal) → refusalNumber r ≢ 9 → Fine c (refuses t r)
     unfolding finish refusalNumber eventsHeap
-    plain c r f g z =
-        record { values = refl; nothing = λ a b. back; badLink = λ q. absurd (f q); exhausted = λ q. absurd (g q) }
+    plain c r g z = record { values = refl; nothing = λ b. back; exhausted = λ q. absurd (g q) }
 
   done : (c : Call) (u : Tables) (vs : List ℕ) → Fine c (changes u vs)
   unfolding finish
@@ -122,10 +104,9 @@ module _ (p : Params) (l : Lent) where
 
 -- ---- an alloc's search and what it ends in
 
-module _ (p : Params) (l : Lent) (B : Bounds p) (len : length (l .heap) ≡ heapBytes p)
-    (H : GoodTables p (l .marks) (view (l .words)) (l .states))
-    (h size align offset : ℕ) (offer : Offer) (lo : 1 ≤ h) (hi : h ≤ 8) (low : binOf p (raised p size align) < 49)
-    (word : 8 ≤ cellBytes p (binOf p (raised p size align))) (room : cellBytes p (binOf p (raised p size align)) ≤ p .bytes) where
+module _ (p : Params) (l : Lent) (B : Bounds p) (H : GoodTables p (l .marks) (view (l .words)) (l .states))
+    (bare : (b : ℕ) → getD (view (l .words) .free) b 0 ≡ 0 → getD (view (l .words) .cells) b 0 ≡ 0)
+    (h size align offset : ℕ) (offer : Offer) (lo : 1 ≤ h) (hi : h ≤ 8) (low : binOf p (raised p size align) < 49) where
   abbrev bin : ℕ
   bin = binOf p (raised p size align)
 
@@ -136,10 +117,7 @@ module _ (p : Params) (l : Lent) (B : Bounds p) (len : length (l .heap) ≡ heap
   R s = Fine p l c (takePlan p align offset s)
 
   abbrev Going′ : List Event → Words → Type 0
-  Going′ = Going p B (l .states) (l .marks) h bin lo hi low (view (l .words)) (l .heap) len
-
-  abbrev Stopped′ : List Event → ℕ → Words → Type 0
-  Stopped′ = Stopped p B (l .states) (l .marks) h bin lo hi low (view (l .words)) (l .heap) len
+  Going′ = Going p B (l .states) (l .marks) h bin lo hi low (view (l .words)) (l .heap) bare
 
   none-found : (g : Found) → g .at ≡ 0 → Going′ (g .events) (g .words) → R (inFound g (tablesIn l))
   unfolding takePlan finish refusalNumber OfAlloc
@@ -147,108 +125,72 @@ module _ (p : Params) (l : Lent) (B : Bounds p) (len : length (l .heap) ≡ heap
       rw (eq-eqb _ _ e)
       (λ z. record {
         values = refl;
-        nothing = λ a b. absurd (b refl);
-        badLink = λ q. absurd (omega (arith, q));
+        nothing = λ b. absurd (b refl);
         exhausted = λ q.
             exhausted-lent p h bin l (g .words) (eventsHeap p (g .events) (l .heap)) (G .good .good .sized) (G .idle)
             (G .quiet) (G .good .frame) (G .blocks);
       })
 
-  -- a cell is taken, where its link is good or the block was found by no sweep
-  some-found : (g : Found) → g .at ≢ 0 → Stopped′ (g .events) (g .at) (g .words) → R (inFound g (tablesIn l))
-  unfolding takePlan finish takeCell refusalNumber OfAlloc
-  some-found g e G =
-      rw (ne-eqb _ _ e)
-      (if-cases (λ (s : Step). Ok p l c (resultFrom s)) (linkOk p (g .words) x (load p heap (getD (g .words .free) x 0)))
-      (λ y z. absurd (z refl))
-      (λ n z. record {
-        values = refl;
-        nothing = λ a b. absurd (a refl);
-        badLink = λ q.
-            ⊎-elim
-            (λ S. bad-lent p h bin l (g .words) heap (G .good .good .sized) (S .idle) x (S .quiet) (G .good .frame) (S .here) (S .others) n)
-            (λ y. absurd (not-both _ y n)) (G .end);
-        exhausted = λ q. absurd (omega (arith, q));
-      }))
-    where
-      x : ℕ
-      x = blockAt p (g .at)
-
-      heap : List ℕ
-      heap = eventsHeap p (g .events) (l .heap)
-
-  -- the offer: its chain was written just now
-  module _ (g : Found) (b : ℕ) (lb : b < p .blocks) (G : Going′ (g .events) (g .words)) where
-    abbrev s : ℕ
-    s = cellBytes p bin
-
-    abbrev u : Words
-    u = push p (available (localSets h) bin) b (g .words)
-
-    v : Words
-    v = initBlock p b s h u
-
-    Zu : Sized (p .blocks) u
-    Zu = sized-same (push-links p (available (localSets h) bin) b (g .words) (links-refl (g .words)) .lengths) (G .good .good .sized)
-
-    some-cell : headD (initChain p b s) 0 ≢ 0
-    unfolding initChain
-    some-cell =
-        some-head (start p b) (initChain p b s) (chain-above p B (λ a. false) b s lb word)
-        (chain-in p (λ a. false) b s (start p b) (record { k = 0; at = omega arith; word = word; fits = omega (arith, room) }) refl)
-
-    offer-link : linkOk p v b (load p (eventsHeap p (g .events ++ (initialised b (initChain p b s) ∷ [])) (l .heap)) (getD (v .free) b 0)) ≡ true
-    unfolding v initBlock initChain setFree setSize setTls eventHeap
-    offer-link =
-        rw (events-behind p (g .events) (initialised b (initChain p b s)) (l .heap) ∙ ap (linkAll p (initChain p b s)) (G .idle))
-        (chain-link p B (λ a. false) b s lb word v (l .heap) len (set-at (u .size) b s (omega (arith, Zu .size)))
-        (set-at (u .free) b _ (omega (arith, Zu .free))) some-cell)
+  -- a cell is taken, and the alloc is served
+  some-found : (s : Search) → s .at ≢ 0 → R s
+  unfolding takePlan finish takeCell
+  some-found s e = rw (ne-eqb _ _ e) (λ z. absurd (z refl))
 
   fresh-found : (o : Offer) → goodOffer p (tablesIn l) o ≡ true → (g : Found) → g .at ≡ 0 → Going′ (g .events) (g .words)
       → R (acquireFresh p h bin o g (tablesIn l))
-  unfolding acquireFresh goodOffer takePlan finish takeCell v
+  unfolding acquireFresh goodOffer
   fresh-found Nothing y g e G = none-found g e G
-  fresh-found (Fresh b) y g e G =
-      rw (ne-eqb _ _ (some-start p B (b .0) lb), blockAt-start p B (b .0) lb, offer-link g (b .0) lb G) (λ z. absurd (z refl))
-    where
-      lb : b .0 < p .blocks
-      lb = ltb-true _ _ (and-left (ltb (b .0) (p .blocks)) _ y)
+  fresh-found (Fresh b) y g e G = some-found _ (some-start p B (b .0) (ltb-true _ _ (and-left (ltb (b .0) (p .blocks)) _ y)))
 
   alloc-fine : goodOffer p (tablesIn l) offer ≡ true → R (findBlock p h bin offer (tablesIn l))
   unfolding eventsHeap
   alloc-fine y =
-      find-keeps p h bin (tablesIn l) Going′ Stopped′ (search-steps p B (l .states) (l .marks) h bin lo hi low (view (l .words)) (l .heap) len) R offer
-      (λ g e G. fresh-found offer y g e G) (λ g e G. some-found g e G)
+      find-keeps p h bin (tablesIn l) Going′ (λ es a w. SearchedSoFar p B (l .states) (l .marks) h bin lo hi low (view (l .words)) w)
+      (search-steps p B (l .states) (l .marks) h bin lo hi low (view (l .words)) (l .heap) bare) R offer
+      (λ g e G. fresh-found offer y g e G) (λ g e G. some-found (inFound g (tablesIn l)) e)
       (record {
         good = record { good = H; frame = framed-refl (view (l .words)) };
         quiet = quiet-start h bin (view (l .words));
         idle = refl;
-        blocks = λ b. inl (record { list = refl; free = refl; tls = refl });
+        blocks = λ b. inl (record { list = refl; free = refl; tls = refl; cells = refl });
       })
 
 -- ---- every call
 
-module _ (p : Params) (l : Lent) (f : fits p l ≡ true) (rows : classesFit p ≡ true) where
-  parts : (goodParams p ≡ true) × (length (l .words) ≡ wordCount p) × (length (l .states) ≡ p .blocks) × (length (l .heap) ≡ heapBytes p)
-  unfolding fits
-  parts =
-      let r = and-five (goodParams p) (eqb (length (l .words)) (wordCount p)) (eqb (length (l .states)) (p .blocks))
-      (eqb (length (l .marks)) (heapBytes p / 64)) (eqb (length (l .heap)) (heapBytes p)) f in
-      (r .0, eqb-true _ _ (r .1), eqb-true _ _ (r .2), eqb-true _ _ (r .4))
+module _ (p : Params) (l : Lent) (f : fits p l ≡ true) where
+  parts : Fitting p l
+  parts = fitting p l f
 
   abbrev B : Bounds p
-  B = good-bounds p (parts .0)
+  B = good-bounds p (parts .good)
 
   abbrev w : Words
   w = view (l .words)
 
   Z : Sized (p .blocks) w
   unfolding wordCount
-  Z = sized-view (p .blocks) (l .words) (parts .1)
+  Z = sized-view (p .blocks) (l .words) (parts .words)
 
-  module _ (ok : sound p (tablesIn l) ≡ true) where
+  module _ (rows : classesFit p ≡ true) (all : soundOn p (tablesIn l) (l .heap) ≡ true) where
+    ok : sound p (tablesIn l) ≡ true
+    ok = and-left (sound p (tablesIn l)) (chained p (tablesIn l) (l .heap)) all
+
     H : GoodTables p (l .marks) w (l .states)
-    H = record { lists = λ n. blocksOn p n w; good = sound-good p B (tablesIn l) ok; sized = Z; states = parts .2 }
+    H = record { lists = λ n. blocksOn p n w; good = sound-good p B (tablesIn l) ok; sized = Z; states = parts .states }
+
+    -- a block without a free head counts no free cell
+    C : Chains p (w .free) (w .size) (w .cells) (l .heap) (shadowOf p (l .heap) w)
+    C = chains-found p B (tablesIn l) (l .heap) ok (and-right (sound p (tablesIn l)) (chained p (tablesIn l) (l .heap)) all) Z (parts .heap)
+
+    bare : (b : ℕ) → getD (w .free) b 0 ≡ 0 → getD (w .cells) b 0 ≡ 0
+    unfolding chainStands In
+    bare b e =
+        by-lt b (p .blocks) (λ low. let K = C .blocks b low in K .count ∙ no-chain (getD (w .free) b 0) (getD (shadowOf p (l .heap) w) b []) e low (K .stands) (K .cells))
+        (λ far. List·getD-eq-default (w .cells) 0 {n = b} (omega (arith, Z .cells)))
+      where
+        no-chain : (a : ℕ) (c : List ℕ) → a ≡ 0 → b < p .blocks → chainStands p (l .heap) a c → ((x : ℕ) → In x c → Whole p b (getD (w .size) b 0) x) → length c ≡ 0
+        no-chain a [] q low s k = refl
+        no-chain a (x ∷ c) q low s k = absurd (omega (arith, sym (s .0) ∙ q, whole-nonzero p B b (getD (w .size) b 0) x low (k x (inl refl))))
 
     passed-fine : (c : Call) → callTests p (tablesIn l) c ≡ Test.Passed → Fine p l c (planPassed p (tablesIn l) c)
     unfolding planPassed releasePlan finish
@@ -259,7 +201,7 @@ module _ (p : Params) (l : Lent) (f : fits p l ≡ true) (rows : classesFit p �
         let P = bound-at w h (a .bound) in
         let f = fits-raised p size align (a .small) in
         let n = chosen p B rows (raised p size align) f in
-        alloc-fine p l B (parts .3) H h size align offset offer (P .low) (P .high) (omega (arith, n .to)) (n .word) (n .room) (a .offered)
+        alloc-fine p l B H bare h size align offset offer (P .low) (P .high) (omega (arith, n .to)) (a .offered)
     passed-fine prepare e = done p l prepare _ []
     passed-fine (mark place b) e = done p l (mark place b) _ _
     passed-fine (release h) e = λ z. absurd (z refl)
@@ -267,17 +209,17 @@ module _ (p : Params) (l : Lent) (f : fits p l ≡ true) (rows : classesFit p �
 
     plan-fine : (c : Call) → Fine p l c (planSound p (tablesIn l) c)
     plan-fine c =
-        plan-cases (Fine p l c) p (tablesIn l) c (λ r b. plain p l (parts .1) c r (b .no-link) (b .no-search)) (λ e. passed-fine c e)
+        plan-cases (Fine p l c) p (tablesIn l) c (λ r b. plain p l (parts .words) c r (b .no-search)) (λ e. passed-fine c e)
 
 pub refusal-keeps : RefusalKeeps
 unfolding RefusalKeeps call step plan refusalNumber
 refusal-keeps p l c =
     if-cases (Ok p l c) (fits p l)
     (λ f. if-cases (Ok p l c) (classesFit p)
-    (λ k. if-cases (Fine p l c) (sound p (tablesIn l)) (λ s. plan-fine p l f k s c)
-    (λ s. plain p l (parts p l f k .1) c BadTables (λ q. omega (arith, q)) (λ q. omega (arith, q))))
-    (λ k z. record { values = refl; nothing = λ a b. refl; badLink = λ q. absurd (omega (arith, q)); exhausted = λ q. absurd (omega (arith, q)) }))
-    (λ f z. record { values = refl; nothing = λ a b. refl; badLink = λ q. absurd (omega (arith, q)); exhausted = λ q. absurd (omega (arith, q)) })
+    (λ k. if-cases (Fine p l c) (soundOn p (tablesIn l) (l .heap)) (λ s. plan-fine p l f k s c)
+    (λ s. plain p l (parts p l f .words) c BadTables (λ q. omega (arith, q))))
+    (λ k z. record { values = refl; nothing = λ b. refl; exhausted = λ q. absurd (omega (arith, q)) }))
+    (λ f z. record { values = refl; nothing = λ b. refl; exhausted = λ q. absurd (omega (arith, q)) })
 
 pub set-up-keeps : SetUpKeeps
 unfolding SetUpKeeps setUp

@@ -13,7 +13,7 @@ use borrow.Author.Tests.{eq-eqb, ne-eqb}
 use Rattle.model.specs.declared.Params.{Params}
 use Rattle.model.specs.Base.{In, member, filter}
 use Rattle.model.specs.Params.{start, blockAt, localSets}
-use Rattle.model.specs.Tables.{Words, tablesOf, setNext, setPrev, setFree, setSize, setList, setTls}
+use Rattle.model.specs.Tables.{Words, tablesOf, setNext, setPrev, setFree, setSize, setList, setTls, setCells}
 use Rattle.model.specs.BlockList.{remove, append}
 use Rattle.model.specs.Block.{clearBlock}
 use Rattle.model.specs.Global.{abandonBlocks, Freed, freed, releaseBlocks, appendTo, releaseHolder, sweepLater}
@@ -175,17 +175,18 @@ module _ (p : Params) (B : Bounds p) (ms : List ℕ) where
 
     -- the words of other blocks
     words-of : (x : ℕ) → x ≢ b → SameWords w (clearBlock b R) x
-    unfolding clearBlock setTls setList setSize setFree setPrev setNext
+    unfolding clearBlock setCells setTls setList setSize setFree setPrev setNext
     words-of x ne =
         let S = links-words links x in
         record {
           free = set-off (R .free) b 0 x ne ∙ S .free;
           size = set-off (R .size) b 0 x ne ∙ S .size;
           tls = set-off (R .tls) b 0 x ne ∙ S .tls;
+          cells = set-off (R .cells) b 0 x ne ∙ S .cells;
         }
 
     clear-of : (x : ℕ) → x < p .blocks → getD (set st b 0) x 0 ≡ 0 → Dec (x ≡ b) → blockClear (clearBlock b R) x ≡ true
-    unfolding Off stateOf blockClear clearBlock setTls setList setSize setFree setPrev setNext
+    unfolding Off stateOf blockClear clearBlock setCells setTls setList setSize setFree setPrev setNext
     clear-of x low e (yes q) =
         rw (
           q,
@@ -195,6 +196,7 @@ module _ (p : Params) (B : Bounds p) (ms : List ℕ) where
           set-at (R .size) b 0 (omega (arith, lb, ZR .size)),
           set-at (R .list) b 0 (omega (arith, lb, ZR .list)),
           set-at (R .tls) b 0 (omega (arith, lb, ZR .tls)),
+          set-at (R .cells) b 0 (omega (arith, lb, ZR .cells)),
         )
     clear-of x low e (no f) =
         let s : getD st x 0 ≡ 0 = sym (set-off st b 0 x f) ∙ e in

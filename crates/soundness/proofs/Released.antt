@@ -22,10 +22,10 @@ use Rattle.model.specs.Classes.{classesFit}
 use Rattle.model.specs.BlockList.{blocksOn}
 use Rattle.model.specs.Events.{Event, released, eventsHeap, isRelease, releases}
 use Rattle.model.specs.Global.{abandonBlocks, abandonedBlocks, destroyHolder, Freed, freed, releaseBlocks, appendTo, isBound, releaseHolder, sweepLater, partReleased, merged}
-use Rattle.model.specs.Sound.{sound}
+use Rattle.model.specs.Sound.{sound, chained, soundOn}
 use Rattle.model.specs.Calls.{refusalNumber, Call, destroy, release, sharedRelease, callTests, Plan, refuses, changes, releasePlan, planPassed, planSound, plan, finish, step, Result, tablesIn, lentOf, resultFrom, call}
 use Rattle.model.specs.Refusals.{madeUnallocated, blocksOf, wentOver, CountsReleased, ReleasedCounts, DestroyedCounts}
-use Rattle.laws.proofs.Base.{if-cases, filter-append}
+use Rattle.laws.proofs.Base.{and-left, if-cases, filter-append}
 use Rattle.laws.proofs.Below.{and-five}
 use Rattle.laws.proofs.Tables.{Sized, sized-same, sized-view, view-flat, lengths, kept-lengths, lengths-setBound, by-lt}
 use Rattle.laws.proofs.Params.{Bounds, good-bounds}
@@ -220,8 +220,9 @@ module _ (p : Params) (l : Lent) where
     call-counts c h =
         if-cases (Counts v) (fits p l)
         (λ e. if-cases (Counts v) (classesFit p)
-        (λ k. if-cases (Planned v) (sound p (tablesIn l))
-        (λ s. plan-cases (Planned v) p (tablesIn l) c (λ r b. refused-counts v r (λ z. omega (arith, z, b .from))) (h e s))
+        (λ k. if-cases (Planned v) (soundOn p (tablesIn l) (l .heap))
+        (λ s. plan-cases (Planned v) p (tablesIn l) c (λ r b. refused-counts v r (λ z. omega (arith, z, b .from)))
+        (h e (and-left (sound p (tablesIn l)) (chained p (tablesIn l) (l .heap)) s)))
         (λ s. refused-counts v BadTables (λ z. omega (arith, z))))
         (λ k z. absurd (omega (arith, z))))
         (λ e z. absurd (omega (arith, z)))

@@ -14,7 +14,7 @@ use borrow.Author.Tests.{eq-eqb, ne-eqb, eqb-true, eqb-false, not-true}
 use Rattle.model.specs.declared.Params.{Params}
 use Rattle.model.specs.Base.{if_then_else_, In, filter, member}
 use Rattle.model.specs.Params.{start, blockAt, listWord}
-use Rattle.model.specs.Tables.{Words, setFirst, setLast, setNext, setPrev, setFree, setSize, setList, setTls}
+use Rattle.model.specs.Tables.{Words, setFirst, setLast, setNext, setPrev, setFree, setSize, setList, setTls, setCells}
 use Rattle.model.specs.BlockList.{removeBetween, remove, relabel, link, append}
 use Rattle.model.specs.Block.{clearBlock}
 use Rattle.laws.proofs.Base.{if-true, if-false, if-cases, not-both, or-none-left, or-none-right, in-filter, filter-in}
@@ -355,7 +355,7 @@ module _ (p : Params) (B : Bounds p) where
   labels l (x ∷ xs) r = labels l xs (set r x (listWord l))
 
   withList : List ℕ → Words → Words
-  withList r t = record { first = t .first; last = t .last; phase = t .phase; bound = t .bound; released = t .released; next = t .next; prev = t .prev; free = t .free; size = t .size; list = r; tls = t .tls }
+  withList r t = record { first = t .first; last = t .last; phase = t .phase; bound = t .bound; released = t .released; next = t .next; prev = t .prev; free = t .free; size = t .size; list = r; tls = t .tls; cells = t .cells }
 
   -- with enough fuel `relabel` does that
   relabel-labels : (k l a : ℕ) (xs : List ℕ) (t : Words) → Chain (t .next) a xs → length xs ≤ k
@@ -757,7 +757,7 @@ module _ (p : Params) (B : Bounds p) where
 -- the words and the state of such a block are on no list's way
 pub clear-lists : (p : Params) {st : List ℕ} {w : Words} {L : ℕ → List ℕ} → Lists p st w L → (b : ℕ) → Off L b
     → Lists p (set st b 0) (clearBlock b w) L
-unfolding clearBlock setNext setPrev setFree setSize setList setTls
+unfolding clearBlock setNext setPrev setFree setSize setList setTls setCells
 clear-lists p {st} {w} K b off =
     lists-off p K b off refl refl
     (λ x ne. record {

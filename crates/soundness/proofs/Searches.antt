@@ -1,6 +1,6 @@
 -- What the search of an alloc moves, block by block, while it finds nothing: a block stays, or had no cell to give and is on the
--- holder's consumed list. It sweeps no cell free, so the heap stays; the first sweep that frees one ends the search, and the link
--- of the cell found there is good. Rides on what Alloc.antt shows of each step. Assumes nothing.
+-- holder's consumed list. It sweeps no cell free, so the heap stays; the first sweep that frees one ends the search. Rides on what
+-- Alloc.antt shows of each step. Assumes nothing.
 use mathlib.Core.Path.{_≡_, refl, sym, ap, _∙_}
 use mathlib.Core.Logic.{_≢_, _⊎_, inl, inr, ⊎-elim}
 use mathlib.Core.Bool.{Bool, true, false, _||_}
@@ -13,25 +13,25 @@ use lib.ListN.{getD, length}
 use borrow.Author.Tests.{eq-eqb}
 use Rattle.model.specs.declared.Params.{Params}
 use Rattle.model.specs.Base.{In}
-use Rattle.model.specs.Memory.{load, marked}
-use Rattle.model.specs.Params.{start, blockAt, heapBytes, listOf, listWord, localSets, abandoned, available, unswept, consumed}
-use Rattle.model.specs.Tables.{Words, tablesOf, setFirst, setLast, setNext, setPrev, setFree, setList, setTls}
+use Rattle.model.specs.Memory.{marked}
+use Rattle.model.specs.Params.{start, blockAt, listOf, listWord, localSets, abandoned, available, unswept, consumed}
+use Rattle.model.specs.Tables.{Words, tablesOf, setFirst, setLast, setNext, setPrev, setFree, setList, setTls, setCells}
 use Rattle.model.specs.BlockList.{push, pop, popHead, Popped}
-use Rattle.model.specs.Block.{isCell, cellCount, cellsDown, linkAll, keeps, sweepChain, sweptWords}
+use Rattle.model.specs.Block.{cellCount, cellsDown, linkAll, keeps, sweepChain, sweptWords}
 use Rattle.model.specs.Events.{Event, eventHeap, eventsHeap}
 use Rattle.model.specs.FreeListAllocator.{sweepOf}
-use Rattle.model.specs.Sound.{linkOk}
-use Rattle.model.specs.Refusals.{OnList, searches, HadNone, Unmoved, TakenOver, PassedOver}
+use Rattle.model.specs.Refusals.{OnList, searches, HadNone, Unmoved, PassedOver}
 use Rattle.laws.proofs.Base.{if-cases, not-both, or-left, or-right}
 use Rattle.laws.proofs.Params.{Bounds, blockAt-start, word-same}
 use Rattle.laws.proofs.Stores.{set-at, set-off}
-use Rattle.laws.proofs.Cells.{Whole, whole-isCell, whole-nonzero, in-chain, desc-less, desc-cellsDown, chainStands, stands-linkAll, whole-placed}
+use Rattle.laws.proofs.Cells.{whole-nonzero, in-chain}
 use Rattle.laws.proofs.Walks.{Numbered, available-numbered, unswept-numbered, Files, Steps}
-use Rattle.laws.proofs.Tables.{Sized, lengths, sized-same, lengths-setFree, lengths-setTls}
+use Rattle.laws.proofs.Tables.{Sized, lengths, sized-same, lengths-setFree, lengths-setTls, lengths-setCells}
 use Rattle.laws.proofs.Frame.{LinksOnly, links-refl, push-links, pop-links, push-list, push-first, FirstsBut, pop-firsts}
 use Rattle.soundness.proofs.Lists.{Lists, On, Same, put, Links, on-list, lists-same, first-none, first-some}
 use Rattle.soundness.proofs.Moves.{push-stays, pop-words, pop-stays, pop-lists}
 use Rattle.soundness.proofs.GoodTables.{GoodTables}
+use Rattle.soundness.proofs.Chains.{heap-behind}
 use Rattle.soundness.proofs.SoundLists.{Fit}
 use Rattle.soundness.proofs.Alloc.{Tweaked, tweak-free, tweak-tls, my-available, my-unswept, my-consumed, SearchedSoFar, steps}
 
@@ -99,6 +99,7 @@ module _ (p : Params) (B : Bounds p) (st : List ℕ) (w : Words) (Z : Sized (p .
               list = list b f;
               free = ap (λ (y : List ℕ). getD y b 0) (P .free) ∙ T .words b f .free ∙ ap (λ (y : List ℕ). getD y b 0) (Q .free);
               tls = ap (λ (y : List ℕ). getD y b 0) (P .tls) ∙ T .words b f .tls ∙ ap (λ (y : List ℕ). getD y b 0) (Q .tls);
+              cells = ap (λ (y : List ℕ). getD y b 0) (P .cells) ∙ T .words b f .cells ∙ ap (λ (y : List ℕ). getD y b 0) (Q .cells);
             };
         first = λ n f g.
             ap (λ (y : List ℕ). getD y n 0) (push-first p c x v) ∙ set-off (v .first) c (start p x) n g
@@ -146,43 +147,12 @@ unfolding In headD
 headed [] f e = refl
 headed (a ∷ l) f e = absurd (omega (arith, f a (inl refl), e))
 
-pub some-head : (a : ℕ) (l : List ℕ) → ((a : ℕ) → In a l → 0 < a) → In a l → headD l 0 ≢ 0
-unfolding In headD
-some-head a [] f i e = absurd i
-some-head a (b ∷ l) f i e = omega (arith, f b (inl refl), e)
-
 module _ (p : Params) (B : Bounds p) (kept : ℕ → Bool) (x s : ℕ) (low : x < p .blocks) (word : 8 ≤ s) where
   abbrev chain : List ℕ
   chain = cellsDown kept (start p x) s (cellCount p s)
 
-  whole : (a : ℕ) → In a chain → Whole p x s a
-  whole a i = in-chain p kept x s a word i .0
-
-  pub chain-above : (a : ℕ) → In a chain → 0 < a
-  chain-above a i = whole-nonzero p B x s a low (whole a i)
-
   pub chain-none : headD chain 0 ≡ 0 → chain ≡ []
-  chain-none = headed chain chain-above
-
-  -- the link of a chain's first cell is good where the chain was written
-  pub chain-link : (w : Words) (h : List ℕ) → length h ≡ heapBytes p → getD (w .size) x 0 ≡ s → getD (w .free) x 0 ≡ headD chain 0
-      → headD chain 0 ≢ 0 → linkOk p w x (load p (linkAll p chain h) (getD (w .free) x 0)) ≡ true
-  unfolding linkOk In headD chainStands
-  chain-link w h len es ef some =
-      rw (es, ef) (go chain some (λ a i. whole-isCell p x s a (whole a i))
-      (stands-linkAll p chain h (whole-placed p h x s chain B len low whole) (desc-less s 8 chain word (desc-cellsDown kept (start p x) s (cellCount p s)))))
-    where
-      go : (l : List ℕ) → headD l 0 ≢ 0 → ((a : ℕ) → In a l → isCell p x s a ≡ true) → chainStands p (linkAll p chain h) (headD l 0) l
-          → (eqb (load p (linkAll p chain h) (headD l 0)) 0 || isCell p x s (load p (linkAll p chain h) (headD l 0))) ≡ true
-      go [] f c d = absurd (f refl)
-      go (a ∷ []) f c d = or-left _ (eq-eqb _ _ (d .1))
-      go (a ∷ b ∷ l) f c d = or-right (eqb (load p (linkAll p chain h) a) 0) (rw (d .1 .0) (c b (inr (inl refl))))
-
--- one event more
-pub events-behind : (p : Params) (es : List Event) (e : Event) (h : List ℕ) → eventsHeap p (es ++ (e ∷ [])) h ≡ eventHeap p e (eventsHeap p es h)
-unfolding eventsHeap
-events-behind p [] e h = refl
-events-behind p (x ∷ es) e h = events-behind p es e (eventHeap p x h)
+  chain-none = headed chain (λ a i. whole-nonzero p B x s a low (in-chain p kept x s a word i .0))
 
 -- ---- what the search leaves
 
@@ -262,7 +232,7 @@ module _ (h bin : ℕ) (w₀ : Words) where
       other b f q = off l b sl f (ap (λ (y : ℕ). getD (w .list) y 0) q ∙ M .from)
 
 tweak-refl : (x : ℕ) (w : Words) → Tweaked x w w
-tweak-refl x w = record { links = refl; words = λ b f. record { free = refl; size = refl; tls = refl } }
+tweak-refl x w = record { links = refl; words = λ b f. record { free = refl; size = refl; tls = refl; cells = refl } }
 
 tweak-trans : (x : ℕ) (w u v : Words) → Tweaked x w u → Tweaked x u v → Tweaked x w v
 tweak-trans x w u v T U =
@@ -273,12 +243,13 @@ tweak-trans x w u v T U =
             free = U .words b f .free ∙ T .words b f .free;
             size = U .words b f .size ∙ T .words b f .size;
             tls = U .words b f .tls ∙ T .words b f .tls;
+            cells = U .words b f .cells ∙ T .words b f .cells;
           };
     }
 
--- the search of the holder h for the bin, from the words w₀ and the heap on
+-- the search of the holder h for the bin, from the words w₀ and the heap on; a block without a free head there counts no free cell
 module _ (p : Params) (B : Bounds p) (st ms : List ℕ) (h bin : ℕ) (lo : 1 ≤ h) (hi : h ≤ 8) (low : bin < 49) (w₀ : Words)
-    (heap : List ℕ) (len : length heap ≡ heapBytes p) where
+    (heap : List ℕ) (bare : (b : ℕ) → getD (w₀ .free) b 0 ≡ 0 → getD (w₀ .cells) b 0 ≡ 0) where
   -- tables are good still
   abbrev Good : Words → Type 0
   Good = SearchedSoFar p B st ms h bin lo hi low w₀
@@ -290,22 +261,13 @@ module _ (p : Params) (B : Bounds p) (st ms : List ℕ) (h bin : ℕ) (lo : 1 �
     pub idle : eventsHeap p es heap ≡ heap
     pub blocks : (b : ℕ) → PassedOver p ms h bin w₀ w b
 
-  -- the block x is found, by no sweep
-  pub record Stood (es : List Event) (x : ℕ) (w : Words) : Type 0 where
-    pub quiet : Quiet h bin w₀ w
-    pub idle : eventsHeap p es heap ≡ heap
-    pub here : Unmoved w₀ w x ⊎ TakenOver h bin w₀ w x
-    pub others : (b : ℕ) → b ≢ x → PassedOver p ms h bin w₀ w b
-
-  -- or by one, and then the link of its first cell is good
-  pub record Stopped (es : List Event) (a : ℕ) (w : Words) : Type 0 where
-    pub good : Good w
-    pub end : Stood es (blockAt p a) w
-        ⊎ (linkOk p w (blockAt p a) (load p (eventsHeap p es heap) (getD (w .free) (blockAt p a) 0)) ≡ true)
+  -- or a block is, and the alloc is served
+  abbrev Stopped : List Event → ℕ → Words → Type 0
+  Stopped es a w = Good w
 
   pass-on : (b : ℕ) (w u : Words) → PassedOver p ms h bin w₀ w b → Unmoved w u b → PassedOver p ms h bin w₀ u b
-  pass-on b w u (inl U) K = inl (record { list = K .list ∙ U .list; free = K .free ∙ U .free; tls = K .tls ∙ U .tls })
-  pass-on b w u (inr M) K = inr (record { was = M .was; list = K .list ∙ M .list; free = K .free ∙ M .free; tls = K .tls ∙ M .tls })
+  pass-on b w u (inl U) K = inl (record { list = K .list ∙ U .list; free = K .free ∙ U .free; tls = K .tls ∙ U .tls; cells = K .cells ∙ U .cells })
+  pass-on b w u (inr M) K = inr (record { was = M .was; list = K .list ∙ M .list; free = K .free ∙ M .free; tls = K .tls ∙ M .tls; cells = K .cells ∙ M .cells })
 
   -- a list that blocks are taken from
   record Tried (l : ℕ) : Type 0 where
@@ -347,8 +309,8 @@ module _ (p : Params) (B : Bounds p) (st ms : List ℕ) (h bin : ℕ) (lo : 1 �
     -- where its words are v, it has no cell, and it goes to consumed
     goes-full : (v : Words) → Tweaked y u₁ v → lengths v ≡ lengths u₁ → v .size ≡ w .size → (es′ : List Event)
         → Good (push p (consumed (localSets h) bin) y v) → eventsHeap p es′ heap ≡ heap → HadNone p ms h bin w₀ y
-        → getD (v .free) y 0 ≡ 0 → getD (v .tls) y 0 ≡ h → Going es′ (push p (consumed (localSets h) bin) y v)
-    goes-full v T e z es′ S i n ef et =
+        → getD (v .free) y 0 ≡ 0 → getD (v .tls) y 0 ≡ h → getD (v .cells) y 0 ≡ 0 → Going es′ (push p (consumed (localSets h) bin) y v)
+    goes-full v T e z es′ S i n ef et ec =
         record {
           good = S;
           quiet = quiet-moved h bin w₀ l c y w (push p c y v) (G .quiet) (R .listed) (searches-consumed h bin) (P .size ∙ z) M;
@@ -372,6 +334,7 @@ module _ (p : Params) (B : Bounds p) (st ms : List ℕ) (h bin : ℕ) (lo : 1 �
               list = M .to;
               free = ap (λ (x : List ℕ). getD x y 0) (P .free) ∙ ef;
               tls = ap (λ (x : List ℕ). getD x y 0) (P .tls) ∙ et;
+              cells = ap (λ (x : List ℕ). getD x y 0) (P .cells) ∙ ec;
             }))
         at b (no f) = pass-on b w (push p c y v) (G .blocks b) (M .others b f)
 
@@ -391,15 +354,22 @@ module _ (p : Params) (B : Bounds p) (st ms : List ℕ) (h bin : ℕ) (lo : 1 �
 
       T′ : Tweaked y u₁ v
       unfolding sweptWords
-      T′ = tweak-trans y u₁ u v T (tweak-free y _ u)
+      T′ = tweak-trans y u₁ u v T (tweak-free y _ _ u)
+
+      Zu : Sized (p .blocks) u
+      Zu = sized-same (e ∙ pop-links p l w (links-refl w) .lengths) (Hw .sized)
 
       now : getD (v .free) y 0 ≡ headD (sweepChain p ms y s) 0
-      unfolding sweptWords setFree
-      now = set-at (u .free) y _ (omega (arith, sized-same (e ∙ pop-links p l w (links-refl w) .lengths) (Hw .sized) .free, head .on .low))
+      unfolding sweptWords setFree setCells
+      now = set-at (u .free) y _ (omega (arith, Zu .free, head .on .low))
+
+      now-cells : getD (v .cells) y 0 ≡ length (sweepChain p ms y s)
+      unfolding sweptWords setFree setCells
+      now-cells = set-at (u .cells) y _ (omega (arith, Zu .cells, head .on .low))
 
       written : eventsHeap p (es ++ (sweepOf p ms y u ∷ [])) heap ≡ linkAll p (sweepChain p ms y s) heap
       unfolding eventHeap
-      written = events-behind p es (sweepOf p ms y u) heap ∙ ap (linkAll p (sweepChain p ms y s)) (G .idle)
+      written = heap-behind p es (sweepOf p ms y u) heap ∙ ap (linkAll p (sweepChain p ms y s)) (G .idle)
 
       none : headD (sweepChain p ms y s) 0 ≡ 0 → sweepChain p ms y s ≡ []
       unfolding sweepChain
@@ -410,20 +380,14 @@ module _ (p : Params) (B : Bounds p) (st ms : List ℕ) (h bin : ℕ) (lo : 1 �
       unswept-none q = inr (from, sym (ap (λ (x : List ℕ). sweepChain p ms y (getD x y 0)) (z ∙ G .quiet .size)) ∙ none (sym now ∙ q))
 
       files-swept : Files p ms h bin Going Stopped (es ++ (sweepOf p ms y u ∷ [])) (getD (w .first) l 0) v
-      unfolding sweptWords setFree linkAll sweepChain
+      unfolding sweptWords setFree setCells linkAll
       files-swept =
           record {
             full = λ q.
-                goes-full v T′ (lengths-setFree y _ u ∙ e) z _ (F .full q)
-                (written ∙ ap (λ (x : List ℕ). linkAll p x heap) (none (sym now ∙ q))) (unswept-none q) q et;
-            has = λ q.
-                let c = available (localSets h) bin in
-                let P = push-links p c y v (links-refl v) in
-                record {
-                  good = F .has q;
-                  end = inr (rw written (chain-link p B (keeps p (marked p ms) s) y s (head .on .low) word (push p c y v) heap len
-                      (ap (λ (x : List ℕ). getD x y 0) (P .size)) (ap (λ (x : List ℕ). getD x y 0) (P .free) ∙ now) (λ r. q (now ∙ r))));
-                };
+                let bare : sweepChain p ms y s ≡ [] = none (sym now ∙ q) in
+                goes-full v T′ (lengths-setCells y _ _ ∙ lengths-setFree y _ u ∙ e) z _ (F .full q)
+                (written ∙ ap (λ (x : List ℕ). linkAll p x heap) bare) (unswept-none q) q et (now-cells ∙ ap length bare);
+            has = λ q. F .has q;
           }
 
   abbrev S : Steps p ms h bin (λ es w. Good w) (λ es a w. Good w)
@@ -476,17 +440,9 @@ module _ (p : Params) (B : Bounds p) (st ms : List ℕ) (h bin : ℕ) (lo : 1 �
             goes-full es w G av R some u (tweak-refl x u) refl (P .size) es (S .moved es w (G .good) some q) (G .idle)
             (inl (inl (was es w G av R some), sym (still es w G av R some .free) ∙ q))
             (ap (λ (y : List ℕ). getD y x 0) (P .free) ∙ q)
-            (ap (λ (y : List ℕ). getD y x 0) (P .tls) ∙ local-h av x w my-av (fit es w G av R some));
-        seen = λ es w G some q.
-            record {
-              good = G .good;
-              end = inl (record {
-                quiet = G .quiet;
-                idle = G .idle;
-                here = inl (still es w G av first-tried some);
-                others = λ b f. G .blocks b;
-              });
-            };
+            (ap (λ (y : List ℕ). getD y x 0) (P .tls) ∙ local-h av x w my-av (fit es w G av R some))
+            (ap (λ (y : List ℕ). getD y x 0) (P .cells) ∙ still es w G av R some .cells ∙ bare x (sym (still es w G av R some .free) ∙ q));
+        seen = λ es w G some q. G .good;
         recycled = λ es w G some.
             let u = pop p un w .words in
             let P = pop-links p un w (links-refl w) in
@@ -514,24 +470,8 @@ module _ (p : Params) (B : Bounds p) (st ms : List ℕ) (h bin : ℕ) (lo : 1 �
           record {
             full = λ q.
                 goes-full es w G l R some v (tweak-tls x h u) (lengths-setTls x h u) (P .size) es (F .full q) (G .idle)
-                (inl (inr from, sym (U .free) ∙ sym (ap (λ (y : List ℕ). getD y x 0) (P .free)) ∙ q)) q mine;
-            has = λ q.
-                let M = moves es w G l R some av (my-av .low) v (tweak-tls x h u) (lengths-setTls x h u) in
-                let O = push-links p av x v (links-refl v) in
-                record {
-                  good = F .has q;
-                  end = inl (record {
-                    quiet = quiet-moved h bin w₀ l av x w (push p av x v) (G .quiet) (R .listed) (searches-available h bin) (O .size ∙ P .size) M;
-                    idle = G .idle;
-                    here = inr (record {
-                      was = from;
-                      list = M .to;
-                      free = ap (λ (y : List ℕ). getD y x 0) (O .free) ∙ ap (λ (y : List ℕ). getD y x 0) (P .free) ∙ U .free;
-                      tls = ap (λ (y : List ℕ). getD y x 0) (O .tls) ∙ mine;
-                    });
-                    others = λ b f. pass-on b w (push p av x v) (G .blocks b) (M .others b f);
-                  });
-                };
+                (inl (inr from, gone q)) q mine (ap (λ (y : List ℕ). getD y x 0) (P .cells) ∙ U .cells ∙ bare x (gone q));
+            has = λ q. F .has q;
           }
         where
           l : ℕ
@@ -563,3 +503,6 @@ module _ (p : Params) (B : Bounds p) (st ms : List ℕ) (h bin : ℕ) (lo : 1 �
 
           mine : getD (v .tls) x 0 ≡ h
           mine = set-at (u .tls) x h (omega (arith, sized-same (P .lengths) (G .good .good .sized) .tls, head es w G l R some .on .low))
+
+          gone : getD (v .free) x 0 ≡ 0 → getD (w₀ .free) x 0 ≡ 0
+          gone q = sym (U .free) ∙ sym (ap (λ (y : List ℕ). getD y x 0) (P .free)) ∙ q

@@ -32,9 +32,10 @@ pub record Rows : Type 0 where
   pub free : List ℕ
   pub size : List ℕ
   pub tls : List ℕ
+  pub cells : List ℕ
 
 abbrev pub rowsOf : Words → Rows
-rowsOf w = record { links = linksOf w; free = w .free; size = w .size; tls = w .tls }
+rowsOf w = record { links = linksOf w; free = w .free; size = w .size; tls = w .tls; cells = w .cells }
 
 module _ (p : Params) where
   -- states that say the same of each block, but which of the two marks it has
@@ -64,6 +65,7 @@ module _ (p : Params) where
           free = ap (λ (x : Rows). getD (x .free) b 0) E;
           size = ap (λ (x : Rows). getD (x .size) b 0) E;
           tls = ap (λ (x : Rows). getD (x .tls) b 0) E;
+          cells = ap (λ (x : Rows). getD (x .cells) b 0) E;
         }
 
     fit-stays : (l b : ℕ) → getD (t .states) b 0 ≢ 0 → Fit p t l b → Fit p (tablesOf w′ st′ ms′) l b
@@ -174,11 +176,12 @@ module _ (p : Params) where
               part-zeros (2958 + 3 * n) n k b,
               part-zeros (2958 + 4 * n) n k b,
               part-zeros (2958 + 5 * n) n k b,
+              part-zeros (2958 + 6 * n) n k b,
             );
       }
     where
       k : ℕ
-      k = 2958 + 6 * p .blocks
+      k = 2958 + 7 * p .blocks
 
       n : ℕ
       n = blocksIn (replicate k 0)
@@ -201,7 +204,7 @@ module _ (p : Params) where
       })
     where
       k : ℕ
-      k = 2958 + 6 * p .blocks
+      k = 2958 + 7 * p .blocks
 
       idle : getD (replicate {A = ℕ} k 0) 2940 0 ≡ 0
       idle = getD-zeros k 2940

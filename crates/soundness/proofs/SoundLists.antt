@@ -115,7 +115,7 @@ block-parts p t b s ne =
     record { known = h .0; on = h .1; size = h .2; free = h .3; tls = h .4 }
 
 -- the test of an unallocated block
-block-clear : (p : Params) (t : Tables) (b : ℕ) → blockSound p t b ≡ true → stateOf t b ≡ 0 → blockClear (t .words) b ≡ true
+pub block-clear : (p : Params) (t : Tables) (b : ℕ) → blockSound p t b ≡ true → stateOf t b ≡ 0 → blockClear (t .words) b ≡ true
 unfolding blockSound
 block-clear p t b s e = rw (eq-eqb (stateOf t b) Unallocated e) at s
 

@@ -48,12 +48,12 @@ listed {n = n} l l₁ trace w s m heap lines numbers e u t q =
     rw (← e, ← u .lent) (rw (same-listing _ n w s m heap lines numbers t) at q)
 
 -- the census lends zeros
-lends-zeros : lend (replicate 2982 0) (replicate 4 0) (replicate 256 0) (replicate 16384 0) ≡ censusLent
+lends-zeros : lend (replicate 2986 0) (replicate 4 0) (replicate 256 0) (replicate 16384 0) ≡ censusLent
 unfolding censusLent wordCount censusParams
 lends-zeros = refl
 
 census-printed : {h h′ : List ℕ} {r : ℕ} (trace : List ℕ)
-    → Printed h h′ 0 r (listedFrom (lend (replicate 2982 0) (replicate 4 0) (replicate 256 0) (replicate 16384 0)) trace)
+    → Printed h h′ 0 r (listedFrom (lend (replicate 2986 0) (replicate 4 0) (replicate 256 0) (replicate 16384 0)) trace)
     → Printed h h′ 0 r (census trace)
 unfolding census listedFrom
 census-printed trace p = rw lends-zeros at p
@@ -77,7 +77,7 @@ whole-printed {h} {h′} {r} {text} p f =
     rw (p .bytes, e) (take-overwrite text h f)
 
 pub census-listed : {h h′ : List ℕ} {r : ℕ} (trace : List ℕ)
-    → Printed h h′ 0 r (listedFrom (lend (replicate 2982 0) (replicate 4 0) (replicate 256 0) (replicate 16384 0)) trace)
+    → Printed h h′ 0 r (listedFrom (lend (replicate 2986 0) (replicate 4 0) (replicate 256 0) (replicate 16384 0)) trace)
     → Listed h h′ r (census trace)
 census-listed trace p =
     let q = census-printed trace p in

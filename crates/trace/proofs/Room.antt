@@ -22,7 +22,7 @@ use Rattle.model.specs.SizeClasses.{cellBytes}
 use Rattle.model.specs.Classes.{classesFit}
 use Rattle.model.specs.Block.{cellCount, isCell, cellsDown, keeps, sweepChain, chainFrom, freeChain}
 use Rattle.model.specs.Global.{Marking, freshWords, freshTables}
-use Rattle.model.specs.Sound.{stateOf, binNamed, sizeOk, sound}
+use Rattle.model.specs.Sound.{stateOf, binNamed, sizeOk, soundOn}
 use Rattle.model.specs.Calls.{refusalNumber, Call, says, step, Result, tablesIn, call, setUp}
 use Rattle.model.specs.Census.{digits, decimal, spaced, section, RefusedLine, refusedRow, upTo, occupied, blockRow, awaitsSweep, printedChain, freeRows, freeSection, censusParams, linesOf, Ran, runLines, lineResult, lineOf, pieces, newline, space, dropBlankEnd, censusLent, listing, census}
 use Rattle.laws.proofs.Base.{if-cases, and-right, in-append, in-filter}
@@ -33,6 +33,7 @@ use Rattle.laws.proofs.Classes.{cellBytes-some}
 use Rattle.listing.proofs.SectionsLaws.{fine, flatten-append}
 use Rattle.soundness.proofs.SoundLists.{sound-parts, block-parts}
 use Rattle.soundness.proofs.Replies.{fair-reply, bad-reply}
+use Rattle.laws.proofs.Lent.{fits-parts}
 use Rattle.soundness.proofs.Kept.{Kept, fresh-kept, step-kept}
 use Rattle.model.specs.Text.{listingBytes}
 
@@ -143,9 +144,9 @@ refusal-few BadClasses = omega arith
 
 -- each call's number
 step-says : (t : Tables) (h : List ℕ) (c : Call) → step censusParams t h c .reply .number ≤ 12
-step-says t h c = go (sound censusParams t) refl
+step-says t h c = go (soundOn censusParams t h) refl
   where
-    go : (b : Bool) → sound censusParams t ≡ b → step censusParams t h c .reply .number ≤ 12
+    go : (b : Bool) → soundOn censusParams t h ≡ b → step censusParams t h c .reply .number ≤ 12
     go true e = omega (arith, fair-reply censusParams t h c e .0)
     go false e = rw (bad-reply censusParams t h c e) (refusal-few BadTables)
 
@@ -200,7 +201,7 @@ unfolding lineResult call
 line-sound l (some c) K =
     if-cases (λ (r : Result). Sound (r .lent)) (fits censusParams l)
     (λ e. if-cases (λ (r : Result). Sound (r .lent)) (classesFit censusParams)
-    (λ k. lent-sound _ (step-kept censusParams B k (tablesIn l) (l .heap) c K)) (λ k. K))
+    (λ k. lent-sound _ (step-kept censusParams B k (tablesIn l) (l .heap) c (fits-parts censusParams l e .1) K)) (λ k. K))
     (λ e. K)
 line-sound l none K = K
 

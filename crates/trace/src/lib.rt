@@ -67,7 +67,7 @@ fn run_and_list(
 pub fn census(trace: &[u8], out: &mut [u8]) -> usize
     ensures { λ r. ⌜ Listed (now (out .entry)) (now (out .exit)) r (census (now (trace .entry))) ⌝ }
 {
-    let mut words = [0usize; 2982];
+    let mut words = [0usize; 2986];
     let mut states = [0u8; 4];
     let mut marks = [0u8; 256];
     let mut heap = [0u8; 16384];

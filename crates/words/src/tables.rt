@@ -12,7 +12,7 @@ ghost use mathlib.Core.Path.{_≡_};
 ghost use Prim.Native.Nat.{_+_, _*_, _<_};
 ghost use lib.ListN.{getD};
 ghost use Rattle.model.specs.Params.{blockTables};
-ghost use Rattle.model.specs.Tables.{view, part, blocksIn, blockTable, putIn, putBlockWord, putFirst, putLast, putPhase, putBound, putReleased, putNext, putPrev, putFree, putSize, putList, putTls};
+ghost use Rattle.model.specs.Tables.{view, part, blocksIn, blockTable, putIn, putBlockWord, putFirst, putLast, putPhase, putBound, putReleased, putNext, putPrev, putFree, putSize, putList, putTls, putCells};
 
 // How many blocks the words are for.
 pub fn blocks(w: &[usize]) -> usize
@@ -209,4 +209,17 @@ pub fn set_tls(w: &mut [usize], i: usize, v: usize)
     ensures { λ _. ⌜ now (w .exit) ≡ putTls i v (now (w .entry)) ⌝ }
 {
     put_block_word(w, 5, i, v);
+}
+
+// Its free count.
+pub fn cells(w: &[usize], i: usize) -> usize
+    ensures { λ r. ⌜ r ≡ getD (view (now (w .entry)) .cells) i 0 ⌝ }
+{
+    block_word(w, 6, i)
+}
+
+pub fn set_cells(w: &mut [usize], i: usize, v: usize)
+    ensures { λ _. ⌜ now (w .exit) ≡ putCells i v (now (w .entry)) ⌝ }
+{
+    put_block_word(w, 6, i, v);
 }

@@ -28,7 +28,8 @@ fn block_clear(words: &[usize], blocks: usize, b: Block) -> bool
     let size = known::size(words, blocks, b);
     let list = known::list(words, blocks, b);
     let tls = known::tls(words, blocks, b);
-    next.0 | prev.0 | free.0 | size | list | tls == 0
+    let cells = known::cells(words, blocks, b);
+    next.0 | prev.0 | free.0 | size | list | tls | cells == 0
 }
 
 fn in_use(state: u8) -> bool

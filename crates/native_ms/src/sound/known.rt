@@ -15,7 +15,7 @@ ghost use Rattle.model.specs.Params.{lists, headWords, blockTables, holders};
 ghost use Rattle.model.specs.Tables.{view, blocksIn, blockTable};
 ghost use Rattle.native_ms.specs.SoundLent.{zeroAt, Firsts};
 
-// A block's word in one of the six block tables.
+// A block's word in one of the seven block tables.
 fn block_word(words: &[usize], blocks: usize, table: usize, b: Block) -> usize
     requires { ⌜ (length (now words) ≡ headWords + blockTables * blocks) × (b .0 < blocks) × (table < blockTables) ⌝ }
     ensures { λ r. ⌜ r ≡ getD (blockTable (blocksIn (now (words .entry))) table (now (words .entry))) (b .0) 0 ⌝ }
@@ -63,6 +63,13 @@ pub(crate) fn tls(words: &[usize], blocks: usize, b: Block) -> usize
     ensures { λ r. ⌜ r ≡ getD (view (now (words .entry)) .tls) (b .0) 0 ⌝ }
 {
     block_word(words, blocks, 5, b)
+}
+
+pub(crate) fn cells(words: &[usize], blocks: usize, b: Block) -> usize
+    requires { ⌜ (length (now words) ≡ headWords + blockTables * blocks) × (b .0 < blocks) ⌝ }
+    ensures { λ r. ⌜ r ≡ getD (view (now (words .entry)) .cells) (b .0) 0 ⌝ }
+{
+    block_word(words, blocks, 6, b)
 }
 
 pub(crate) fn first(words: &[usize], list: usize) -> Address

@@ -1,10 +1,8 @@
--- `block::block_alloc` meets its contract: a bad link leaves all, a good one becomes the head. Assumes nothing.
+-- `block::block_alloc` meets its contract: the link becomes the head, and the count is one less. Assumes nothing.
 use borrow.Author.Needs.{needs}
-use mathlib.Core.Path.{refl, sym, _∙_}
+use native.Mathlib.Omega.{arith}
 use Rattle.model.specs.Tables.{view}
-use borrow.Author.Tests.{not-true, not-false}
-use Rattle.native_ms.proofs.SoundTests.{link-sized}
-use Rattle.native_ms.proofs.Chains.{take-bad, take-good}
+use Rattle.native_ms.proofs.Chains.{take}
 use Rattle.native_ms.proofs.Offsets.{words-known}
 use Rattle.native_ms.proofs.block.block_alloc.Statement.{statement}
 use Rattle.native_ms.proofs.block.block_alloc.Tie as tie
@@ -17,12 +15,26 @@ free-requires c κs = words-known _ (c .before .before .before .pre .1)
 size-requires : tie.Need-size-requires
 size-requires c κs = words-known _ (c .before .before .before .before .before .pre .1)
 
+--@ cells-requires c κs = words-known _ (@pre .1)
+cells-requires : tie.Need-cells-requires
+cells-requires c κs = words-known _ (c .before .before .before .before .before .before .before .pre .1)
+
+one-less-requires : tie.Need-one-less-requires
+one-less-requires c κs = search needs
+
 load-requires : tie.Need-load-requires
 load-requires c κs = search needs
 
---@ link-ok-requires c κs = @pre .0
-link-ok-requires : tie.Need-link-ok-requires
-link-ok-requires c κs = c .before .before .before .before .before .before .before .before .pre .0
+--@ set-free-requires c κs = words-known _ (@pre .1)
+set-free-requires : tie.Need-set-free-requires
+set-free-requires c κs = words-known _ (c .before .before .before .before .before .before .before .before .before .before .before .before .pre .1)
+
+--@ set-cells-requires c κs = omega (arith, words-known _ (@pre .1))
+set-cells-requires : tie.Need-set-cells-requires
+set-cells-requires c κs = omega (arith, words-known _ (c .before .before .before .before .before .before .before .before .before .before .before .before .before .before .before .before .pre .1))
+
+zero-requires : tie.Need-zero-requires
+zero-requires c κs = search needs
 
 same-length : tie.Need-same-length
 same-length c = search needs
@@ -30,26 +42,9 @@ same-length c = search needs
 same-length-2 : tie.Need-same-length-2
 same-length-2 c = search needs
 
---@ returns c = take-bad (@args .p) (@args .b .0) (view (@args .w .now)) (@args .h .now) (@free .ensures) (@size .ensures) (@load .ensures) (link-sized _ _ _ _ (@size .ensures) (@link-ok .ensures)) (not-true _ (@if1 .taken))
+--@ returns c = take (@args .p) (@args .b .0) (view (@args .words .now)) (@args .heap .now) (@free .ensures) (@size .ensures) (@cells .ensures) (@load .ensures) (@one-less .ensures) (@set-free .ensures) (@set-cells .ensures) (@zero .ensures)
 returns : tie.Need-returns
-returns c = take-bad (c .before .before .before .before .before .before .before .before .before .before .args .p) (c .before .before .before .before .before .before .before .before .before .before .args .b .0) (view (c .before .before .before .before .before .before .before .before .before .before .args .w .now)) (c .before .before .before .before .before .before .before .before .before .before .args .h .now) (c .before .before .before .before .before .before .free .ensures) (c .before .before .before .before .size .ensures) (c .before .before .load .ensures) (link-sized _ _ _ _ (c .before .before .before .before .size .ensures) (c .before .link-ok .ensures)) (not-true _ (c .if1 .taken))
-
---@ set-free-requires c κs = words-known _ (@pre .1)
-set-free-requires : tie.Need-set-free-requires
-set-free-requires c κs = words-known _ (c .before .before .before .before .before .before .before .before .before .before .before .pre .1)
-
-zero-requires : tie.Need-zero-requires
-zero-requires c κs = search needs
-
-same-length-3 : tie.Need-same-length-3
-same-length-3 c = search needs
-
-same-length-4 : tie.Need-same-length-4
-same-length-4 c = search needs
-
---@ returns-2 c = take-good (@args .p) (@args .b .0) (view (@args .w .now)) (@args .h .now) (@free .ensures) (@size .ensures) (@load .ensures) (link-sized _ _ _ _ (@size .ensures) (@link-ok .ensures)) (not-false _ (@if1 .left)) (@set-free .ensures) (@zero .ensures)
-returns-2 : tie.Need-returns-2
-returns-2 c = take-good (c .before .before .before .before .before .before .before .before .before .before .before .before .before .before .before .before .before .before .args .p) (c .before .before .before .before .before .before .before .before .before .before .before .before .before .before .before .before .before .before .args .b .0) (view (c .before .before .before .before .before .before .before .before .before .before .before .before .before .before .before .before .before .before .args .w .now)) (c .before .before .before .before .before .before .before .before .before .before .before .before .before .before .before .before .before .before .args .h .now) (c .before .before .before .before .before .before .before .before .before .before .before .before .before .before .free .ensures) (c .before .before .before .before .before .before .before .before .before .before .before .before .size .ensures) (c .before .before .before .before .before .before .before .before .before .before .load .ensures) (link-sized _ _ _ _ (c .before .before .before .before .before .before .before .before .before .before .before .before .size .ensures) (c .before .before .before .before .before .before .before .before .before .link-ok .ensures)) (not-false _ (c .before .before .before .before .before .before .before .before .if1 .left)) (c .before .before .before .before .before .before .set-free .ensures) (c .before .before .zero .ensures)
+returns c = take (c .before .before .before .before .before .before .before .before .before .before .before .before .before .before .before .before .before .before .before .before .before .before .before .args .p) (c .before .before .before .before .before .before .before .before .before .before .before .before .before .before .before .before .before .before .before .before .before .before .before .args .b .0) (view (c .before .before .before .before .before .before .before .before .before .before .before .before .before .before .before .before .before .before .before .before .before .before .before .args .words .now)) (c .before .before .before .before .before .before .before .before .before .before .before .before .before .before .before .before .before .before .before .before .before .before .before .args .heap .now) (c .before .before .before .before .before .before .before .before .before .before .before .before .before .before .before .before .before .before .before .free .ensures) (c .before .before .before .before .before .before .before .before .before .before .before .before .before .before .before .before .before .size .ensures) (c .before .before .before .before .before .before .before .before .before .before .before .before .before .before .before .cells .ensures) (c .before .before .before .before .before .before .before .before .before .before .before .before .load .ensures) (c .before .before .before .before .before .before .before .before .before .before .before .before .before .before .one-less .ensures) (c .before .before .before .before .before .before .before .before .before .before .set-free .ensures) (c .before .before .before .before .before .before .set-cells .ensures) (c .before .before .zero .ensures)
 
 pub block-alloc-spec : {M : Type 1} → statement M
 block-alloc-spec =
@@ -57,13 +52,12 @@ block-alloc-spec =
     (tie.spec
     free-requires
     size-requires
+    cells-requires
+    one-less-requires
     load-requires
-    link-ok-requires
+    set-free-requires
+    set-cells-requires
+    zero-requires
     same-length
     same-length-2
-    returns
-    set-free-requires
-    zero-requires
-    same-length-3
-    same-length-4
-    returns-2)
+    returns)

@@ -1,5 +1,5 @@
--- `block::clear_block` meets its contract: six words and the state, in the order of `clearBlock`. Assumes nothing.
-use Rattle.laws.proofs.Tables.{put-next, put-prev, put-free, put-size, put-list, put-tls}
+-- `block::clear_block` meets its contract: seven words and the state, in the order of `clearBlock`. Assumes nothing.
+use Rattle.laws.proofs.Tables.{put-next, put-prev, put-free, put-size, put-list, put-tls, put-cells}
 use Rattle.native_ms.proofs.Chains.{cleared}
 use borrow.Author.Needs.{needs}
 use Rattle.native_ms.proofs.block.clear_block.Statement.{statement}
@@ -23,6 +23,9 @@ set-list-requires c κs = search needs
 set-tls-requires : tie.Need-set-tls-requires
 set-tls-requires c κs = search needs
 
+set-cells-requires : tie.Need-set-cells-requires
+set-cells-requires c κs = search needs
+
 set-state-requires : tie.Need-set-state-requires
 set-state-requires c κs = search needs
 
@@ -32,9 +35,9 @@ same-length c = search needs
 same-length-2 : tie.Need-same-length-2
 same-length-2 c = search needs
 
---@ returns c = cleared _ _ _ (put-next _ _ _ (@set-next .ensures)) (put-prev _ _ _ (@set-prev .ensures)) (put-free _ _ _ (@set-free .ensures)) (put-size _ _ _ (@set-size .ensures)) (put-list _ _ _ (@set-list .ensures)) (put-tls _ _ _ (@set-tls .ensures)) (@set-state .ensures)
+--@ returns c = cleared _ _ _ (put-next _ _ _ (@set-next .ensures)) (put-prev _ _ _ (@set-prev .ensures)) (put-free _ _ _ (@set-free .ensures)) (put-size _ _ _ (@set-size .ensures)) (put-list _ _ _ (@set-list .ensures)) (put-tls _ _ _ (@set-tls .ensures)) (put-cells _ _ _ (@set-cells .ensures)) (@set-state .ensures)
 returns : tie.Need-returns
-returns c = cleared _ _ _ (put-next _ _ _ (c .before .before .before .before .before .before .before .before .before .before .before .before .before .before .before .before .before .before .before .before .before .before .before .before .before .before .set-next .ensures)) (put-prev _ _ _ (c .before .before .before .before .before .before .before .before .before .before .before .before .before .before .before .before .before .before .before .before .before .before .set-prev .ensures)) (put-free _ _ _ (c .before .before .before .before .before .before .before .before .before .before .before .before .before .before .before .before .before .before .set-free .ensures)) (put-size _ _ _ (c .before .before .before .before .before .before .before .before .before .before .before .before .before .before .set-size .ensures)) (put-list _ _ _ (c .before .before .before .before .before .before .before .before .before .before .set-list .ensures)) (put-tls _ _ _ (c .before .before .before .before .before .before .set-tls .ensures)) (c .before .before .set-state .ensures)
+returns c = cleared _ _ _ (put-next _ _ _ (c .before .before .before .before .before .before .before .before .before .before .before .before .before .before .before .before .before .before .before .before .before .before .before .before .before .before .before .before .before .before .set-next .ensures)) (put-prev _ _ _ (c .before .before .before .before .before .before .before .before .before .before .before .before .before .before .before .before .before .before .before .before .before .before .before .before .before .before .set-prev .ensures)) (put-free _ _ _ (c .before .before .before .before .before .before .before .before .before .before .before .before .before .before .before .before .before .before .before .before .before .before .set-free .ensures)) (put-size _ _ _ (c .before .before .before .before .before .before .before .before .before .before .before .before .before .before .before .before .before .before .set-size .ensures)) (put-list _ _ _ (c .before .before .before .before .before .before .before .before .before .before .before .before .before .before .set-list .ensures)) (put-tls _ _ _ (c .before .before .before .before .before .before .before .before .before .before .set-tls .ensures)) (put-cells _ _ _ (c .before .before .before .before .before .before .set-cells .ensures)) (c .before .before .set-state .ensures)
 
 pub clear-block-spec : {M : Type 1} → statement M
 clear-block-spec =
@@ -46,6 +49,7 @@ clear-block-spec =
     set-size-requires
     set-list-requires
     set-tls-requires
+    set-cells-requires
     set-state-requires
     same-length
     same-length-2

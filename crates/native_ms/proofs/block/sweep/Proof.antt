@@ -35,9 +35,9 @@ same-length-2 c = search needs
 returns : tie.Need-returns
 returns c = swept _ _ _ _ (c .before .before .before .before .before .before .before .before .before .is-simple .ensures) (c .before .before .before .before .sweep-by .ensures)
 
---@ simple-sweep-requires c κs = sweepable _ (view (@args .w .now)) (@args .b .0) @pre (sized-view _ (@args .w .now) (words-known _ (@pre .count)) .size) (@size .ensures) (@is-whole-words .ensures (not-false _ (@if1 .left)))
+--@ simple-sweep-requires c κs = sweepable _ (view (@args .words .now)) (@args .b .0) @pre (sized-view _ (@args .words .now) (words-known _ (@pre .count)) .size) (@size .ensures) (@is-whole-words .ensures (not-false _ (@if1 .left)))
 simple-sweep-requires : tie.Need-simple-sweep-requires
-simple-sweep-requires c κs = sweepable _ (view (c .before .before .before .before .before .before .before .before .before .before .before .args .w .now)) (c .before .before .before .before .before .before .before .before .before .before .before .args .b .0) (c .before .before .before .before .before .before .before .before .before .before .before .pre) (sized-view _ (c .before .before .before .before .before .before .before .before .before .before .before .args .w .now) (words-known _ (c .before .before .before .before .before .before .before .before .before .before .before .pre .count)) .size) (c .before .before .before .before .before .before .size .ensures) (c .before .before .before .before .is-whole-words .ensures (not-false _ (c .before .before .before .if1 .left)))
+simple-sweep-requires c κs = sweepable _ (view (c .before .before .before .before .before .before .before .before .before .before .before .args .words .now)) (c .before .before .before .before .before .before .before .before .before .before .before .args .b .0) (c .before .before .before .before .before .before .before .before .before .before .before .pre) (sized-view _ (c .before .before .before .before .before .before .before .before .before .before .before .args .words .now) (words-known _ (c .before .before .before .before .before .before .before .before .before .before .before .pre .count)) .size) (c .before .before .before .before .before .before .size .ensures) (c .before .before .before .before .is-whole-words .ensures (not-false _ (c .before .before .before .if1 .left)))
 
 same-length-3 : tie.Need-same-length-3
 same-length-3 c = search needs
@@ -49,9 +49,9 @@ same-length-4 c = search needs
 returns-2 : tie.Need-returns-2
 returns-2 c = swept _ _ _ true (sym (c .before .before .before .before .before .before .before .if2 .taken) ∙ c .before .before .before .before .before .before .before .before .before .before .is-simple .ensures) (c .before .before .before .before .simple-sweep .ensures)
 
---@ naive-brute-force-sweep-requires c κs = sweepable _ (view (@args .w .now)) (@args .b .0) @pre (sized-view _ (@args .w .now) (words-known _ (@pre .count)) .size) (@size .ensures) (@is-whole-words .ensures (not-false _ (@if1 .left)))
+--@ naive-brute-force-sweep-requires c κs = sweepable _ (view (@args .words .now)) (@args .b .0) @pre (sized-view _ (@args .words .now) (words-known _ (@pre .count)) .size) (@size .ensures) (@is-whole-words .ensures (not-false _ (@if1 .left)))
 naive-brute-force-sweep-requires : tie.Need-naive-brute-force-sweep-requires
-naive-brute-force-sweep-requires c κs = sweepable _ (view (c .before .before .before .before .before .before .before .before .before .before .before .args .w .now)) (c .before .before .before .before .before .before .before .before .before .before .before .args .b .0) (c .before .before .before .before .before .before .before .before .before .before .before .pre) (sized-view _ (c .before .before .before .before .before .before .before .before .before .before .before .args .w .now) (words-known _ (c .before .before .before .before .before .before .before .before .before .before .before .pre .count)) .size) (c .before .before .before .before .before .before .size .ensures) (c .before .before .before .before .is-whole-words .ensures (not-false _ (c .before .before .before .if1 .left)))
+naive-brute-force-sweep-requires c κs = sweepable _ (view (c .before .before .before .before .before .before .before .before .before .before .before .args .words .now)) (c .before .before .before .before .before .before .before .before .before .before .before .args .b .0) (c .before .before .before .before .before .before .before .before .before .before .before .pre) (sized-view _ (c .before .before .before .before .before .before .before .before .before .before .before .args .words .now) (words-known _ (c .before .before .before .before .before .before .before .before .before .before .before .pre .count)) .size) (c .before .before .before .before .before .before .size .ensures) (c .before .before .before .before .is-whole-words .ensures (not-false _ (c .before .before .before .if1 .left)))
 
 same-length-5 : tie.Need-same-length-5
 same-length-5 c = search needs

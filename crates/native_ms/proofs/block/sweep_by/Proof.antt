@@ -1,5 +1,5 @@
--- `block::sweep_by` meets its contract: the free cells are linked and the free head is set. Assumes nothing.
-use Rattle.laws.proofs.Tables.{put-free}
+-- `block::sweep_by` meets its contract: the free cells are linked then head and count are set. Assumes nothing.
+use Rattle.laws.proofs.Tables.{put-free, put-cells}
 use Rattle.native_ms.specs.Block.{keptBy}
 use Rattle.native_ms.proofs.Chains.{block-room, swept-by}
 use borrow.Author.Needs.{needs}
@@ -22,15 +22,18 @@ link-unmarked-requires c κs = block-room (c .before .before .before .before .be
 set-free-requires : tie.Need-set-free-requires
 set-free-requires c κs = search needs
 
+set-cells-requires : tie.Need-set-cells-requires
+set-cells-requires c κs = search needs
+
 same-length : tie.Need-same-length
 same-length c = search needs
 
 same-length-2 : tie.Need-same-length-2
 same-length-2 c = search needs
 
---@ returns c = swept-by _ (keptBy (@args .simple) (@args .p) (@args .m .now)) _ _ _ (@size .ensures) (@cell-count .ensures) (@start .ensures) (@link-unmarked .ensures) (put-free _ _ _ (@set-free .ensures))
+--@ returns c = swept-by _ (keptBy (@args .simple) (@args .p) (@args .marks .now)) _ _ _ (@size .ensures) (@cell-count .ensures) (@start .ensures) (@link-unmarked .ensures) (put-free _ _ _ (@set-free .ensures)) (put-cells _ _ _ (@set-cells .ensures))
 returns : tie.Need-returns
-returns c = swept-by _ (keptBy (c .before .before .before .before .before .before .before .before .before .before .before .before .before .before .before .args .simple) (c .before .before .before .before .before .before .before .before .before .before .before .before .before .before .before .args .p) (c .before .before .before .before .before .before .before .before .before .before .before .before .before .before .before .args .m .now)) _ _ _ (c .before .before .before .before .before .before .before .before .before .before .size .ensures) (c .before .before .before .before .before .before .before .before .before .cell-count .ensures) (c .before .before .before .before .before .before .before .before .start .ensures) (c .before .before .before .before .before .before .link-unmarked .ensures) (put-free _ _ _ (c .before .before .set-free .ensures))
+returns c = swept-by _ (keptBy (c .before .before .before .before .before .before .before .before .before .before .before .before .before .before .before .before .before .before .before .args .simple) (c .before .before .before .before .before .before .before .before .before .before .before .before .before .before .before .before .before .before .before .args .p) (c .before .before .before .before .before .before .before .before .before .before .before .before .before .before .before .before .before .before .before .args .marks .now)) _ _ _ (c .before .before .before .before .before .before .before .before .before .before .before .before .before .before .size .ensures) (c .before .before .before .before .before .before .before .before .before .before .before .before .before .cell-count .ensures) (c .before .before .before .before .before .before .before .before .before .before .before .before .start .ensures) (c .before .before .before .before .before .before .before .before .before .before .link-unmarked .ensures) (put-free _ _ _ (c .before .before .before .before .before .before .set-free .ensures)) (put-cells _ _ _ (c .before .before .set-cells .ensures))
 
 pub sweep-by-spec : {M : Type 1} → statement M
 sweep-by-spec =
@@ -41,6 +44,7 @@ sweep-by-spec =
     start-requires
     link-unmarked-requires
     set-free-requires
+    set-cells-requires
     same-length
     same-length-2
     returns)

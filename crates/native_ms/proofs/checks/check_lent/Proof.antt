@@ -24,19 +24,19 @@ returns-2 : tie.Need-returns-2
 unfolding lentTests
 returns-2 c = then-passed _ (test-yes BadSetup (c .before .before .before .lent-fits .ensures) (not-false _ (c .before .before .if1 .left))) refl (then-refused _ (test-no BadClasses (c .before .classes-fit .ensures) (not-true _ (c .if2 .taken))) refl)
 
---@ sound-requires c κs = let f = fit-parts _ _ _ _ _ (@lent-fits .ensures) (not-false _ (@if1 .left)) in (record { good = f .good; words = f .words; states = f .states }, sym (@classes-fit .ensures) ∙ not-false _ (@if2 .left))
-sound-requires : tie.Need-sound-requires
-sound-requires c κs = let f = fit-parts _ _ _ _ _ (c .before .before .before .lent-fits .ensures) (not-false _ (c .before .before .if1 .left)) in (record { good = f .good; words = f .words; states = f .states }, sym (c .before .classes-fit .ensures) ∙ not-false _ (c .if2 .left))
+--@ sound-on-requires c κs = let f = fit-parts _ _ _ _ _ (@lent-fits .ensures) (not-false _ (@if1 .left)) in (record { good = f .good; words = f .words; states = f .states }, sym (@classes-fit .ensures) ∙ not-false _ (@if2 .left))
+sound-on-requires : tie.Need-sound-on-requires
+sound-on-requires c κs = let f = fit-parts _ _ _ _ _ (c .before .before .before .lent-fits .ensures) (not-false _ (c .before .before .if1 .left)) in (record { good = f .good; words = f .words; states = f .states }, sym (c .before .classes-fit .ensures) ∙ not-false _ (c .if2 .left))
 
---@ returns-3 c = then-passed _ (test-yes BadSetup (@lent-fits .ensures) (not-false _ (@if1 .left))) refl (then-passed _ (test-yes BadClasses (@classes-fit .ensures) (not-false _ (@if2 .left))) refl (test-no BadTables (@sound .ensures (@args .marks .now)) (not-true _ (@if3 .taken))))
+--@ returns-3 c = then-passed _ (test-yes BadSetup (@lent-fits .ensures) (not-false _ (@if1 .left))) refl (then-passed _ (test-yes BadClasses (@classes-fit .ensures) (not-false _ (@if2 .left))) refl (test-no BadTables (@sound-on .ensures (@args .marks .now)) (not-true _ (@if3 .taken))))
 returns-3 : tie.Need-returns-3
 unfolding lentTests
-returns-3 c = then-passed _ (test-yes BadSetup (c .before .before .before .before .before .lent-fits .ensures) (not-false _ (c .before .before .before .before .if1 .left))) refl (then-passed _ (test-yes BadClasses (c .before .before .before .classes-fit .ensures) (not-false _ (c .before .before .if2 .left))) refl (test-no BadTables (c .before .sound .ensures (c .before .before .before .before .before .before .before .before .before .before .args .marks .now)) (not-true _ (c .if3 .taken))))
+returns-3 c = then-passed _ (test-yes BadSetup (c .before .before .before .before .before .lent-fits .ensures) (not-false _ (c .before .before .before .before .if1 .left))) refl (then-passed _ (test-yes BadClasses (c .before .before .before .classes-fit .ensures) (not-false _ (c .before .before .if2 .left))) refl (test-no BadTables (c .before .sound-on .ensures (c .before .before .before .before .before .before .before .before .before .before .args .marks .now)) (not-true _ (c .if3 .taken))))
 
---@ returns-4 c = then-passed _ (test-yes BadSetup (@lent-fits .ensures) (not-false _ (@if1 .left))) refl (then-passed _ (test-yes BadClasses (@classes-fit .ensures) (not-false _ (@if2 .left))) refl (test-yes BadTables (@sound .ensures (@args .marks .now)) (not-false _ (@if3 .left))))
+--@ returns-4 c = then-passed _ (test-yes BadSetup (@lent-fits .ensures) (not-false _ (@if1 .left))) refl (then-passed _ (test-yes BadClasses (@classes-fit .ensures) (not-false _ (@if2 .left))) refl (test-yes BadTables (@sound-on .ensures (@args .marks .now)) (not-false _ (@if3 .left))))
 returns-4 : tie.Need-returns-4
 unfolding lentTests
-returns-4 c = then-passed _ (test-yes BadSetup (c .before .before .before .before .before .lent-fits .ensures) (not-false _ (c .before .before .before .before .if1 .left))) refl (then-passed _ (test-yes BadClasses (c .before .before .before .classes-fit .ensures) (not-false _ (c .before .before .if2 .left))) refl (test-yes BadTables (c .before .sound .ensures (c .before .before .before .before .before .before .before .before .before .before .args .marks .now)) (not-false _ (c .if3 .left))))
+returns-4 c = then-passed _ (test-yes BadSetup (c .before .before .before .before .before .lent-fits .ensures) (not-false _ (c .before .before .before .before .if1 .left))) refl (then-passed _ (test-yes BadClasses (c .before .before .before .classes-fit .ensures) (not-false _ (c .before .before .if2 .left))) refl (test-yes BadTables (c .before .sound-on .ensures (c .before .before .before .before .before .before .before .before .before .before .args .marks .now)) (not-false _ (c .if3 .left))))
 
 pub check-lent-spec : {M : Type 1} → statement M
-check-lent-spec = tie.close (tie.spec lent-fits-requires returns classes-fit-requires returns-2 sound-requires returns-3 returns-4)
+check-lent-spec = tie.close (tie.spec lent-fits-requires returns classes-fit-requires returns-2 sound-on-requires returns-3 returns-4)

@@ -17,9 +17,9 @@ same-length c = search needs
 same-length-2 : tie.Need-same-length-2
 same-length-2 c = search needs
 
---@ returns c = global-found (@args .p) (@args .wanted .holder) (@args .wanted .bin) (@args .before) (view (@args .w .now)) (@args .st .now) (@args .m .now) (@args .h .now) (@acquire-abandoned .ensures) (@args .wanted .offer) (@if1 .taken)
+--@ returns c = global-found (@args .p) (@args .wanted .holder) (@args .wanted .bin) (@args .before) (view (@args .words .now)) (@args .states .now) (@args .marks .now) (@args .heap .now) (@acquire-abandoned .ensures) (@args .wanted .offer) (@if1 .taken)
 returns : tie.Need-returns
-returns c = global-found (c .before .before .before .before .before .before .before .before .before .before .before .before .before .args .p) (c .before .before .before .before .before .before .before .before .before .before .before .before .before .args .wanted .holder) (c .before .before .before .before .before .before .before .before .before .before .before .before .before .args .wanted .bin) (c .before .before .before .before .before .before .before .before .before .before .before .before .before .args .before) (view (c .before .before .before .before .before .before .before .before .before .before .before .before .before .args .w .now)) (c .before .before .before .before .before .before .before .before .before .before .before .before .before .args .st .now) (c .before .before .before .before .before .before .before .before .before .before .before .before .before .args .m .now) (c .before .before .before .before .before .before .before .before .before .before .before .before .before .args .h .now) (c .before .before .before .before .before .before .acquire-abandoned .ensures) (c .before .before .before .before .before .before .before .before .before .before .before .before .before .args .wanted .offer) (c .if1 .taken)
+returns c = global-found (c .before .before .before .before .before .before .before .before .before .before .before .before .before .args .p) (c .before .before .before .before .before .before .before .before .before .before .before .before .before .args .wanted .holder) (c .before .before .before .before .before .before .before .before .before .before .before .before .before .args .wanted .bin) (c .before .before .before .before .before .before .before .before .before .before .before .before .before .args .before) (view (c .before .before .before .before .before .before .before .before .before .before .before .before .before .args .words .now)) (c .before .before .before .before .before .before .before .before .before .before .before .before .before .args .states .now) (c .before .before .before .before .before .before .before .before .before .before .before .before .before .args .marks .now) (c .before .before .before .before .before .before .before .before .before .before .before .before .before .args .heap .now) (c .before .before .before .before .before .before .acquire-abandoned .ensures) (c .before .before .before .before .before .before .before .before .before .before .before .before .before .args .wanted .offer) (c .if1 .taken)
 
 enum-told : tie.Need-enum-told
 enum-told c = search needs
@@ -41,9 +41,9 @@ same-length-3 c = search needs
 same-length-4 : tie.Need-same-length-4
 same-length-4 c = search needs
 
---@ returns-2 c = global-none (@args .p) (@args .wanted .holder) (@args .wanted .bin) (@args .before) (view (@args .w .now)) (@args .st .now) (@args .m .now) (@args .h .now) (@acquire-abandoned .ensures) (@if1 .left) (@args .wanted .offer) (@enum-told .given .1)
+--@ returns-2 c = global-none (@args .p) (@args .wanted .holder) (@args .wanted .bin) (@args .before) (view (@args .words .now)) (@args .states .now) (@args .marks .now) (@args .heap .now) (@acquire-abandoned .ensures) (@if1 .left) (@args .wanted .offer) (@enum-told .given .1)
 returns-2 : tie.Need-returns-2
-returns-2 c = global-none (c .before .before .before .before .before .before .before .before .before .before .before .before .before .before .before .args .p) (c .before .before .before .before .before .before .before .before .before .before .before .before .before .before .before .args .wanted .holder) (c .before .before .before .before .before .before .before .before .before .before .before .before .before .before .before .args .wanted .bin) (c .before .before .before .before .before .before .before .before .before .before .before .before .before .before .before .args .before) (view (c .before .before .before .before .before .before .before .before .before .before .before .before .before .before .before .args .w .now)) (c .before .before .before .before .before .before .before .before .before .before .before .before .before .before .before .args .st .now) (c .before .before .before .before .before .before .before .before .before .before .before .before .before .before .before .args .m .now) (c .before .before .before .before .before .before .before .before .before .before .before .before .before .before .before .args .h .now) (c .before .before .before .before .before .before .before .before .acquire-abandoned .ensures) (c .before .before .if1 .left) (c .before .before .before .before .before .before .before .before .before .before .before .before .before .before .before .args .wanted .offer) (c .enum-told .given .1)
+returns-2 c = global-none (c .before .before .before .before .before .before .before .before .before .before .before .before .before .before .before .args .p) (c .before .before .before .before .before .before .before .before .before .before .before .before .before .before .before .args .wanted .holder) (c .before .before .before .before .before .before .before .before .before .before .before .before .before .before .before .args .wanted .bin) (c .before .before .before .before .before .before .before .before .before .before .before .before .before .before .before .args .before) (view (c .before .before .before .before .before .before .before .before .before .before .before .before .before .before .before .args .words .now)) (c .before .before .before .before .before .before .before .before .before .before .before .before .before .before .before .args .states .now) (c .before .before .before .before .before .before .before .before .before .before .before .before .before .before .before .args .marks .now) (c .before .before .before .before .before .before .before .before .before .before .before .before .before .before .before .args .heap .now) (c .before .before .before .before .before .before .before .before .acquire-abandoned .ensures) (c .before .before .if1 .left) (c .before .before .before .before .before .before .before .before .before .before .before .before .before .before .before .args .wanted .offer) (c .enum-told .given .1)
 
 same-length-5 : tie.Need-same-length-5
 same-length-5 c = search needs
@@ -54,9 +54,9 @@ same-length-6 c = search needs
 same-length-7 : tie.Need-same-length-7
 same-length-7 c = search needs
 
---@ returns-3 c = global-fresh (@args .p) (@args .wanted .holder) (@args .wanted .bin) (@args .before) (view (@args .w .now)) (@args .st .now) (@args .m .now) (@args .h .now) (@acquire-abandoned .ensures) (@if1 .left) (@args .wanted .offer) _ (@offer .given .1) (@acquire-fresh .ensures) (@start .ensures)
+--@ returns-3 c = global-fresh (@args .p) (@args .wanted .holder) (@args .wanted .bin) (@args .before) (view (@args .words .now)) (@args .states .now) (@args .marks .now) (@args .heap .now) (@acquire-abandoned .ensures) (@if1 .left) (@args .wanted .offer) _ (@offer .given .1) (@acquire-fresh .ensures) (@start .ensures)
 returns-3 : tie.Need-returns-3
-returns-3 c = global-fresh (c .before .before .before .before .before .before .before .before .before .before .before .before .before .before .before .before .before .before .before .before .before .before .before .before .before .before .before .args .p) (c .before .before .before .before .before .before .before .before .before .before .before .before .before .before .before .before .before .before .before .before .before .before .before .before .before .before .before .args .wanted .holder) (c .before .before .before .before .before .before .before .before .before .before .before .before .before .before .before .before .before .before .before .before .before .before .before .before .before .before .before .args .wanted .bin) (c .before .before .before .before .before .before .before .before .before .before .before .before .before .before .before .before .before .before .before .before .before .before .before .before .before .before .before .args .before) (view (c .before .before .before .before .before .before .before .before .before .before .before .before .before .before .before .before .before .before .before .before .before .before .before .before .before .before .before .args .w .now)) (c .before .before .before .before .before .before .before .before .before .before .before .before .before .before .before .before .before .before .before .before .before .before .before .before .before .before .before .args .st .now) (c .before .before .before .before .before .before .before .before .before .before .before .before .before .before .before .before .before .before .before .before .before .before .before .before .before .before .before .args .m .now) (c .before .before .before .before .before .before .before .before .before .before .before .before .before .before .before .before .before .before .before .before .before .before .before .before .before .before .before .args .h .now) (c .before .before .before .before .before .before .before .before .before .before .before .before .before .before .before .before .before .before .before .before .acquire-abandoned .ensures) (c .before .before .before .before .before .before .before .before .before .before .before .before .before .before .if1 .left) (c .before .before .before .before .before .before .before .before .before .before .before .before .before .before .before .before .before .before .before .before .before .before .before .before .before .before .before .args .wanted .offer) _ (c .before .before .before .before .before .before .before .before .before .before .before .before .offer .given .1) (c .before .before .before .before .before .before .before .acquire-fresh .ensures) (c .start .ensures)
+returns-3 c = global-fresh (c .before .before .before .before .before .before .before .before .before .before .before .before .before .before .before .before .before .before .before .before .before .before .before .before .before .before .before .args .p) (c .before .before .before .before .before .before .before .before .before .before .before .before .before .before .before .before .before .before .before .before .before .before .before .before .before .before .before .args .wanted .holder) (c .before .before .before .before .before .before .before .before .before .before .before .before .before .before .before .before .before .before .before .before .before .before .before .before .before .before .before .args .wanted .bin) (c .before .before .before .before .before .before .before .before .before .before .before .before .before .before .before .before .before .before .before .before .before .before .before .before .before .before .before .args .before) (view (c .before .before .before .before .before .before .before .before .before .before .before .before .before .before .before .before .before .before .before .before .before .before .before .before .before .before .before .args .words .now)) (c .before .before .before .before .before .before .before .before .before .before .before .before .before .before .before .before .before .before .before .before .before .before .before .before .before .before .before .args .states .now) (c .before .before .before .before .before .before .before .before .before .before .before .before .before .before .before .before .before .before .before .before .before .before .before .before .before .before .before .args .marks .now) (c .before .before .before .before .before .before .before .before .before .before .before .before .before .before .before .before .before .before .before .before .before .before .before .before .before .before .before .args .heap .now) (c .before .before .before .before .before .before .before .before .before .before .before .before .before .before .before .before .before .before .before .before .acquire-abandoned .ensures) (c .before .before .before .before .before .before .before .before .before .before .before .before .before .before .if1 .left) (c .before .before .before .before .before .before .before .before .before .before .before .before .before .before .before .before .before .before .before .before .before .before .before .before .before .before .before .args .wanted .offer) _ (c .before .before .before .before .before .before .before .before .before .before .before .before .offer .given .1) (c .before .before .before .before .before .before .before .acquire-fresh .ensures) (c .start .ensures)
 
 pub acquire-global-block-spec : {M : Type 1} → statement M
 acquire-global-block-spec =

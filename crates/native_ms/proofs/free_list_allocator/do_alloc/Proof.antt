@@ -15,9 +15,9 @@ enum-known-r c = search needs
 enum-known-bin : tie.Need-enum-known-bin
 enum-known-bin c = search needs
 
---@ serve-requires c κs = (call-ready (@args .p) (@args .w .now) (@args .st .now) (@args .m .now) (@args .h .now) _ _ _ _ _ (@check-alloc .ensures) (@bin .given .1) (@pre), call-known (@args .p) (@args .w .now) (@args .st .now) (@args .m .now) (@args .h .now) _ _ _ _ _ (@check-alloc .ensures) (@bin .given .1) (@pre), call-offered (@args .p) (@args .w .now) (@args .st .now) (@args .m .now) (@args .h .now) _ _ _ _ _ (@check-alloc .ensures) (@bin .given .1) (@pre))
+--@ serve-requires c κs = (call-ready (@args .p) (@args .words .now) (@args .states .now) (@args .marks .now) (@args .heap .now) _ _ _ _ _ (@check-alloc .ensures) (@bin .given .1) (@pre), call-known (@args .p) (@args .words .now) (@args .states .now) (@args .marks .now) (@args .heap .now) _ _ _ _ _ (@check-alloc .ensures) (@bin .given .1) (@pre), call-offered (@args .p) (@args .words .now) (@args .states .now) (@args .marks .now) (@args .heap .now) _ _ _ _ _ (@check-alloc .ensures) (@bin .given .1) (@pre))
 serve-requires : tie.Need-serve-requires
-serve-requires c κs = (call-ready (c .before .before .before .before .before .before .before .before .before .before .before .before .before .args .p) (c .before .before .before .before .before .before .before .before .before .before .before .before .before .args .w .now) (c .before .before .before .before .before .before .before .before .before .before .before .before .before .args .st .now) (c .before .before .before .before .before .before .before .before .before .before .before .before .before .args .m .now) (c .before .before .before .before .before .before .before .before .before .before .before .before .before .args .h .now) _ _ _ _ _ (c .before .before .before .before .before .before .check-alloc .ensures) (c .before .before .before .before .bin .given .1) ((c .before .before .before .before .before .before .before .before .before .before .before .before .before .pre)), call-known (c .before .before .before .before .before .before .before .before .before .before .before .before .before .args .p) (c .before .before .before .before .before .before .before .before .before .before .before .before .before .args .w .now) (c .before .before .before .before .before .before .before .before .before .before .before .before .before .args .st .now) (c .before .before .before .before .before .before .before .before .before .before .before .before .before .args .m .now) (c .before .before .before .before .before .before .before .before .before .before .before .before .before .args .h .now) _ _ _ _ _ (c .before .before .before .before .before .before .check-alloc .ensures) (c .before .before .before .before .bin .given .1) ((c .before .before .before .before .before .before .before .before .before .before .before .before .before .pre)), call-offered (c .before .before .before .before .before .before .before .before .before .before .before .before .before .args .p) (c .before .before .before .before .before .before .before .before .before .before .before .before .before .args .w .now) (c .before .before .before .before .before .before .before .before .before .before .before .before .before .args .st .now) (c .before .before .before .before .before .before .before .before .before .before .before .before .before .args .m .now) (c .before .before .before .before .before .before .before .before .before .before .before .before .before .args .h .now) _ _ _ _ _ (c .before .before .before .before .before .before .check-alloc .ensures) (c .before .before .before .before .bin .given .1) ((c .before .before .before .before .before .before .before .before .before .before .before .before .before .pre)))
+serve-requires c κs = (call-ready (c .before .before .before .before .before .before .before .before .before .before .before .before .before .args .p) (c .before .before .before .before .before .before .before .before .before .before .before .before .before .args .words .now) (c .before .before .before .before .before .before .before .before .before .before .before .before .before .args .states .now) (c .before .before .before .before .before .before .before .before .before .before .before .before .before .args .marks .now) (c .before .before .before .before .before .before .before .before .before .before .before .before .before .args .heap .now) _ _ _ _ _ (c .before .before .before .before .before .before .check-alloc .ensures) (c .before .before .before .before .bin .given .1) ((c .before .before .before .before .before .before .before .before .before .before .before .before .before .pre)), call-known (c .before .before .before .before .before .before .before .before .before .before .before .before .before .args .p) (c .before .before .before .before .before .before .before .before .before .before .before .before .before .args .words .now) (c .before .before .before .before .before .before .before .before .before .before .before .before .before .args .states .now) (c .before .before .before .before .before .before .before .before .before .before .before .before .before .args .marks .now) (c .before .before .before .before .before .before .before .before .before .before .before .before .before .args .heap .now) _ _ _ _ _ (c .before .before .before .before .before .before .check-alloc .ensures) (c .before .before .before .before .bin .given .1) ((c .before .before .before .before .before .before .before .before .before .before .before .before .before .pre)), call-offered (c .before .before .before .before .before .before .before .before .before .before .before .before .before .args .p) (c .before .before .before .before .before .before .before .before .before .before .before .before .before .args .words .now) (c .before .before .before .before .before .before .before .before .before .before .before .before .before .args .states .now) (c .before .before .before .before .before .before .before .before .before .before .before .before .before .args .marks .now) (c .before .before .before .before .before .before .before .before .before .before .before .before .before .args .heap .now) _ _ _ _ _ (c .before .before .before .before .before .before .check-alloc .ensures) (c .before .before .before .before .bin .given .1) ((c .before .before .before .before .before .before .before .before .before .before .before .before .before .pre)))
 
 same-length : tie.Need-same-length
 same-length c = search needs
@@ -25,10 +25,10 @@ same-length c = search needs
 same-length-2 : tie.Need-same-length-2
 same-length-2 c = search needs
 
---@ returns c = call-refused (@args .p) (@args .w .now) (@args .st .now) (@args .m .now) (@args .h .now) _ _ _ _ _ (@check-alloc .ensures) (@r .given .1)
+--@ returns c = call-refused (@args .p) (@args .words .now) (@args .states .now) (@args .marks .now) (@args .heap .now) _ _ _ _ _ (@check-alloc .ensures) (@r .given .1)
 returns : tie.Need-returns
 unfolding allocReply
-returns c = call-refused (c .before .before .before .before .before .before .before .before .before .before .args .p) (c .before .before .before .before .before .before .before .before .before .before .args .w .now) (c .before .before .before .before .before .before .before .before .before .before .args .st .now) (c .before .before .before .before .before .before .before .before .before .before .args .m .now) (c .before .before .before .before .before .before .before .before .before .before .args .h .now) _ _ _ _ _ (c .before .before .before .check-alloc .ensures) (c .before .r .given .1)
+returns c = call-refused (c .before .before .before .before .before .before .before .before .before .before .args .p) (c .before .before .before .before .before .before .before .before .before .before .args .words .now) (c .before .before .before .before .before .before .before .before .before .before .args .states .now) (c .before .before .before .before .before .before .before .before .before .before .args .marks .now) (c .before .before .before .before .before .before .before .before .before .before .args .heap .now) _ _ _ _ _ (c .before .before .before .check-alloc .ensures) (c .before .r .given .1)
 
 same-length-3 : tie.Need-same-length-3
 same-length-3 c = search needs
@@ -39,9 +39,9 @@ same-length-4 c = search needs
 same-length-5 : tie.Need-same-length-5
 same-length-5 c = search needs
 
---@ returns-2 c = call-served (@args .p) (@args .w .now) (@args .st .now) (@args .m .now) (@args .h .now) _ _ _ _ _ (@check-alloc .ensures) (@bin .given .1) (@serve .ensures)
+--@ returns-2 c = call-served (@args .p) (@args .words .now) (@args .states .now) (@args .marks .now) (@args .heap .now) _ _ _ _ _ (@check-alloc .ensures) (@bin .given .1) (@serve .ensures)
 returns-2 : tie.Need-returns-2
-returns-2 c = call-served (c .before .before .before .before .before .before .before .before .before .before .before .before .before .before .before .before .before .before .before .before .args .p) (c .before .before .before .before .before .before .before .before .before .before .before .before .before .before .before .before .before .before .before .before .args .w .now) (c .before .before .before .before .before .before .before .before .before .before .before .before .before .before .before .before .before .before .before .before .args .st .now) (c .before .before .before .before .before .before .before .before .before .before .before .before .before .before .before .before .before .before .before .before .args .m .now) (c .before .before .before .before .before .before .before .before .before .before .before .before .before .before .before .before .before .before .before .before .args .h .now) _ _ _ _ _ (c .before .before .before .before .before .before .before .before .before .before .before .before .before .check-alloc .ensures) (c .before .before .before .before .before .before .before .before .before .before .before .bin .given .1) (c .before .before .before .before .before .before .serve .ensures)
+returns-2 c = call-served (c .before .before .before .before .before .before .before .before .before .before .before .before .before .before .before .before .before .before .before .before .args .p) (c .before .before .before .before .before .before .before .before .before .before .before .before .before .before .before .before .before .before .before .before .args .words .now) (c .before .before .before .before .before .before .before .before .before .before .before .before .before .before .before .before .before .before .before .before .args .states .now) (c .before .before .before .before .before .before .before .before .before .before .before .before .before .before .before .before .before .before .before .before .args .marks .now) (c .before .before .before .before .before .before .before .before .before .before .before .before .before .before .before .before .before .before .before .before .args .heap .now) _ _ _ _ _ (c .before .before .before .before .before .before .before .before .before .before .before .before .before .check-alloc .ensures) (c .before .before .before .before .before .before .before .before .before .before .before .bin .given .1) (c .before .before .before .before .before .before .serve .ensures)
 
 pub do-alloc-spec : {M : Type 1} → statement M
 do-alloc-spec =

@@ -29,9 +29,9 @@ find-free-block-with-requires c κs = (c .before .before .before .before .before
 same-length : tie.Need-same-length
 same-length c = search needs
 
---@ returns c = find-skimmed (@args .p) (@args .wanted .holder) (@args .wanted .bin) (@args .wanted .offer) (view (@args .w .now)) (@args .st .now) (@args .m .now) (@args .h .now) (@local-sets .ensures) (@available .ensures .same) (@consumed .ensures .same) (@find-free-block-with .ensures) (@if1 .taken)
+--@ returns c = find-skimmed (@args .p) (@args .wanted .holder) (@args .wanted .bin) (@args .wanted .offer) (view (@args .words .now)) (@args .states .now) (@args .marks .now) (@args .heap .now) (@local-sets .ensures) (@available .ensures .same) (@consumed .ensures .same) (@find-free-block-with .ensures) (@if1 .taken)
 returns : tie.Need-returns
-returns c = find-skimmed (c .before .before .before .before .before .before .before .before .before .before .before .before .args .p) (c .before .before .before .before .before .before .before .before .before .before .before .before .args .wanted .holder) (c .before .before .before .before .before .before .before .before .before .before .before .before .args .wanted .bin) (c .before .before .before .before .before .before .before .before .before .before .before .before .args .wanted .offer) (view (c .before .before .before .before .before .before .before .before .before .before .before .before .args .w .now)) (c .before .before .before .before .before .before .before .before .before .before .before .before .args .st .now) (c .before .before .before .before .before .before .before .before .before .before .before .before .args .m .now) (c .before .before .before .before .before .before .before .before .before .before .before .before .args .h .now) (c .before .before .before .before .before .before .before .local-sets .ensures) (c .before .before .before .before .before .before .available .ensures .same) (c .before .before .before .before .before .consumed .ensures .same) (c .before .before .before .find-free-block-with .ensures) (c .if1 .taken)
+returns c = find-skimmed (c .before .before .before .before .before .before .before .before .before .before .before .before .args .p) (c .before .before .before .before .before .before .before .before .before .before .before .before .args .wanted .holder) (c .before .before .before .before .before .before .before .before .before .before .before .before .args .wanted .bin) (c .before .before .before .before .before .before .before .before .before .before .before .before .args .wanted .offer) (view (c .before .before .before .before .before .before .before .before .before .before .before .before .args .words .now)) (c .before .before .before .before .before .before .before .before .before .before .before .before .args .states .now) (c .before .before .before .before .before .before .before .before .before .before .before .before .args .marks .now) (c .before .before .before .before .before .before .before .before .before .before .before .before .args .heap .now) (c .before .before .before .before .before .before .before .local-sets .ensures) (c .before .before .before .before .before .before .available .ensures .same) (c .before .before .before .before .before .consumed .ensures .same) (c .before .before .before .find-free-block-with .ensures) (c .if1 .taken)
 
 --@ recycle-local-blocks-requires c κs = (known-on _ (@pre .0) (@find-free-block-with .kept .1 .0) refl, sets-low _ (@pre .2) (@local-sets .ensures), @pre .3)
 recycle-local-blocks-requires : tie.Need-recycle-local-blocks-requires
@@ -43,9 +43,9 @@ same-length-2 c = search needs
 same-length-3 : tie.Need-same-length-3
 same-length-3 c = search needs
 
---@ returns-2 c = find-recycled (@args .p) (@args .wanted .holder) (@args .wanted .bin) (@args .wanted .offer) (view (@args .w .now)) (@args .st .now) (@args .m .now) (@args .h .now) (@local-sets .ensures) (@available .ensures .same) (@consumed .ensures .same) (@find-free-block-with .ensures) (@if1 .left) (@recycle-local-blocks .ensures) (@if2 .taken)
+--@ returns-2 c = find-recycled (@args .p) (@args .wanted .holder) (@args .wanted .bin) (@args .wanted .offer) (view (@args .words .now)) (@args .states .now) (@args .marks .now) (@args .heap .now) (@local-sets .ensures) (@available .ensures .same) (@consumed .ensures .same) (@find-free-block-with .ensures) (@if1 .left) (@recycle-local-blocks .ensures) (@if2 .taken)
 returns-2 : tie.Need-returns-2
-returns-2 c = find-recycled (c .before .before .before .before .before .before .before .before .before .before .before .before .before .before .before .before .before .before .before .before .before .args .p) (c .before .before .before .before .before .before .before .before .before .before .before .before .before .before .before .before .before .before .before .before .before .args .wanted .holder) (c .before .before .before .before .before .before .before .before .before .before .before .before .before .before .before .before .before .before .before .before .before .args .wanted .bin) (c .before .before .before .before .before .before .before .before .before .before .before .before .before .before .before .before .before .before .before .before .before .args .wanted .offer) (view (c .before .before .before .before .before .before .before .before .before .before .before .before .before .before .before .before .before .before .before .before .before .args .w .now)) (c .before .before .before .before .before .before .before .before .before .before .before .before .before .before .before .before .before .before .before .before .before .args .st .now) (c .before .before .before .before .before .before .before .before .before .before .before .before .before .before .before .before .before .before .before .before .before .args .m .now) (c .before .before .before .before .before .before .before .before .before .before .before .before .before .before .before .before .before .before .before .before .before .args .h .now) (c .before .before .before .before .before .before .before .before .before .before .before .before .before .before .before .before .local-sets .ensures) (c .before .before .before .before .before .before .before .before .before .before .before .before .before .before .before .available .ensures .same) (c .before .before .before .before .before .before .before .before .before .before .before .before .before .before .consumed .ensures .same) (c .before .before .before .before .before .before .before .before .before .before .before .before .find-free-block-with .ensures) (c .before .before .before .before .before .before .before .before .before .if1 .left) (c .before .before .before .before .before .before .recycle-local-blocks .ensures) (c .if2 .taken)
+returns-2 c = find-recycled (c .before .before .before .before .before .before .before .before .before .before .before .before .before .before .before .before .before .before .before .before .before .args .p) (c .before .before .before .before .before .before .before .before .before .before .before .before .before .before .before .before .before .before .before .before .before .args .wanted .holder) (c .before .before .before .before .before .before .before .before .before .before .before .before .before .before .before .before .before .before .before .before .before .args .wanted .bin) (c .before .before .before .before .before .before .before .before .before .before .before .before .before .before .before .before .before .before .before .before .before .args .wanted .offer) (view (c .before .before .before .before .before .before .before .before .before .before .before .before .before .before .before .before .before .before .before .before .before .args .words .now)) (c .before .before .before .before .before .before .before .before .before .before .before .before .before .before .before .before .before .before .before .before .before .args .states .now) (c .before .before .before .before .before .before .before .before .before .before .before .before .before .before .before .before .before .before .before .before .before .args .marks .now) (c .before .before .before .before .before .before .before .before .before .before .before .before .before .before .before .before .before .before .before .before .before .args .heap .now) (c .before .before .before .before .before .before .before .before .before .before .before .before .before .before .before .before .local-sets .ensures) (c .before .before .before .before .before .before .before .before .before .before .before .before .before .before .before .available .ensures .same) (c .before .before .before .before .before .before .before .before .before .before .before .before .before .before .consumed .ensures .same) (c .before .before .before .before .before .before .before .before .before .before .before .before .find-free-block-with .ensures) (c .before .before .before .before .before .before .before .before .before .if1 .left) (c .before .before .before .before .before .before .recycle-local-blocks .ensures) (c .if2 .taken)
 
 --@ acquire-global-block-requires c κs = (known-on _ (@pre .0) (@recycle-local-blocks .kept .1 .0 ∙ @find-free-block-with .kept .1 .0) (@recycle-local-blocks .kept .1 .1 .1 .0), @pre .1, @pre .2, @pre .3, omega (arith, @recycle-local-blocks .ensures .few, good-bounds (@args .p) (@pre .0 .good) .blocks-high), @pre .4)
 acquire-global-block-requires : tie.Need-acquire-global-block-requires
@@ -60,9 +60,9 @@ same-length-5 c = search needs
 same-length-6 : tie.Need-same-length-6
 same-length-6 c = search needs
 
---@ returns-3 c = find-global (@args .p) (@args .wanted .holder) (@args .wanted .bin) (@args .wanted .offer) (view (@args .w .now)) (@args .st .now) (@args .m .now) (@args .h .now) (@local-sets .ensures) (@available .ensures .same) (@consumed .ensures .same) (@find-free-block-with .ensures) (@if1 .left) (@recycle-local-blocks .ensures) (@if2 .left) (@acquire-global-block .ensures)
+--@ returns-3 c = find-global (@args .p) (@args .wanted .holder) (@args .wanted .bin) (@args .wanted .offer) (view (@args .words .now)) (@args .states .now) (@args .marks .now) (@args .heap .now) (@local-sets .ensures) (@available .ensures .same) (@consumed .ensures .same) (@find-free-block-with .ensures) (@if1 .left) (@recycle-local-blocks .ensures) (@if2 .left) (@acquire-global-block .ensures)
 returns-3 : tie.Need-returns-3
-returns-3 c = find-global (c .before .before .before .before .before .before .before .before .before .before .before .before .before .before .before .before .before .before .before .before .before .before .before .before .before .before .before .before .before .before .before .args .p) (c .before .before .before .before .before .before .before .before .before .before .before .before .before .before .before .before .before .before .before .before .before .before .before .before .before .before .before .before .before .before .before .args .wanted .holder) (c .before .before .before .before .before .before .before .before .before .before .before .before .before .before .before .before .before .before .before .before .before .before .before .before .before .before .before .before .before .before .before .args .wanted .bin) (c .before .before .before .before .before .before .before .before .before .before .before .before .before .before .before .before .before .before .before .before .before .before .before .before .before .before .before .before .before .before .before .args .wanted .offer) (view (c .before .before .before .before .before .before .before .before .before .before .before .before .before .before .before .before .before .before .before .before .before .before .before .before .before .before .before .before .before .before .before .args .w .now)) (c .before .before .before .before .before .before .before .before .before .before .before .before .before .before .before .before .before .before .before .before .before .before .before .before .before .before .before .before .before .before .before .args .st .now) (c .before .before .before .before .before .before .before .before .before .before .before .before .before .before .before .before .before .before .before .before .before .before .before .before .before .before .before .before .before .before .before .args .m .now) (c .before .before .before .before .before .before .before .before .before .before .before .before .before .before .before .before .before .before .before .before .before .before .before .before .before .before .before .before .before .before .before .args .h .now) (c .before .before .before .before .before .before .before .before .before .before .before .before .before .before .before .before .before .before .before .before .before .before .before .before .before .before .local-sets .ensures) (c .before .before .before .before .before .before .before .before .before .before .before .before .before .before .before .before .before .before .before .before .before .before .before .before .before .available .ensures .same) (c .before .before .before .before .before .before .before .before .before .before .before .before .before .before .before .before .before .before .before .before .before .before .before .before .consumed .ensures .same) (c .before .before .before .before .before .before .before .before .before .before .before .before .before .before .before .before .before .before .before .before .before .before .find-free-block-with .ensures) (c .before .before .before .before .before .before .before .before .before .before .before .before .before .before .before .before .before .before .before .if1 .left) (c .before .before .before .before .before .before .before .before .before .before .before .before .before .before .before .before .recycle-local-blocks .ensures) (c .before .before .before .before .before .before .before .before .before .before .if2 .left) (c .before .before .before .before .before .before .acquire-global-block .ensures)
+returns-3 c = find-global (c .before .before .before .before .before .before .before .before .before .before .before .before .before .before .before .before .before .before .before .before .before .before .before .before .before .before .before .before .before .before .before .args .p) (c .before .before .before .before .before .before .before .before .before .before .before .before .before .before .before .before .before .before .before .before .before .before .before .before .before .before .before .before .before .before .before .args .wanted .holder) (c .before .before .before .before .before .before .before .before .before .before .before .before .before .before .before .before .before .before .before .before .before .before .before .before .before .before .before .before .before .before .before .args .wanted .bin) (c .before .before .before .before .before .before .before .before .before .before .before .before .before .before .before .before .before .before .before .before .before .before .before .before .before .before .before .before .before .before .before .args .wanted .offer) (view (c .before .before .before .before .before .before .before .before .before .before .before .before .before .before .before .before .before .before .before .before .before .before .before .before .before .before .before .before .before .before .before .args .words .now)) (c .before .before .before .before .before .before .before .before .before .before .before .before .before .before .before .before .before .before .before .before .before .before .before .before .before .before .before .before .before .before .before .args .states .now) (c .before .before .before .before .before .before .before .before .before .before .before .before .before .before .before .before .before .before .before .before .before .before .before .before .before .before .before .before .before .before .before .args .marks .now) (c .before .before .before .before .before .before .before .before .before .before .before .before .before .before .before .before .before .before .before .before .before .before .before .before .before .before .before .before .before .before .before .args .heap .now) (c .before .before .before .before .before .before .before .before .before .before .before .before .before .before .before .before .before .before .before .before .before .before .before .before .before .before .local-sets .ensures) (c .before .before .before .before .before .before .before .before .before .before .before .before .before .before .before .before .before .before .before .before .before .before .before .before .before .available .ensures .same) (c .before .before .before .before .before .before .before .before .before .before .before .before .before .before .before .before .before .before .before .before .before .before .before .before .consumed .ensures .same) (c .before .before .before .before .before .before .before .before .before .before .before .before .before .before .before .before .before .before .before .before .before .before .find-free-block-with .ensures) (c .before .before .before .before .before .before .before .before .before .before .before .before .before .before .before .before .before .before .before .if1 .left) (c .before .before .before .before .before .before .before .before .before .before .before .before .before .before .before .before .recycle-local-blocks .ensures) (c .before .before .before .before .before .before .before .before .before .before .if2 .left) (c .before .before .before .before .before .before .acquire-global-block .ensures)
 
 pub find-block-spec : {M : Type 1} → statement M
 find-block-spec =

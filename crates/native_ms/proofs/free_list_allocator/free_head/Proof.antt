@@ -32,9 +32,9 @@ free-requires c κs = (words-known _ (c .before .before .before .before .before 
 returns-3 : tie.Need-returns-3
 returns-3 c = none-past _ _ _
 
---@ returns-4 c = λ l. head-free (@args .p) (view (@args .w .now)) (@args .list) _ (@pre .0) (@first .ensures) (@if1 .left) (@log-of .ensures .0) (@free .ensures) (@if3 .left)
+--@ returns-4 c = λ l. head-free (@args .p) (view (@args .words .now)) (@args .list) _ (@pre .0) (@first .ensures) (@if1 .left) (@log-of .ensures .0) (@free .ensures) (@if3 .left)
 returns-4 : tie.Need-returns-4
-returns-4 c = λ l. head-free (c .before .before .before .before .before .before .before .before .args .p) (view (c .before .before .before .before .before .before .before .before .args .w .now)) (c .before .before .before .before .before .before .before .before .args .list) _ (c .before .before .before .before .before .before .before .before .pre .0) (c .before .before .before .before .before .before .first .ensures) (c .before .before .before .before .before .if1 .left) (c .before .before .before .before .log-of .ensures .0) (c .before .before .free .ensures) (c .if3 .left)
+returns-4 c = λ l. head-free (c .before .before .before .before .before .before .before .before .args .p) (view (c .before .before .before .before .before .before .before .before .args .words .now)) (c .before .before .before .before .before .before .before .before .args .list) _ (c .before .before .before .before .before .before .before .before .pre .0) (c .before .before .before .before .before .before .first .ensures) (c .before .before .before .before .before .if1 .left) (c .before .before .before .before .log-of .ensures .0) (c .before .before .free .ensures) (c .if3 .left)
 
 pub free-head-spec : {M : Type 1} → statement M
 free-head-spec =

@@ -32,9 +32,9 @@ same-length c = search needs
 same-length-2 : tie.Need-same-length-2
 same-length-2 c = search needs
 
---@ returns c = serve-head (@args .p) (@args .wanted .holder) (@args .wanted .bin) (@args .wanted .offer) (view (@args .w .now)) (@args .st .now) (@args .m .now) (@args .h .now) (@local-sets .ensures) (@available .ensures .same) (@free-head .ensures (@if1 .taken)) (omega (arith, good-bounds (@args .p) (@pre .0 .good) .blocks-low)) (@args .wanted .align) (@args .wanted .offset) (@serve-head .ensures _ _)
+--@ returns c = serve-head (@args .p) (@args .wanted .holder) (@args .wanted .bin) (@args .wanted .offer) (view (@args .words .now)) (@args .states .now) (@args .marks .now) (@args .heap .now) (@local-sets .ensures) (@available .ensures .same) (@free-head .ensures (@if1 .taken)) (omega (arith, good-bounds (@args .p) (@pre .0 .good) .blocks-low)) (@args .wanted .align) (@args .wanted .offset) (@serve-head .ensures _ _)
 returns : tie.Need-returns
-returns c = serve-head (c .before .before .before .before .before .before .before .before .before .before .before .before .before .before .before .before .before .before .args .p) (c .before .before .before .before .before .before .before .before .before .before .before .before .before .before .before .before .before .before .args .wanted .holder) (c .before .before .before .before .before .before .before .before .before .before .before .before .before .before .before .before .before .before .args .wanted .bin) (c .before .before .before .before .before .before .before .before .before .before .before .before .before .before .before .before .before .before .args .wanted .offer) (view (c .before .before .before .before .before .before .before .before .before .before .before .before .before .before .before .before .before .before .args .w .now)) (c .before .before .before .before .before .before .before .before .before .before .before .before .before .before .before .before .before .before .args .st .now) (c .before .before .before .before .before .before .before .before .before .before .before .before .before .before .before .before .before .before .args .m .now) (c .before .before .before .before .before .before .before .before .before .before .before .before .before .before .before .before .before .before .args .h .now) (c .before .before .before .before .before .before .before .before .before .before .before .before .before .local-sets .ensures) (c .before .before .before .before .before .before .before .before .before .before .before .before .available .ensures .same) (c .before .before .before .before .before .before .before .before .before .before .free-head .ensures (c .before .before .before .before .before .before .before .if1 .taken)) (omega (arith, good-bounds (c .before .before .before .before .before .before .before .before .before .before .before .before .before .before .before .before .before .before .args .p) (c .before .before .before .before .before .before .before .before .before .before .before .before .before .before .before .before .before .before .pre .0 .good) .blocks-low)) (c .before .before .before .before .before .before .before .before .before .before .before .before .before .before .before .before .before .before .args .wanted .align) (c .before .before .before .before .before .before .before .before .before .before .before .before .before .before .before .before .before .before .args .wanted .offset) (c .before .before .before .before .serve-head .ensures _ _)
+returns c = serve-head (c .before .before .before .before .before .before .before .before .before .before .before .before .before .before .before .before .before .before .args .p) (c .before .before .before .before .before .before .before .before .before .before .before .before .before .before .before .before .before .before .args .wanted .holder) (c .before .before .before .before .before .before .before .before .before .before .before .before .before .before .before .before .before .before .args .wanted .bin) (c .before .before .before .before .before .before .before .before .before .before .before .before .before .before .before .before .before .before .args .wanted .offer) (view (c .before .before .before .before .before .before .before .before .before .before .before .before .before .before .before .before .before .before .args .words .now)) (c .before .before .before .before .before .before .before .before .before .before .before .before .before .before .before .before .before .before .args .states .now) (c .before .before .before .before .before .before .before .before .before .before .before .before .before .before .before .before .before .before .args .marks .now) (c .before .before .before .before .before .before .before .before .before .before .before .before .before .before .before .before .before .before .args .heap .now) (c .before .before .before .before .before .before .before .before .before .before .before .before .before .local-sets .ensures) (c .before .before .before .before .before .before .before .before .before .before .before .before .available .ensures .same) (c .before .before .before .before .before .before .before .before .before .before .free-head .ensures (c .before .before .before .before .before .before .before .if1 .taken)) (omega (arith, good-bounds (c .before .before .before .before .before .before .before .before .before .before .before .before .before .before .before .before .before .before .args .p) (c .before .before .before .before .before .before .before .before .before .before .before .before .before .before .before .before .before .before .pre .0 .good) .blocks-low)) (c .before .before .before .before .before .before .before .before .before .before .before .before .before .before .before .before .before .before .args .wanted .align) (c .before .before .before .before .before .before .before .before .before .before .before .before .before .before .before .before .before .before .args .wanted .offset) (c .before .before .before .before .serve-head .ensures _ _)
 
 --@ serve-searched-requires c κs = (@pre .0, @pre .1, @pre .2)
 serve-searched-requires : tie.Need-serve-searched-requires

@@ -1,4 +1,4 @@
--- `tables::block_word` reads a block table: five tables before it fit, since six are in the words.
+-- `tables::block_word` reads a block table: six tables before it fit, since seven are in the words.
 use mathlib.Core.Path.{_∙_, ap}
 use Prim.Native.Nat.{ℕ, _*_, _≤_}
 use native.Mathlib.Nat.{mul-le-mul-right}
@@ -14,12 +14,12 @@ blocks-requires c κs = search needs
 
 mul-word : tie.Need-mul-word
 mul-word c =
-    let few : c .before .before .args .table * c .blocks2 .result ≤ 5 * c .blocks2 .result = mul-le-mul-right (c .blocks2 .result) (omega arith) in
+    let few : c .before .before .args .table * c .blocks2 .result ≤ 6 * c .blocks2 .result = mul-le-mul-right (c .blocks2 .result) (omega arith) in
     omega arith
 
 add-word : tie.Need-add-word
 add-word c =
-    let few : c .before .before .args .table * c .blocks2 .result ≤ 5 * c .blocks2 .result = mul-le-mul-right (c .blocks2 .result) (omega arith) in
+    let few : c .before .before .args .table * c .blocks2 .result ≤ 6 * c .blocks2 .result = mul-le-mul-right (c .blocks2 .result) (omega arith) in
     omega arith
 
 word-requires : tie.Need-word-requires

@@ -1,4 +1,4 @@
--- `tables::put_block_word` writes a block table: five tables before it fit, since six are in the words.
+-- `tables::put_block_word` writes a block table: six tables before it fit, since seven are in the words.
 use mathlib.Core.Path.{_∙_, ap}
 use Prim.Native.Nat.{ℕ, _+_, _*_, _≤_}
 use native.Mathlib.Nat.{mul-le-mul-right}
@@ -14,12 +14,12 @@ blocks-requires c κs = search needs
 
 mul-put : tie.Need-mul-put
 mul-put c =
-    let few : c .before .before .before .before .args .table * c .before .blocks2 .result ≤ 5 * c .before .blocks2 .result = mul-le-mul-right (c .before .blocks2 .result) (omega arith) in
+    let few : c .before .before .before .before .args .table * c .before .blocks2 .result ≤ 6 * c .before .blocks2 .result = mul-le-mul-right (c .before .blocks2 .result) (omega arith) in
     omega arith
 
 add-put : tie.Need-add-put
 add-put c =
-    let few : c .before .before .before .before .args .table * c .before .blocks2 .result ≤ 5 * c .before .blocks2 .result = mul-le-mul-right (c .before .blocks2 .result) (omega arith) in
+    let few : c .before .before .before .before .args .table * c .before .blocks2 .result ≤ 6 * c .before .blocks2 .result = mul-le-mul-right (c .before .blocks2 .result) (omega arith) in
     omega arith
 
 put-requires : tie.Need-put-requires

@@ -6,15 +6,16 @@ use native.Mathlib.Omega.{arith}
 use borrow.Author.Count.{falls}
 use borrow.Author.Tests.{not-true, not-false}
 use Rattle.native_ms.specs.Bits.{anyBit}
-use Rattle.native_ms.proofs.Offsets.{Running, running-start, running-kept, running-freed, running-end, next-in, run, eight-words, stepped-on, alike}
+use Rattle.native_ms.proofs.Offsets.{Running, few-cells, running-start, running-kept, running-freed, running-end, next-in, run, eight-words, stepped-on, alike}
 use Rattle.native_ms.proofs.block.chain.link_bytes.Statement.{statement}
 use Rattle.native_ms.proofs.block.chain.link_bytes.Tie as tie
 
 abbrev Inv-loop : tie.InvT-loop
-Inv-loop p m h₀ at s n first head k₀ next₀ bit₀ last₀ h k next bit last = Running p m s at n first (s / 8) head h₀ k next bit last h
+Inv-loop p marks heap₀ first head size count seen₀ linked₀ next₀ bit₀ last₀ heap seen linked next bit last =
+    Running p marks size next₀ count first (size / 8) head heap₀ seen next bit last linked heap
 
 abbrev μ-loop : tie.MeasureT-loop
-μ-loop p m h₀ at s n first head k₀ next₀ bit₀ last₀ h k next bit last = n - k
+μ-loop p marks heap₀ first head size count seen₀ linked₀ next₀ bit₀ last₀ heap seen linked next bit last = count - seen
 
 loop-holds : tie.Need-loop-holds Inv-loop μ-loop
 loop-holds c = running-start _ _ _ _ _ _ _ _ _
@@ -27,8 +28,8 @@ add-next c = let x = next-in _ _ _ _ _ _ (c .before .before .before .before .pre
 add-bit : tie.Need-add-bit Inv-loop μ-loop
 add-bit c = let x = run _ (c .before .before .before .before .pre .0) _ (c .before .loop .bit) (c .loop-test .taken) (c .before .loop .inv .here) (c .before .loop .inv .bit) in omega (arith, x .low)
 
-add-k : tie.Need-add-k Inv-loop μ-loop
-add-k c = search needs
+add-seen : tie.Need-add-seen Inv-loop μ-loop
+add-seen c = search needs
 
 --@ any-whole-requires c κs = let x = run _ (@pre .0) _ (@loop .bit) (@loop-test .taken) (@loop .inv .here) (@loop .inv .bit) in (omega (arith, x .fits, x .some), alike _ _ _ (@loop .bit) _ (@pre .1) (@loop .inv .here) (@loop .inv .bit) ∙ @pre .2)
 any-whole-requires : tie.Need-any-whole-requires Inv-loop μ-loop
@@ -42,29 +43,33 @@ put-word-requires c κs = let x = next-in _ _ _ _ _ _ (c .before .before .before
 add-last : tie.Need-add-last Inv-loop μ-loop
 add-last c = let x = next-in _ _ _ _ _ _ (c .before .before .before .before .before .before .before .before .before .before .before .pre .0 .cells) (c .before .before .before .before .before .before .before .loop-test .taken) (c .before .before .before .before .before .before .before .before .loop .inv .here) in omega (arith, x .ends, x .base)
 
+--@ add-linked c = omega (arith, few-cells _ (@pre .0 .cells), @loop .inv .few, @loop-test .taken)
+add-linked : tie.Need-add-linked Inv-loop μ-loop
+add-linked c = omega (arith, few-cells _ (c .before .before .before .before .before .before .before .before .before .before .before .pre .0 .cells), c .before .before .before .before .before .before .before .before .loop .inv .few, c .before .before .before .before .before .before .before .loop-test .taken)
+
 --@ loop-less c = falls _ _ (@loop-test .taken)
 loop-less : tie.Need-loop-less Inv-loop μ-loop
 loop-less c = falls _ _ (c .before .before .before .before .before .before .before .loop-test .taken)
 
---@ loop-again c = stepped-on (@loop .bit) (@pre .1) (running-freed _ _ _ _ _ _ _ _ _ _ _ _ _ _ (@loop .inv) (@loop-test .taken) (@pre .0 .aligned) (ap (anyBit (@args .m .now) (@loop .bit)) (eight-words (@pre .1)) ∙ sym (@any-whole .ensures) ∙ not-true _ (@if1 .taken)) (@put-word .ensures))
+--@ loop-again c = stepped-on (@loop .bit) (@pre .1) (running-freed _ _ _ _ _ _ _ _ _ _ _ _ _ _ _ (@loop .inv) (@loop-test .taken) (@pre .0 .aligned) (ap (anyBit (@args .marks .now) (@loop .bit)) (eight-words (@pre .1)) ∙ sym (@any-whole .ensures) ∙ not-true _ (@if1 .taken)) (@put-word .ensures))
 loop-again : tie.Need-loop-again Inv-loop μ-loop
-loop-again c = stepped-on (c .before .before .before .before .before .before .before .before .loop .bit) (c .before .before .before .before .before .before .before .before .before .before .before .pre .1) (running-freed _ _ _ _ _ _ _ _ _ _ _ _ _ _ (c .before .before .before .before .before .before .before .before .loop .inv) (c .before .before .before .before .before .before .before .loop-test .taken) (c .before .before .before .before .before .before .before .before .before .before .before .pre .0 .aligned) (ap (anyBit (c .before .before .before .before .before .before .before .before .before .before .before .args .m .now) (c .before .before .before .before .before .before .before .before .loop .bit)) (eight-words (c .before .before .before .before .before .before .before .before .before .before .before .pre .1)) ∙ sym (c .before .before .before .before .before .before .any-whole .ensures) ∙ not-true _ (c .before .before .before .before .before .if1 .taken)) (c .before .before .before .put-word .ensures))
+loop-again c = stepped-on (c .before .before .before .before .before .before .before .before .loop .bit) (c .before .before .before .before .before .before .before .before .before .before .before .pre .1) (running-freed _ _ _ _ _ _ _ _ _ _ _ _ _ _ _ (c .before .before .before .before .before .before .before .before .loop .inv) (c .before .before .before .before .before .before .before .loop-test .taken) (c .before .before .before .before .before .before .before .before .before .before .before .pre .0 .aligned) (ap (anyBit (c .before .before .before .before .before .before .before .before .before .before .before .args .marks .now) (c .before .before .before .before .before .before .before .before .loop .bit)) (eight-words (c .before .before .before .before .before .before .before .before .before .before .before .pre .1)) ∙ sym (c .before .before .before .before .before .before .any-whole .ensures) ∙ not-true _ (c .before .before .before .before .before .if1 .taken)) (c .before .before .before .put-word .ensures))
 
 --@ loop-less-2 c = falls _ _ (@loop-test .taken)
 loop-less-2 : tie.Need-loop-less-2 Inv-loop μ-loop
 loop-less-2 c = falls _ _ (c .before .before .loop-test .taken)
 
---@ loop-again-2 c = stepped-on (@loop .bit) (@pre .1) (running-kept _ _ _ _ _ _ _ _ _ _ _ _ _ _ (@loop .inv) (@loop-test .taken) (@pre .0 .aligned) (ap (anyBit (@args .m .now) (@loop .bit)) (eight-words (@pre .1)) ∙ sym (@any-whole .ensures) ∙ not-false _ (@if1 .left)))
+--@ loop-again-2 c = stepped-on (@loop .bit) (@pre .1) (running-kept _ _ _ _ _ _ _ _ _ _ _ _ _ _ _ (@loop .inv) (@loop-test .taken) (@pre .0 .aligned) (ap (anyBit (@args .marks .now) (@loop .bit)) (eight-words (@pre .1)) ∙ sym (@any-whole .ensures) ∙ not-false _ (@if1 .left)))
 loop-again-2 : tie.Need-loop-again-2 Inv-loop μ-loop
-loop-again-2 c = stepped-on (c .before .before .before .loop .bit) (c .before .before .before .before .before .before .pre .1) (running-kept _ _ _ _ _ _ _ _ _ _ _ _ _ _ (c .before .before .before .loop .inv) (c .before .before .loop-test .taken) (c .before .before .before .before .before .before .pre .0 .aligned) (ap (anyBit (c .before .before .before .before .before .before .args .m .now) (c .before .before .before .loop .bit)) (eight-words (c .before .before .before .before .before .before .pre .1)) ∙ sym (c .before .any-whole .ensures) ∙ not-false _ (c .if1 .left)))
+loop-again-2 c = stepped-on (c .before .before .before .loop .bit) (c .before .before .before .before .before .before .pre .1) (running-kept _ _ _ _ _ _ _ _ _ _ _ _ _ _ _ (c .before .before .before .loop .inv) (c .before .before .loop-test .taken) (c .before .before .before .before .before .before .pre .0 .aligned) (ap (anyBit (c .before .before .before .before .before .before .args .marks .now) (c .before .before .before .loop .bit)) (eight-words (c .before .before .before .before .before .before .pre .1)) ∙ sym (c .before .any-whole .ensures) ∙ not-false _ (c .if1 .left)))
 
 --@ same-length c = @loop .inv .same
 same-length : tie.Need-same-length Inv-loop μ-loop
 same-length c = c .before .loop .inv .same
 
---@ returns c = running-end _ _ _ _ _ _ _ _ _ _ _ _ _ _ (@loop .inv) (@loop-test .left)
+--@ returns c = running-end _ _ _ _ _ _ _ _ _ _ _ _ _ _ _ (@loop .inv) (@loop-test .left)
 returns : tie.Need-returns Inv-loop μ-loop
-returns c = running-end _ _ _ _ _ _ _ _ _ _ _ _ _ _ (c .before .loop .inv) (c .loop-test .left)
+returns c = running-end _ _ _ _ _ _ _ _ _ _ _ _ _ _ _ (c .before .loop .inv) (c .loop-test .left)
 
 pub link-bytes-spec : {M : Type 1} → statement M
 link-bytes-spec =
@@ -75,10 +80,11 @@ link-bytes-spec =
     loop-holds
     add-next
     add-bit
-    add-k
+    add-seen
     any-whole-requires
     put-word-requires
     add-last
+    add-linked
     loop-less
     loop-again
     loop-less-2

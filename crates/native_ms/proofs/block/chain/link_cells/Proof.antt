@@ -10,10 +10,11 @@ use Rattle.native_ms.proofs.block.chain.link_cells.Statement.{statement
 use Rattle.native_ms.proofs.block.chain.link_cells.Tie as tie
 
 abbrev Inv-loop : tie.InvT-loop
-Inv-loop p h₀ at s n k₀ o₀ last₀ h k offset last = Linking p (λ a. false) at s n k h₀ offset last h
+Inv-loop p heap₀ size count seen₀ offset₀ last₀ heap seen offset last =
+    Linking p (λ a. false) offset₀ size count seen heap₀ offset last heap
 
 abbrev μ-loop : tie.MeasureT-loop
-μ-loop p h₀ at s n k₀ o₀ last₀ h k offset last = n - k
+μ-loop p heap₀ size count seen₀ offset₀ last₀ heap seen offset last = count - seen
 
 loop-holds : tie.Need-loop-holds Inv-loop μ-loop
 loop-holds c = linking-start _ _ _ _ _ _
@@ -30,8 +31,8 @@ add-last c = let x = next-in _ _ _ _ _ _ (c .before .before .before .before .bef
 add-offset : tie.Need-add-offset Inv-loop μ-loop
 add-offset c = let x = next-in _ _ _ _ _ _ (c .before .before .before .before .before .before .before .before .pre) (c .before .before .before .before .before .loop-test .taken) (c .before .before .before .before .before .before .loop .inv .here) in omega (arith, x .ends, x .low)
 
-add-k : tie.Need-add-k Inv-loop μ-loop
-add-k c = search needs
+add-seen : tie.Need-add-seen Inv-loop μ-loop
+add-seen c = search needs
 
 --@ loop-less c = falls _ _ (@loop-test .taken)
 loop-less : tie.Need-loop-less Inv-loop μ-loop
@@ -51,4 +52,4 @@ returns c = linking-end _ _ _ _ _ _ _ _ _ _ (c .before .loop .inv) (c .loop-test
 
 pub link-cells-spec : {M : Type 1} → statement M
 link-cells-spec =
-    tie.close (tie.spec Inv-loop μ-loop loop-holds put-word-requires add-last add-offset add-k loop-less loop-again same-length returns)
+    tie.close (tie.spec Inv-loop μ-loop loop-holds put-word-requires add-last add-offset add-seen loop-less loop-again same-length returns)

@@ -7,15 +7,16 @@ use native.Mathlib.Omega.{arith}
 use borrow.Author.Count.{falls}
 use borrow.Author.Tests.{not-true, not-false}
 use Rattle.native_ms.specs.Block.{keptBy}
-use Rattle.native_ms.proofs.Offsets.{Walking, walking-start, walking-kept, walking-freed, walking-end, next-in, kept-brute}
+use Rattle.native_ms.proofs.Offsets.{Walking, few-cells, walking-start, walking-kept, walking-freed, walking-end, next-in, kept-brute}
 use Rattle.native_ms.proofs.block.chain.link_edge.Statement.{statement}
 use Rattle.native_ms.proofs.block.chain.link_edge.Tie as tie
 
 abbrev Inv-loop : tie.InvT-loop
-Inv-loop p m h₀ at s n head k₀ next₀ last₀ h k next last = Walking p (keptBy false p m s) s at n head h₀ k next last h
+Inv-loop p marks heap₀ head size count seen₀ linked₀ next₀ last₀ heap seen linked next last =
+    Walking p (keptBy false p marks size) size next₀ count head heap₀ seen next last linked heap
 
 abbrev μ-loop : tie.MeasureT-loop
-μ-loop p m h₀ at s n head k₀ next₀ last₀ h k next last = n - k
+μ-loop p marks heap₀ head size count seen₀ linked₀ next₀ last₀ heap seen linked next last = count - seen
 
 loop-holds : tie.Need-loop-holds Inv-loop μ-loop
 loop-holds c = walking-start _ _ _ _ _ _ _
@@ -24,8 +25,8 @@ loop-holds c = walking-start _ _ _ _ _ _ _
 add-next : tie.Need-add-next Inv-loop μ-loop
 add-next c = let x = next-in _ _ _ _ _ _ (c .before .before .before .before .pre .0) (c .loop-test .taken) (c .before .loop .inv .here) in omega (arith, x .ends, x .low)
 
-add-k : tie.Need-add-k Inv-loop μ-loop
-add-k c = search needs
+add-seen : tie.Need-add-seen Inv-loop μ-loop
+add-seen c = search needs
 
 --@ add-cell c = let x = next-in _ _ _ _ _ _ (@pre .0) (@loop-test .taken) (@loop .inv .here) in omega (arith, x .ends, x .base)
 add-cell : tie.Need-add-cell Inv-loop μ-loop
@@ -39,29 +40,33 @@ any-marked-requires c κs = let x = next-in _ _ _ _ _ _ (c .before .before .befo
 put-word-requires : tie.Need-put-word-requires Inv-loop μ-loop
 put-word-requires c κs = let x = next-in _ _ _ _ _ _ (c .before .before .before .before .before .before .before .before .pre .0) (c .before .before .before .before .loop-test .taken) (c .before .before .before .before .before .loop .inv .here) in omega (arith, x .ends, x .word, c .before .before .before .before .before .loop .inv .same)
 
+--@ add-linked c = omega (arith, few-cells _ (@pre .0), @loop .inv .on .few, @loop-test .taken)
+add-linked : tie.Need-add-linked Inv-loop μ-loop
+add-linked c = omega (arith, few-cells _ (c .before .before .before .before .before .before .before .before .before .before .before .pre .0), c .before .before .before .before .before .before .before .before .loop .inv .on .few, c .before .before .before .before .before .before .before .loop-test .taken)
+
 --@ loop-less c = falls _ _ (@loop-test .taken)
 loop-less : tie.Need-loop-less Inv-loop μ-loop
 loop-less c = falls _ _ (c .before .before .before .before .before .before .before .loop-test .taken)
 
---@ loop-again c = walking-freed _ _ _ _ _ _ _ _ _ _ _ (@loop .inv) (@loop-test .taken) (kept-brute _ _ _ _ (@any-marked .ensures) ∙ not-true _ (@if1 .taken)) (@put-word .ensures)
+--@ loop-again c = walking-freed _ _ _ _ _ _ _ _ _ _ _ _ (@loop .inv) (@loop-test .taken) (kept-brute _ _ _ _ (@any-marked .ensures) ∙ not-true _ (@if1 .taken)) (@put-word .ensures)
 loop-again : tie.Need-loop-again Inv-loop μ-loop
-loop-again c = walking-freed _ _ _ _ _ _ _ _ _ _ _ (c .before .before .before .before .before .before .before .before .loop .inv) (c .before .before .before .before .before .before .before .loop-test .taken) (kept-brute _ _ _ _ (c .before .before .before .before .before .any-marked .ensures) ∙ not-true _ (c .before .before .before .before .if1 .taken)) (c .before .before .put-word .ensures)
+loop-again c = walking-freed _ _ _ _ _ _ _ _ _ _ _ _ (c .before .before .before .before .before .before .before .before .loop .inv) (c .before .before .before .before .before .before .before .loop-test .taken) (kept-brute _ _ _ _ (c .before .before .before .before .before .any-marked .ensures) ∙ not-true _ (c .before .before .before .before .if1 .taken)) (c .before .before .put-word .ensures)
 
 --@ loop-less-2 c = falls _ _ (@loop-test .taken)
 loop-less-2 : tie.Need-loop-less-2 Inv-loop μ-loop
 loop-less-2 c = falls _ _ (c .before .before .before .loop-test .taken)
 
---@ loop-again-2 c = walking-kept _ _ _ _ _ _ _ _ _ _ _ (@loop .inv) (@loop-test .taken) (kept-brute _ _ _ _ (@any-marked .ensures) ∙ not-false _ (@if1 .left))
+--@ loop-again-2 c = walking-kept _ _ _ _ _ _ _ _ _ _ _ _ (@loop .inv) (@loop-test .taken) (kept-brute _ _ _ _ (@any-marked .ensures) ∙ not-false _ (@if1 .left))
 loop-again-2 : tie.Need-loop-again-2 Inv-loop μ-loop
-loop-again-2 c = walking-kept _ _ _ _ _ _ _ _ _ _ _ (c .before .before .before .before .loop .inv) (c .before .before .before .loop-test .taken) (kept-brute _ _ _ _ (c .before .any-marked .ensures) ∙ not-false _ (c .if1 .left))
+loop-again-2 c = walking-kept _ _ _ _ _ _ _ _ _ _ _ _ (c .before .before .before .before .loop .inv) (c .before .before .before .loop-test .taken) (kept-brute _ _ _ _ (c .before .any-marked .ensures) ∙ not-false _ (c .if1 .left))
 
 --@ same-length c = @loop .inv .same
 same-length : tie.Need-same-length Inv-loop μ-loop
 same-length c = c .before .loop .inv .same
 
---@ returns c = walking-end _ _ _ _ _ _ _ _ _ _ _ (@loop .inv) (@loop-test .left)
+--@ returns c = walking-end _ _ _ _ _ _ _ _ _ _ _ _ (@loop .inv) (@loop-test .left)
 returns : tie.Need-returns Inv-loop μ-loop
-returns c = walking-end _ _ _ _ _ _ _ _ _ _ _ (c .before .loop .inv) (c .loop-test .left)
+returns c = walking-end _ _ _ _ _ _ _ _ _ _ _ _ (c .before .loop .inv) (c .loop-test .left)
 
 pub link-edge-spec : {M : Type 1} → statement M
 link-edge-spec =
@@ -71,10 +76,11 @@ link-edge-spec =
     μ-loop
     loop-holds
     add-next
-    add-k
+    add-seen
     add-cell
     any-marked-requires
     put-word-requires
+    add-linked
     loop-less
     loop-again
     loop-less-2

@@ -8,7 +8,7 @@ use Rattle.native_ms.proofs.block.chain.link_inner.Tie as tie
 
 --@ link-by-bit-requires c κs = @pre
 link-by-bit-requires : tie.Need-link-by-bit-requires
-link-by-bit-requires c κs = (c .before .before .before .before .pre)
+link-by-bit-requires c κs = (c .before .before .before .before .before .pre)
 
 same-length : tie.Need-same-length
 same-length c = search needs
@@ -19,7 +19,7 @@ returns c = λ kept b. c .before .before .link-by-bit .ensures kept (one-word _ 
 
 --@ link-bytes-requires c κs = (@pre, @if2 .taken, @if3 .taken)
 link-bytes-requires : tie.Need-link-bytes-requires
-link-bytes-requires c κs = ((c .before .before .before .before .before .before .pre), c .before .before .if2 .taken, c .before .if3 .taken)
+link-bytes-requires c κs = ((c .before .before .before .before .before .before .before .before .pre), c .before .before .if2 .taken, c .before .if3 .taken)
 
 same-length-2 : tie.Need-same-length-2
 same-length-2 c = search needs
@@ -30,7 +30,7 @@ returns-2 c = c .before .before .link-bytes .ensures
 
 --@ link-windows-requires c κs = (@pre, @if2 .taken, omega (arith, @if3 .left))
 link-windows-requires : tie.Need-link-windows-requires
-link-windows-requires c κs = ((c .before .before .before .before .before .before .pre), c .before .before .if2 .taken, omega (arith, c .before .if3 .left))
+link-windows-requires c κs = ((c .before .before .before .before .before .before .before .before .pre), c .before .before .if2 .taken, omega (arith, c .before .if3 .left))
 
 same-length-3 : tie.Need-same-length-3
 same-length-3 c = search needs
@@ -41,7 +41,7 @@ returns-3 c = c .before .before .link-windows .ensures
 
 --@ link-few-requires c κs = (@pre, @if4 .taken)
 link-few-requires : tie.Need-link-few-requires
-link-few-requires c κs = ((c .before .before .before .before .before .before .pre), c .before .if4 .taken)
+link-few-requires c κs = ((c .before .before .before .before .before .before .before .before .before .pre), c .before .if4 .taken)
 
 same-length-4 : tie.Need-same-length-4
 same-length-4 c = search needs
@@ -52,7 +52,7 @@ returns-4 c = c .before .before .link-few .ensures
 
 --@ link-many-requires c κs = (@pre, @if4 .left)
 link-many-requires : tie.Need-link-many-requires
-link-many-requires c κs = ((c .before .before .before .before .before .before .pre), c .before .if4 .left)
+link-many-requires c κs = ((c .before .before .before .before .before .before .before .before .before .pre), c .before .if4 .left)
 
 same-length-5 : tie.Need-same-length-5
 same-length-5 c = search needs

@@ -24,24 +24,24 @@ loop-holds c = (omega arith, omega (arith, c .pre .0), λ j a b. absurd (omega (
 shared-slice-read-if1 : tie.Need-shared-slice-read-if1 Inv-loop μ-loop
 shared-slice-read-if1 c = omega (arith, c .before .loop-test .taken, c .before .before .before .pre .1)
 
---@ returns c = let b = @shared-slice-known .given (@loop .i) in sym (byte-from (@args .m .now) (@args .from) (@args .to) (@loop .i) (@loop .inv .0) (@loop-test .taken) (omega (arith, b)) (@if1 .taken))
+--@ returns c = let b = @shared-slice-known .given (@loop .byte) in sym (byte-from (@args .marks .now) (@args .from) (@args .to) (@loop .byte) (@loop .inv .0) (@loop-test .taken) (omega (arith, b)) (@if1 .taken))
 returns : tie.Need-returns Inv-loop μ-loop
-returns c = let b = c .before .shared-slice-known .given (c .before .before .before .loop .i) in sym (byte-from (c .before .before .before .before .args .m .now) (c .before .before .before .before .args .from) (c .before .before .before .before .args .to) (c .before .before .before .loop .i) (c .before .before .before .loop .inv .0) (c .before .before .loop-test .taken) (omega (arith, b)) (c .if1 .taken))
+returns c = let b = c .before .shared-slice-known .given (c .before .before .before .loop .byte) in sym (byte-from (c .before .before .before .before .args .marks .now) (c .before .before .before .before .args .from) (c .before .before .before .before .args .to) (c .before .before .before .loop .byte) (c .before .before .before .loop .inv .0) (c .before .before .loop-test .taken) (omega (arith, b)) (c .if1 .taken))
 
-add-i : tie.Need-add-i Inv-loop μ-loop
-add-i c = search needs
+add-byte : tie.Need-add-byte Inv-loop μ-loop
+add-byte c = search needs
 
 --@ loop-less c = falls _ _ (@loop-test .taken)
 loop-less : tie.Need-loop-less Inv-loop μ-loop
 loop-less c = falls _ _ (c .before .before .loop-test .taken)
 
---@ loop-again c = (omega (arith, @loop .inv .0), omega (arith, @loop-test .taken), λ j a b. zero-on (@args .m .now) _ _ (@loop .inv .2) (@if1 .left) j a b)
+--@ loop-again c = (omega (arith, @loop .inv .0), omega (arith, @loop-test .taken), λ j a b. zero-on (@args .marks .now) _ _ (@loop .inv .2) (@if1 .left) j a b)
 loop-again : tie.Need-loop-again Inv-loop μ-loop
-loop-again c = (omega (arith, c .before .before .before .loop .inv .0), omega (arith, c .before .before .loop-test .taken), λ j a b. zero-on (c .before .before .before .before .args .m .now) _ _ (c .before .before .before .loop .inv .2) (c .if1 .left) j a b)
+loop-again c = (omega (arith, c .before .before .before .loop .inv .0), omega (arith, c .before .before .loop-test .taken), λ j a b. zero-on (c .before .before .before .before .args .marks .now) _ _ (c .before .before .before .loop .inv .2) (c .if1 .left) j a b)
 
---@ returns-2 c = sym (bytes-from (@args .m .now) (@args .from) (@args .to) (@pre .0) (λ j a b. @loop .inv .2 j a (omega (arith, b, @loop-test .left))))
+--@ returns-2 c = sym (bytes-from (@args .marks .now) (@args .from) (@args .to) (@pre .0) (λ j a b. @loop .inv .2 j a (omega (arith, b, @loop-test .left))))
 returns-2 : tie.Need-returns-2 Inv-loop μ-loop
-returns-2 c = sym (bytes-from (c .before .before .args .m .now) (c .before .before .args .from) (c .before .before .args .to) (c .before .before .pre .0) (λ j a b. c .before .loop .inv .2 j a (omega (arith, b, c .loop-test .left))))
+returns-2 c = sym (bytes-from (c .before .before .args .marks .now) (c .before .before .args .from) (c .before .before .args .to) (c .before .before .pre .0) (λ j a b. c .before .loop .inv .2 j a (omega (arith, b, c .loop-test .left))))
 
 pub any-byte-spec : {M : Type 1} → statement M
 any-byte-spec =
@@ -52,7 +52,7 @@ any-byte-spec =
     loop-holds
     shared-slice-read-if1
     returns
-    add-i
+    add-byte
     loop-less
     loop-again
     returns-2)

@@ -20,13 +20,13 @@ sub-mask c = mask-some _ (c .before .before .pre .1)
 shr-seen : tie.Need-shr-seen
 shr-seen c = search needs
 
---@ returns c = few-none (@args .m .now) (@args .g) (@pair .ensures .0) (omega (arith, @shared-slice-known .given (@args .g / 8))) _ (@pre .1) (@if1 .taken)
+--@ returns c = few-none (@args .marks .now) (@args .first) (@pair .ensures .0) (omega (arith, @shared-slice-known .given (@args .first / 8))) _ (@pre .1) (@if1 .taken)
 returns : tie.Need-returns
-returns c = few-none (c .before .before .before .args .m .now) (c .before .before .before .args .g) (c .before .pair .ensures .0) (omega (arith, c .before .before .shared-slice-known .given (c .before .before .before .args .g / 8))) _ (c .before .before .before .pre .1) (c .if1 .taken)
+returns c = few-none (c .before .before .before .args .marks .now) (c .before .before .before .args .first) (c .before .pair .ensures .0) (omega (arith, c .before .before .shared-slice-known .given (c .before .before .before .args .first / 8))) _ (c .before .before .before .pre .1) (c .if1 .taken)
 
---@ returns-2 c = few-some (@args .m .now) (@args .g) (@pair .ensures .0) (omega (arith, @shared-slice-known .given (@args .g / 8))) _ (@pre .1) (@if1 .left)
+--@ returns-2 c = few-some (@args .marks .now) (@args .first) (@pair .ensures .0) (omega (arith, @shared-slice-known .given (@args .first / 8))) _ (@pre .1) (@if1 .left)
 returns-2 : tie.Need-returns-2
-returns-2 c = few-some (c .before .before .before .args .m .now) (c .before .before .before .args .g) (c .before .pair .ensures .0) (omega (arith, c .before .before .shared-slice-known .given (c .before .before .before .args .g / 8))) _ (c .before .before .before .pre .1) (c .if1 .left)
+returns-2 c = few-some (c .before .before .before .args .marks .now) (c .before .before .before .args .first) (c .before .pair .ensures .0) (omega (arith, c .before .before .shared-slice-known .given (c .before .before .before .args .first / 8))) _ (c .before .before .before .pre .1) (c .if1 .left)
 
 pub any-few-spec : {M : Type 1} → statement M
 any-few-spec =

@@ -15,13 +15,13 @@ cast-seen c = search needs
 shr-seen : tie.Need-shr-seen
 shr-seen c = search needs
 
---@ returns c = head-none (@args .m .now) (@args .g) (omega (arith, @shared-slice-known .given (@args .g / 8))) (@if1 .taken)
+--@ returns c = head-none (@args .marks .now) (@args .first) (omega (arith, @shared-slice-known .given (@args .first / 8))) (@if1 .taken)
 returns : tie.Need-returns
-returns c = head-none (c .before .before .args .m .now) (c .before .before .args .g) (omega (arith, c .before .shared-slice-known .given (c .before .before .args .g / 8))) (c .if1 .taken)
+returns c = head-none (c .before .before .args .marks .now) (c .before .before .args .first) (omega (arith, c .before .shared-slice-known .given (c .before .before .args .first / 8))) (c .if1 .taken)
 
---@ returns-2 c = head-some (@args .m .now) (@args .g) (omega (arith, @shared-slice-known .given (@args .g / 8))) (@if1 .left)
+--@ returns-2 c = head-some (@args .marks .now) (@args .first) (omega (arith, @shared-slice-known .given (@args .first / 8))) (@if1 .left)
 returns-2 : tie.Need-returns-2
-returns-2 c = head-some (c .before .before .args .m .now) (c .before .before .args .g) (omega (arith, c .before .shared-slice-known .given (c .before .before .args .g / 8))) (c .if1 .left)
+returns-2 c = head-some (c .before .before .args .marks .now) (c .before .before .args .first) (omega (arith, c .before .shared-slice-known .given (c .before .before .args .first / 8))) (c .if1 .left)
 
 pub any-head-spec : {M : Type 1} → statement M
 any-head-spec =

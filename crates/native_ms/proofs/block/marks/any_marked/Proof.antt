@@ -9,8 +9,8 @@ use Rattle.native_ms.proofs.Span.{lent-any, lent-run, lent-count, heap-
 use Rattle.native_ms.proofs.block.marks.any_marked.Statement.{statement}
 use Rattle.native_ms.proofs.block.marks.any_marked.Tie as tie
 
-add-n : tie.Need-add-n
-add-n c = search needs
+add-places : tie.Need-add-places
+add-places c = search needs
 
 --@ up-by-requires c κs = @pre .0
 up-by-requires : tie.Need-up-by-requires
@@ -64,20 +64,20 @@ sub-smaller c = search needs
 smaller-requires-3 : tie.Need-smaller-requires-3
 smaller-requires-3 c κs = search needs
 
---@ any-set-requires c κs = let g = good-bounds (@args .p) (@pre .0) in lent-run (@args .p) (@args .m .now) (@args .cell .0) ((@args .s + 7) / 8) (omega (arith, g .base-low)) (ap (λ (x : ℕ). @args .cell .0 + x) (@up-by .ensures)) (record { skips = @smaller .ensures ∙ ap (λ (x : ℕ). min ((@args .s + 7) / 8) ((x + 7) / 8)) (@minus .ensures); begins = @minus2 .ensures; counts = refl }) (@smaller2 .result) (@smaller2 .ensures) (heap-whole _ g) (lent-count _ _ _ (@minus3 .ensures) (@smaller3 .ensures)) (omega (arith, @up-by .ensures, g .lower-high, @pre .1)) (omega (arith, @pre .2))
+--@ any-set-requires c κs = let g = good-bounds (@args .p) (@pre .0) in lent-run (@args .p) (@args .marks .now) (@args .cell .0) ((@args .size + 7) / 8) (omega (arith, g .base-low)) (ap (λ (x : ℕ). @args .cell .0 + x) (@up-by .ensures)) (record { skips = @smaller .ensures ∙ ap (λ (x : ℕ). min ((@args .size + 7) / 8) ((x + 7) / 8)) (@minus .ensures); begins = @minus2 .ensures; counts = refl }) (@smaller2 .result) (@smaller2 .ensures) (heap-whole _ g) (lent-count _ _ _ (@minus3 .ensures) (@smaller3 .ensures)) (omega (arith, @up-by .ensures, g .lower-high, @pre .1)) (omega (arith, @pre .2))
 any-set-requires : tie.Need-any-set-requires
-any-set-requires c κs = let g = good-bounds (c .before .before .before .before .before .before .before .before .before .before .before .args .p) (c .before .before .before .before .before .before .before .before .before .before .before .pre .0) in lent-run (c .before .before .before .before .before .before .before .before .before .before .before .args .p) (c .before .before .before .before .before .before .before .before .before .before .before .args .m .now) (c .before .before .before .before .before .before .before .before .before .before .before .args .cell .0) ((c .before .before .before .before .before .before .before .before .before .before .before .args .s + 7) / 8) (omega (arith, g .base-low)) (ap (λ (x : ℕ). c .before .before .before .before .before .before .before .before .before .before .before .args .cell .0 + x) (c .before .before .before .before .before .before .before .before .before .up-by .ensures)) (record { skips = c .before .before .before .before .before .smaller .ensures ∙ ap (λ (x : ℕ). min ((c .before .before .before .before .before .before .before .before .before .before .before .args .s + 7) / 8) ((x + 7) / 8)) (c .before .before .before .before .before .before .minus .ensures); begins = c .before .before .before .before .minus2 .ensures; counts = refl }) (c .before .before .smaller2 .result) (c .before .before .smaller2 .ensures) (heap-whole _ g) (lent-count _ _ _ (c .before .minus3 .ensures) (c .smaller3 .ensures)) (omega (arith, c .before .before .before .before .before .before .before .before .before .up-by .ensures, g .lower-high, c .before .before .before .before .before .before .before .before .before .before .before .pre .1)) (omega (arith, c .before .before .before .before .before .before .before .before .before .before .before .pre .2))
+any-set-requires c κs = let g = good-bounds (c .before .before .before .before .before .before .before .before .before .before .before .args .p) (c .before .before .before .before .before .before .before .before .before .before .before .pre .0) in lent-run (c .before .before .before .before .before .before .before .before .before .before .before .args .p) (c .before .before .before .before .before .before .before .before .before .before .before .args .marks .now) (c .before .before .before .before .before .before .before .before .before .before .before .args .cell .0) ((c .before .before .before .before .before .before .before .before .before .before .before .args .size + 7) / 8) (omega (arith, g .base-low)) (ap (λ (x : ℕ). c .before .before .before .before .before .before .before .before .before .before .before .args .cell .0 + x) (c .before .before .before .before .before .before .before .before .before .up-by .ensures)) (record { skips = c .before .before .before .before .before .smaller .ensures ∙ ap (λ (x : ℕ). min ((c .before .before .before .before .before .before .before .before .before .before .before .args .size + 7) / 8) ((x + 7) / 8)) (c .before .before .before .before .before .before .minus .ensures); begins = c .before .before .before .before .minus2 .ensures; counts = refl }) (c .before .before .smaller2 .result) (c .before .before .smaller2 .ensures) (heap-whole _ g) (lent-count _ _ _ (c .before .minus3 .ensures) (c .smaller3 .ensures)) (omega (arith, c .before .before .before .before .before .before .before .before .before .up-by .ensures, g .lower-high, c .before .before .before .before .before .before .before .before .before .before .before .pre .1)) (omega (arith, c .before .before .before .before .before .before .before .before .before .before .before .pre .2))
 
---@ returns c = let g = good-bounds (@args .p) (@pre .0) in @any-set .ensures ∙ lent-any (@args .p) (@args .m .now) (@args .cell .0) ((@args .s + 7) / 8) (omega (arith, g .base-low)) (ap (λ (x : ℕ). @args .cell .0 + x) (@up-by .ensures)) (record { skips = @smaller .ensures ∙ ap (λ (x : ℕ). min ((@args .s + 7) / 8) ((x + 7) / 8)) (@minus .ensures); begins = @minus2 .ensures; counts = refl }) (@smaller2 .result) (@smaller2 .ensures) (heap-whole _ g) (lent-count _ _ _ (@minus3 .ensures) (@smaller3 .ensures))
+--@ returns c = let g = good-bounds (@args .p) (@pre .0) in @any-set .ensures ∙ lent-any (@args .p) (@args .marks .now) (@args .cell .0) ((@args .size + 7) / 8) (omega (arith, g .base-low)) (ap (λ (x : ℕ). @args .cell .0 + x) (@up-by .ensures)) (record { skips = @smaller .ensures ∙ ap (λ (x : ℕ). min ((@args .size + 7) / 8) ((x + 7) / 8)) (@minus .ensures); begins = @minus2 .ensures; counts = refl }) (@smaller2 .result) (@smaller2 .ensures) (heap-whole _ g) (lent-count _ _ _ (@minus3 .ensures) (@smaller3 .ensures))
 returns : tie.Need-returns
 unfolding wordsIn
-returns c = let g = good-bounds (c .before .before .before .before .before .before .before .before .before .before .before .before .args .p) (c .before .before .before .before .before .before .before .before .before .before .before .before .pre .0) in c .any-set .ensures ∙ lent-any (c .before .before .before .before .before .before .before .before .before .before .before .before .args .p) (c .before .before .before .before .before .before .before .before .before .before .before .before .args .m .now) (c .before .before .before .before .before .before .before .before .before .before .before .before .args .cell .0) ((c .before .before .before .before .before .before .before .before .before .before .before .before .args .s + 7) / 8) (omega (arith, g .base-low)) (ap (λ (x : ℕ). c .before .before .before .before .before .before .before .before .before .before .before .before .args .cell .0 + x) (c .before .before .before .before .before .before .before .before .before .before .up-by .ensures)) (record { skips = c .before .before .before .before .before .before .smaller .ensures ∙ ap (λ (x : ℕ). min ((c .before .before .before .before .before .before .before .before .before .before .before .before .args .s + 7) / 8) ((x + 7) / 8)) (c .before .before .before .before .before .before .before .minus .ensures); begins = c .before .before .before .before .before .minus2 .ensures; counts = refl }) (c .before .before .before .smaller2 .result) (c .before .before .before .smaller2 .ensures) (heap-whole _ g) (lent-count _ _ _ (c .before .before .minus3 .ensures) (c .before .smaller3 .ensures))
+returns c = let g = good-bounds (c .before .before .before .before .before .before .before .before .before .before .before .before .args .p) (c .before .before .before .before .before .before .before .before .before .before .before .before .pre .0) in c .any-set .ensures ∙ lent-any (c .before .before .before .before .before .before .before .before .before .before .before .before .args .p) (c .before .before .before .before .before .before .before .before .before .before .before .before .args .marks .now) (c .before .before .before .before .before .before .before .before .before .before .before .before .args .cell .0) ((c .before .before .before .before .before .before .before .before .before .before .before .before .args .size + 7) / 8) (omega (arith, g .base-low)) (ap (λ (x : ℕ). c .before .before .before .before .before .before .before .before .before .before .before .before .args .cell .0 + x) (c .before .before .before .before .before .before .before .before .before .before .up-by .ensures)) (record { skips = c .before .before .before .before .before .before .smaller .ensures ∙ ap (λ (x : ℕ). min ((c .before .before .before .before .before .before .before .before .before .before .before .before .args .size + 7) / 8) ((x + 7) / 8)) (c .before .before .before .before .before .before .before .minus .ensures); begins = c .before .before .before .before .before .minus2 .ensures; counts = refl }) (c .before .before .before .smaller2 .result) (c .before .before .before .smaller2 .ensures) (heap-whole _ g) (lent-count _ _ _ (c .before .before .minus3 .ensures) (c .before .smaller3 .ensures))
 
 pub any-marked-spec : {M : Type 1} → statement M
 any-marked-spec =
     tie.close
     (tie.spec
-    add-n
+    add-places
     up-by-requires
     add-first
     add-low
