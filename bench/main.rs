@@ -63,8 +63,8 @@ fn bare_read(w: &World) -> usize {
 
 /// A run of every kind of call, on both sides: allocs, collections with every third object kept, and allocs that sweep and take
 /// over what was abandoned. All answers are compared, and after each stage all that stands.
-fn history(log: usize, unified: bool, lower: isize) {
-    let w = &mut World::new(log, 12, unified, lower);
+fn history(log: usize, unified: bool, lower: isize, eager: bool) {
+    let w = &mut World::sweeping(log, 12, unified, lower, eager);
     (1..=2).for_each(|h| w.bind(h));
     for turn in 0..4 {
         let mut objects = Vec::new();
@@ -312,6 +312,29 @@ fn release(bench: &mut Bench, what: &str, f: Call) {
     line(what, "", bench.pair(&marked, what, 1, &|w| *w = marked(), port, rust));
 }
 
+/// 64 blocks full of cells of one size, one in so many of them marked, about to be released.
+fn full(cell: usize, every: usize, eager: bool) -> World {
+    let mut w = World::sweeping(12, 64, true, 0, eager);
+    w.bind(1);
+    let a_block = 4096 / cell;
+    let objects: Vec<usize> =
+        (0..64 * a_block).map(|k| w.alloc(1, cell, if k % a_block == 0 { k / a_block } else { NOTHING })).collect();
+    w.prepare();
+    objects.iter().step_by(every).for_each(|at| w.mark(*at));
+    w.rust.begin_release(1);
+    lent::released();
+    w
+}
+
+/// All releases of a collection: the one holder's, and the shared one, which with the eager choice sweeps every block.
+fn collection(bench: &mut Bench, cell: usize, eager: bool) {
+    let choice = if eager { "eager" } else { "lazy" };
+    let what = format!("the releases of a collection, {choice}, 64 blocks of cells of {}, every other one marked", commas(cell));
+    let port: Piece = times!(|w, _| w.port.call(bare_release, 1, 0, 0) + w.port.call(bare_shared_release, 0, 0, 0));
+    let rust: Piece = times!(|w, _| { w.rust.release(1); w.rust.shared_release(); 2 + lent::released() });
+    line(&what, "", bench.pair(&|| full(cell, 2, eager), &what, 1, &|w| *w = full(cell, 2, eager), port, rust));
+}
+
 fn bins(bench: &mut Bench) {
     let w = World::new(16, 1, true, 0);
     (8..=65536).for_each(|size| assert_eq!(class_of(size), w.rust.bin(size), "bin of {size}"));
@@ -328,8 +351,10 @@ fn main() {
         args.next().expect("usage: bench [--count DUMPS]")
     });
     for log in [12, 16] {
-        history(log, true, 0);
-        LS.iter().for_each(|lower| history(log, false, *lower));
+        for eager in [false, true] {
+            history(log, true, 0, eager);
+            LS.iter().for_each(|lower| history(log, false, *lower, eager));
+        }
     }
     let bench = &mut Bench::new(dumps);
     println!("Ratios of {}; in brackets, or in the last two columns, {} of one.", bench.unit(), bench.unit());
@@ -345,5 +370,8 @@ fn main() {
     mark(bench, "mark whole, 64 blocks used", port_mark);
     release(bench, "release of 64 blocks, half of them marked, beyond the check", bare_release);
     release(bench, "the same, whole", port_release);
+    for (cell, eager) in [(64, false), (64, true), (1024, false), (1024, true)] {
+        collection(bench, cell, eager);
+    }
     bins(bench);
 }

@@ -22,6 +22,7 @@ pub struct Params {
     pub offsets: bool,
     pub unified: bool,
     pub lower: i64,
+    pub eager: bool,
     pub rows: [Row; 48],
     pub count: usize,
 }
@@ -53,7 +54,7 @@ macro_rules! calls {
         $(pub fn $name(p: P, w: W, wn: N, st: B, stn: N, m: B, mn: N, h: B, hn: N, x: N, y: N, z: N) -> N;)*
     } };
 }
-calls! { port_bind port_prepare port_alloc bare_alloc port_mark bare_mark port_release bare_release port_shared_release }
+calls! { port_bind port_prepare port_alloc bare_alloc port_mark bare_mark port_release bare_release port_shared_release bare_shared_release }
 
 /// `call!(self, f, (parts) more)`: the parts lent as slices, and then the numbers.
 macro_rules! call {

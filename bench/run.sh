@@ -87,10 +87,12 @@ for crate in outside atomic atomic_traits num_traits downcast_rs cfg_if; do
     names="$names --extern $crate=$out/lib/liboutside.rlib"
 done
 for log in 12 16; do
-    build --out-dir "$out/lib" --crate-name ms$log --crate-type rlib --cap-lints allow --cfg block$log $names "$out/src/lib.rs"
+    crate="--out-dir $out/lib --crate-type rlib --cap-lints allow --cfg block$log $names $out/src/lib.rs"
+    build --crate-name ms$log $crate
+    build --crate-name eager$log --cfg 'feature="eager_sweeping"' $crate
 done
 build -C lto=fat -C codegen-units=1 --extern lent="$out/lib/liblent.rlib" --extern ms12="$out/lib/libms12.rlib" \
-    --extern ms16="$out/lib/libms16.rlib" -l static=port -l static=bare --crate-name bench -o "$out/bench" "$here/main.rs"
+    --extern ms16="$out/lib/libms16.rlib" --extern eager12="$out/lib/libeager12.rlib" --extern eager16="$out/lib/libeager16.rlib" -l static=port -l static=bare --crate-name bench -o "$out/bench" "$here/main.rs"
 
 # ---- the table
 commit=$(git -C "$port" log -1 --format='%h of %cs' -- crates 2>/dev/null || echo "no commit")

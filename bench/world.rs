@@ -43,6 +43,11 @@ fn table(t: usize, log_region: usize, log_bits: usize, data: usize) -> usize {
 impl World {
     /// A space that is set up, with no holder bound.
     pub fn new(log: usize, blocks: usize, unified: bool, lower: isize) -> World {
+        World::sweeping(log, blocks, unified, lower, false)
+    }
+
+    /// The same, with or without the choice of eager sweeping.
+    pub fn sweeping(log: usize, blocks: usize, unified: bool, lower: isize, eager: bool) -> World {
         map(BASE, HEAP);
         map(PORT_HEAP, HEAP);
         map(table(lent::MARKS, 3, 0, BASE) - MARGIN, HEAP / 64 + 2 * MARGIN);
@@ -52,10 +57,15 @@ impl World {
         let bytes = 1 << log;
         let (min, max, log_block_bytes) = (8, 8, log as u32);
         let setup =
-            lent::Params { base: BASE, log_block_bytes, blocks, min, max, use_offset: false, unified, lower_bound: lower };
+            lent::Params { base: BASE, log_block_bytes, blocks, min, max, use_offset: false, unified, lower_bound: lower, eager };
         lent::lend(setup, false);
-        let rust = if log == 12 { ms12::machine::bench(&setup) } else { ms16::machine::bench(&setup) };
-        let p = Params { base: BASE, bytes, blocks, min, max, offsets: false, unified, lower: lower as i64, rows: NO_ROWS, count: 0 };
+        let rust = match (log, eager) {
+            (12, false) => ms12::machine::bench(&setup),
+            (_, false) => ms16::machine::bench(&setup),
+            (12, true) => eager12::machine::bench(&setup),
+            (_, true) => eager16::machine::bench(&setup),
+        };
+        let p = Params { base: BASE, bytes, blocks, min, max, offsets: false, unified, lower: lower as i64, eager, rows: NO_ROWS, count: 0 };
         let port = Port {
             p,
             words: vec![0; 2958 + 7 * blocks],

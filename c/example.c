@@ -1,4 +1,5 @@
-/* A host to start from: an arena, two holders, a collection, and a listing of what is free; then an office's class table.
+/* A host to start from: an arena, two holders, a collection, and a listing of what is free; the same with eager sweeping; then an
+ * office's class table.
  * Build and run: c/build.sh */
 #include <stdio.h>
 #include <stdlib.h>
@@ -24,7 +25,7 @@ static uint8_t *room(size_t bytes)
 
 /* Four blocks of 4096 bytes. What the memory holds doesn't matter: set-up clears tables and marks, and each cell is zeroed when
  * it is handed out. */
-static void open_space(struct native_ms_space *s)
+static void open_space(struct native_ms_space *s, size_t eager)
 {
     s->base = 16384;
     s->bytes = 4096;
@@ -34,6 +35,7 @@ static void open_space(struct native_ms_space *s)
     s->offsets = 1;
     s->unified = 0;
     s->lower = 0;
+    s->eager = eager;
     s->rows = NULL;
     s->row_count = 0;
     s->words = room(NATIVE_MS_WORDS_LEN(s->blocks));
@@ -101,8 +103,8 @@ static void collect(struct native_ms_space *s, const uint64_t *live, size_t coun
         }
     must("shared release", native_ms_shared_release(NATIVE_MS_LENT(s)));
     released += answered(s, NATIVE_MS_RELEASE_BLOCKS);
-    printf("collected: %llu blocks released, %llu merged by the last\n", (unsigned long long)released,
-           (unsigned long long)answered(s, NATIVE_MS_RELEASE_MERGED));
+    printf("collected: %llu blocks released, %llu merged and %llu swept by the last\n", (unsigned long long)released,
+           (unsigned long long)answered(s, NATIVE_MS_RELEASE_MERGED), (unsigned long long)answered(s, NATIVE_MS_RELEASE_SWEPT));
 }
 
 /* The free cells of each block in use, along its chain, which is as long as the block's count. A block that awaits a sweep still
@@ -128,13 +130,28 @@ static void list_free(struct native_ms_space *s)
 /* Checks the rows of a space. */
 static void check(struct native_ms_space *s, const char *which)
 {
-    must("check", native_ms_check_classes(s->base, s->bytes, s->blocks, s->min, s->max, s->offsets, s->unified, s->lower, s->rows,
-                                          NATIVE_MS_ROWS_LEN(s->row_count), s->answer, NATIVE_MS_ANSWER_LEN));
+    must("check", native_ms_check_classes(s->base, s->bytes, s->blocks, s->min, s->max, s->offsets, s->unified, s->lower, s->eager,
+                                          s->rows, NATIVE_MS_ROWS_LEN(s->row_count), s->answer, NATIVE_MS_ANSWER_LEN));
     static const char *const kinds[] = {"accepted", "bad count", "bad row"};
     printf("%s: %s", which, kinds[answered(s, NATIVE_MS_CHECK_KIND)]);
     if (answered(s, NATIVE_MS_CHECK_KIND) != NATIVE_MS_CHECK_ACCEPTED)
         printf(" %llu", (unsigned long long)answered(s, NATIVE_MS_CHECK_NUMBER));
     printf("\n");
+}
+
+/* With eager sweeping the collection leaves no block to be swept: what is free is on the chains when it is over. */
+static void eager(void)
+{
+    struct native_ms_space space;
+    struct native_ms_space *s = &space;
+    open_space(s, 1);
+    must("bind", native_ms_bind(NATIVE_MS_LENT(s), 1));
+    const uint64_t live[] = {take(s, 1, 1000, 8)};
+    take(s, 1, 1000, 8);
+    collect(s, live, 1);
+    list_free(s);
+    take(s, 1, 1000, 8);
+    close_space(s);
 }
 
 /* An office stores entries of 72 bytes: nine words. Its table gives them a cell of their own; document 01's classes give 80 bytes. */
@@ -143,7 +160,7 @@ static void office(void)
     struct native_ms_space space;
     struct native_ms_space *s = &space;
     uint8_t rows[NATIVE_MS_ROWS_LEN(4)];
-    open_space(s);
+    open_space(s, 0);
     must("bind", native_ms_bind(NATIVE_MS_LENT(s), 1));
     take(s, 1, 72, 8);
 
@@ -170,7 +187,7 @@ int main(void)
 {
     struct native_ms_space space;
     struct native_ms_space *s = &space;
-    open_space(s);
+    open_space(s, 0);
     must("bind", native_ms_bind(NATIVE_MS_LENT(s), 1));
     must("bind", native_ms_bind(NATIVE_MS_LENT(s), 2));
 
@@ -202,6 +219,7 @@ int main(void)
     printf("holder 2 took over: block %llu\n", (unsigned long long)((third - s->base) / s->bytes));
     list_free(s);
     close_space(s);
+    eager();
     office();
     return 0;
 }

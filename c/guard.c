@@ -1,6 +1,6 @@
 /* Damaged input from C: random calls on slices that lie between guard pages, so that a byte read or written outside a slice ends
  * the program. Slices are sound, damaged, or of a wrong length; parameters are now and then off.
- * Half of the spaces have rows, which are damaged for single calls.
+ * Half of the spaces have rows, which are damaged for single calls; half sweep eagerly.
  * After each call: bytes beside a slice are as before, and so are the rows; a wrong length or flag is 1; a refusal but 9 changed
  * nothing, and none wrote the answer; none is 8, and a chain that is a ring or shorter than its count is not accepted; an answer's
  * last words are 0.
@@ -122,6 +122,7 @@ static void choose_params(void)
     good.offsets = below(2);
     good.unified = below(2);
     good.lower = good.unified ? 0 : (int64_t)(8 * below(17)) - 64;
+    good.eager = below(2);
     right[WORDS] = NATIVE_MS_WORDS_LEN(good.blocks);
     right[STATES] = NATIVE_MS_STATES_LEN(good.blocks);
     right[MARKS] = NATIVE_MS_MARKS_LEN(good.bytes, good.blocks);
@@ -138,7 +139,7 @@ static void choose_params(void)
 /* One parameter off; whether it is off for sure. */
 static int spoil_params(void)
 {
-    switch (below(9)) {
+    switch (below(10)) {
     case 0: given.base += 8; return 1;
     case 1: given.base = 0; return 1;
     case 2: given.bytes = any(); break;
@@ -147,6 +148,7 @@ static int spoil_params(void)
     case 5: given.max = 48; return 1;
     case 6: given.offsets = 2 + below(3); return 1;
     case 7: given.unified = any() | 2; return 1;
+    case 8: given.eager = any() | 2; return 1;
     default: given.lower = (int64_t)any() | 1; return 1;
     }
     return given.bytes != good.bytes || given.blocks != good.blocks;
@@ -186,7 +188,7 @@ static size_t pick_offer(void)
 }
 
 #define LENT \
-    given.base, given.bytes, given.blocks, given.min, given.max, given.offsets, given.unified, given.lower, \
+    given.base, given.bytes, given.blocks, given.min, given.max, given.offsets, given.unified, given.lower, given.eager, \
     slices[WORDS].at, slices[WORDS].len, slices[STATES].at, slices[STATES].len, slices[MARKS].at, slices[MARKS].len, \
     slices[HEAP].at, slices[HEAP].len, slices[ROWS].at, slices[ROWS].len, slices[ANSWER].at, slices[ANSWER].len
 
@@ -201,13 +203,13 @@ static size_t make(int which, size_t *values)
     case CHECK:
         *values = 2;
         return native_ms_check_classes(given.base, given.bytes, given.blocks, given.min, given.max, given.offsets, given.unified,
-                                       given.lower, slices[ROWS].at, slices[ROWS].len, slices[ANSWER].at, slices[ANSWER].len);
+                                       given.lower, given.eager, slices[ROWS].at, slices[ROWS].len, slices[ANSWER].at, slices[ANSWER].len);
     case 0: return native_ms_set_up(LENT);
     case 1: return native_ms_bind(LENT, to_bind > 0 ? to_bind-- : a_holder());
     case 2: *values = 1; return native_ms_destroy(LENT, a_holder());
     case 3: return native_ms_prepare(LENT);
-    case 4: *values = 2; return native_ms_release(LENT, a_holder());
-    case 5: *values = 2; return native_ms_shared_release(LENT);
+    case 4: *values = 3; return native_ms_release(LENT, a_holder());
+    case 5: *values = 3; return native_ms_shared_release(LENT);
     case 6: {
         uint64_t at = place_in_heap();
         *values = 1;

@@ -5,17 +5,17 @@ type Slice = *mut u8;
 #[link(name = "exports", kind = "static")]
 extern "C" {
     fn native_ms_set_up(
-        base: usize, bytes: usize, blocks: usize, min: usize, max: usize, offsets: usize, unified: usize, lower: i64,
+        base: usize, bytes: usize, blocks: usize, min: usize, max: usize, offsets: usize, unified: usize, lower: i64, eager: usize,
         words: Slice, words_len: usize, states: Slice, states_len: usize, marks: Slice, marks_len: usize,
         heap: Slice, heap_len: usize, rows: *const u8, rows_len: usize, answer: Slice, answer_len: usize,
     ) -> usize;
     fn native_ms_bind(
-        base: usize, bytes: usize, blocks: usize, min: usize, max: usize, offsets: usize, unified: usize, lower: i64,
+        base: usize, bytes: usize, blocks: usize, min: usize, max: usize, offsets: usize, unified: usize, lower: i64, eager: usize,
         words: Slice, words_len: usize, states: Slice, states_len: usize, marks: Slice, marks_len: usize,
         heap: Slice, heap_len: usize, rows: *const u8, rows_len: usize, answer: Slice, answer_len: usize, holder: usize,
     ) -> usize;
     fn native_ms_alloc(
-        base: usize, bytes: usize, blocks: usize, min: usize, max: usize, offsets: usize, unified: usize, lower: i64,
+        base: usize, bytes: usize, blocks: usize, min: usize, max: usize, offsets: usize, unified: usize, lower: i64, eager: usize,
         words: Slice, words_len: usize, states: Slice, states_len: usize, marks: Slice, marks_len: usize,
         heap: Slice, heap_len: usize, rows: *const u8, rows_len: usize, answer: Slice, answer_len: usize,
         holder: usize, size: usize, align: usize, offset: usize, offer: usize,
@@ -27,7 +27,7 @@ macro_rules! call {
     ($f:ident, $w:ident, $s:ident, $m:ident, $h:ident, $a:ident $(, $x:expr)*) => {
         // Sound: five live vectors, none empty, none overlapping; no rows, behind a pointer that isn't null.
         unsafe {
-            $f(16384, 4096, 4, 8, 8, 0, 1, 0, $w.as_mut_ptr(), $w.len(), $s.as_mut_ptr(), $s.len(), $m.as_mut_ptr(), $m.len(),
+            $f(16384, 4096, 4, 8, 8, 0, 1, 0, 0, $w.as_mut_ptr(), $w.len(), $s.as_mut_ptr(), $s.len(), $m.as_mut_ptr(), $m.len(),
                $h.as_mut_ptr(), $h.len(), [0u8; 1].as_ptr(), 0, $a.as_mut_ptr(), $a.len() $(, $x)*)
         }
     };

@@ -31,7 +31,7 @@ extern "C" {
 #endif
 
 /* This interface. It changes whenever a signature, a length or an answer does. */
-#define NATIVE_MS_VERSION 4
+#define NATIVE_MS_VERSION 5
 
 #if SIZE_MAX != UINT64_MAX
 #error "size_t must have 64 bits"
@@ -49,7 +49,8 @@ extern "C" {
 
 /* ---- parameters: base, a nonzero multiple of bytes, base + heap at most 2^47; bytes of a block, a power of two, 4096 to 65536;
  * blocks, 1 to 1024; min 4 or 8; max a power of two, min to 64; offsets and unified 0 or 1; lower (L), a multiple of 8, -64 to
- * 64, and 0 if unified. Anything else is refused as 1. */
+ * 64, and 0 if unified; eager 0 or 1: with 1 the last release of a collection sweeps every block in use, and no alloc sweeps.
+ * Anything else is refused as 1. */
 
 /* A class table: up to 48 rows, each three words (from, to, cell). A request of so many words, from `from` to `to`, gets a cell of
  * `cell` words. Every count of words from 1 to the block's must fall in exactly one row, and a cell holds at least its row's `to`
@@ -58,7 +59,8 @@ extern "C" {
 #define NATIVE_MS_ROWS const uint8_t *rows, size_t rows_len
 
 #define NATIVE_MS_PARAMS \
-    size_t base, size_t bytes, size_t blocks, size_t min, size_t max, size_t offsets, size_t unified, int64_t lower
+    size_t base, size_t bytes, size_t blocks, size_t min, size_t max, size_t offsets, size_t unified, int64_t lower, \
+    size_t eager
 #define NATIVE_MS_SLICES \
     uint8_t *words, size_t words_len, uint8_t *states, size_t states_len, uint8_t *marks, size_t marks_len, \
     uint8_t *heap, size_t heap_len, NATIVE_MS_ROWS, uint8_t *answer, size_t answer_len
@@ -72,8 +74,8 @@ size_t native_ms_alloc(NATIVE_MS_PARAMS, NATIVE_MS_SLICES, size_t holder, size_t
                        size_t offer);                                  /* address, cell size, offer used (0, 1), blocks swept */
 size_t native_ms_prepare(NATIVE_MS_PARAMS, NATIVE_MS_SLICES);                                 /* none */
 size_t native_ms_mark(NATIVE_MS_PARAMS, NATIVE_MS_SLICES, size_t place, size_t block);        /* whether it is new (0, 1) */
-size_t native_ms_release(NATIVE_MS_PARAMS, NATIVE_MS_SLICES, size_t holder);                  /* blocks released, merged */
-size_t native_ms_shared_release(NATIVE_MS_PARAMS, NATIVE_MS_SLICES);                          /* blocks released, merged */
+size_t native_ms_release(NATIVE_MS_PARAMS, NATIVE_MS_SLICES, size_t holder);                  /* blocks released, merged, swept */
+size_t native_ms_shared_release(NATIVE_MS_PARAMS, NATIVE_MS_SLICES);                          /* blocks released, merged, swept */
 
 /* The check of a class table, before a space is set up: refused only as 1. Its answer: 0 and 0 if the rows are accepted; 1 and the
  * least count of words that no row or more than one covers; or 2 and the first row that is unfit, counted from 1. */
@@ -91,6 +93,7 @@ size_t native_ms_check_classes(NATIVE_MS_PARAMS, NATIVE_MS_ROWS, uint8_t *answer
 #define NATIVE_MS_DESTROY_BLOCKS 0
 #define NATIVE_MS_RELEASE_BLOCKS 0
 #define NATIVE_MS_RELEASE_MERGED 1 /* from in-gc to abandoned by the last release; 0 if others are due */
+#define NATIVE_MS_RELEASE_SWEPT 2 /* by the last release, if eager; else 0 */
 #define NATIVE_MS_CHECK_KIND 0
 #define NATIVE_MS_CHECK_NUMBER 1
 #define NATIVE_MS_CHECK_ACCEPTED 0
@@ -100,7 +103,7 @@ size_t native_ms_check_classes(NATIVE_MS_PARAMS, NATIVE_MS_ROWS, uint8_t *answer
 /* ---- refusals, in the order in which they are tested; 12 is tested right after 1 */
 
 #define NATIVE_MS_BAD_SETUP 1   /* a parameter or a length is off */
-#define NATIVE_MS_BAD_TABLES 2  /* the tables aren't sound, or a chain of free cells isn't as long as its block's count */
+#define NATIVE_MS_BAD_TABLES 2  /* the tables aren't sound (with eager: a block awaits a sweep), or a chain isn't as long as its block's count */
 #define NATIVE_MS_WRONG_PHASE 3 /* the call isn't of this phase, or released already */
 #define NATIVE_MS_BAD_HOLDER 4  /* not 1 to 8; bound already (bind); not bound (others) */
 #define NATIVE_MS_BAD_REQUEST 5 /* size or offset no multiple of min, offset over 65536, align no power of two in min to max */
@@ -190,6 +193,7 @@ static inline uint64_t native_ms_free_cells(const uint8_t *words, size_t blocks,
 struct native_ms_space {
     size_t base, bytes, blocks, min, max, offsets, unified;
     int64_t lower;
+    size_t eager;
     uint8_t *words, *states, *marks, *heap;
     const uint8_t *rows; /* not read if row_count is 0 */
     size_t row_count;
@@ -200,7 +204,7 @@ struct native_ms_space {
 static const uint8_t native_ms_no_rows[1] = {0};
 
 #define NATIVE_MS_LENT(s) \
-    (s)->base, (s)->bytes, (s)->blocks, (s)->min, (s)->max, (s)->offsets, (s)->unified, (s)->lower, \
+    (s)->base, (s)->bytes, (s)->blocks, (s)->min, (s)->max, (s)->offsets, (s)->unified, (s)->lower, (s)->eager, \
     (s)->words, NATIVE_MS_WORDS_LEN((s)->blocks), (s)->states, NATIVE_MS_STATES_LEN((s)->blocks), \
     (s)->marks, NATIVE_MS_MARKS_LEN((s)->bytes, (s)->blocks), (s)->heap, NATIVE_MS_HEAP_LEN((s)->bytes, (s)->blocks), \
     (s)->row_count == 0 ? native_ms_no_rows : (s)->rows, NATIVE_MS_ROWS_LEN((s)->row_count), \

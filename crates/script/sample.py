@@ -5,7 +5,7 @@
 
 Hand-made scripts that the Rust can be asked, and random ones: the answers are the Rust's. Hand-made scripts with refusals or rows
 that the Rust does not know: the answers are those of the hand; where one is cut short by a `*`, the reference completes it. Random
-scripts with rows (02, R-5): the reference answers.
+scripts with rows (02, R-5), and eager ones with damaged tables (02, R-8): the reference answers.
 The oracle is target/oracle/oracle, or what ORACLE names.
 """
 import os
@@ -23,14 +23,17 @@ from check_hand import SCRIPTS, agrees  # noqa: E402
 
 # both sweeps, MIN 4 and 8, small and large blocks, L below and above 0, destroys in Marking, free cells asked in each phase
 SEEDS = (1, 7, 22, 27, 33, 36, 44, 51)
+# eager (02, R-8): both sweeps, holder and shared part last, several blocks recycled, on abandoned and in in-gc
+EAGER_SEEDS = (3, 8, 24)
+DAMAGED_SEEDS = (8,)    # eager, tables that R-8 alone calls bad, in each phase
 CALLS = 60
 ARENA = 1 << 16         # small heaps, since each dump prints every mark byte
 LAST = 'no_newline'     # its last line has no newline, so it stands last
 THROUGH = ('example', 'exhausted', 'bad_link', 'refused_1', 'refused_2_order', 'refused_3', 'refused_4', 'refused_5', 'refused_6',
            'refused_7', 'refused_10', 'release_walk', 'merge', 'leaves_marking', 'sweep_negative_L', 'rows', 'rows_refused',
-           'rows_office', 'free_counts', 'free_counts_refused')   # told again through the exports
+           'rows_office', 'free_counts', 'free_counts_refused', 'eager_release', 'eager_refused')   # told again through the exports
 ROW_SEEDS = (3, 12)     # with rows, good and damaged
-VALUES = {'setup': 0, 'b': 0, 'd': 1, 'p': 0, 'a': 4, 'm': 1, 'r': 2, 's': 2}
+VALUES = {'setup': 0, 'b': 0, 'd': 1, 'p': 0, 'a': 4, 'm': 1, 'r': 3, 's': 3}
 NO_OFFER = str(2 ** 64 - 1)     # directly a block that isn't there, through an export none
 NOT_FOR_THE_RUST = '# not for the Rust'
 
@@ -83,16 +86,25 @@ def without_rows(heading, lines, answers):
     return heading, lines, answers
 
 
+def drawn(seed, mode, rows, eager):
+    """The lines of a random script, without one that is bad."""
+    maker = generate.Maker(seed, mode, ARENA, rows=rows, eager=eager).script(CALLS)
+    return [x for x, answer in zip(maker.lines, maker.answers) if answer != 'bad']
+
+
 def rows_part(seed):
-    maker = generate.Maker(seed, 'all', ARENA, rows=1).script(CALLS)
-    lines = [x for x, answer in zip(maker.lines, maker.answers) if answer != 'bad']
+    lines = drawn(seed, 'all', 1, 0)
     return without_rows('# document 02: random rows, seed %d' % seed, lines, of_document(lines))
 
 
-def random_part(seed):
-    maker = generate.Maker(seed, 'rust', ARENA).script(CALLS)
-    lines = [x for x, answer in zip(maker.lines, maker.answers) if answer != 'bad']
-    return '# the Rust: random, seed %d' % seed, lines, of_rust(lines)
+def damaged_part(seed):
+    lines = drawn(seed, 'all', 0, 1)
+    return '# document 02: random, eager and damaged, seed %d' % seed, lines, of_document(lines)
+
+
+def random_part(seed, eager=0):
+    lines = drawn(seed, 'rust', 0, eager)
+    return '# the Rust: random%s, seed %d' % (' and eager' if eager else '', seed), lines, of_rust(lines)
 
 
 def as_export(line, answer):
@@ -115,19 +127,22 @@ def through_part(name, lines):
 
 def through_parts():
     named = [through_part(name, (SCRIPTS / (name + '.script')).read_text().split('\n')) for name in THROUGH]
-    drawn = through_part('random, seed 51', random_part(51)[1])
+    rust = through_part('random, seed 51', random_part(51)[1])
+    eager = through_part('random and eager, seed 24', random_part(24, 1)[1])
     rows = through_part('random rows, seed 5', rows_part(5)[1])
     off = ['x 31', 'setup 16384 12 4 8 8 0 1 0 0', 'x 0', 'setup 16384 12 4 8 8 0 1 0 0', 'x 64', 'setup 16384 12 4 8 8 0 1 0 0', 'x 32',
            'setup 16384 12 4 8 8 0 1 0 0', 'b 1', 'a 1 8 8 0 ' + NO_OFFER, 'a 1 8 8 0 1', 'x 40', 'a 1 8 8 0 -', 'x -', 'a 1 8 8 0 -']
     given = ['ok', '1 ' + 'a5' * 31, 'ok', '1 -', 'ok', '1 ' + 'a5' * 64, 'ok', '0 ' + '00' * 32, '0 ' + '00' * 32, '9 ' + 'a5' * 32,
              as_export('a', 'ok 24568 8 1 0'), 'ok', '1 ' + 'a5' * 40, 'ok', 'ok 24560 8 0 0']
-    return [('# through the exports', ['x 32'], ['ok'])] + named + [drawn, rows, ('# document 02: answer slices', off, given)]
+    return [('# through the exports', ['x 32'], ['ok'])] + named + [rust, eager, rows, ('# document 02: answer slices', off, given)]
 
 
 def main():
     paths = sorted(SCRIPTS.glob('*.script'), key=lambda p: (p.stem == LAST, p.stem))
     hand = [part for part in map(hand_made, paths) if part]
-    parts = hand[:-1] + [random_part(seed) for seed in SEEDS] + [rows_part(seed) for seed in ROW_SEEDS] + through_parts() + hand[-1:]
+    drawn_parts = [random_part(seed) for seed in SEEDS] + [random_part(seed, 1) for seed in EAGER_SEEDS]
+    drawn_parts += [damaged_part(seed) for seed in DAMAGED_SEEDS] + [rows_part(seed) for seed in ROW_SEEDS]
+    parts = hand[:-1] + drawn_parts + through_parts() + hand[-1:]
     given, answers = [HEAD.rstrip('\n')], []
     for heading, lines, out in parts:
         given += [heading] + [x for x in lines if x and not x.startswith('#')]

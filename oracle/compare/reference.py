@@ -47,7 +47,7 @@ class Parameters:
     """The VM constants and the sizes of the heap."""
 
     def __init__(self, base, log_block_bytes, blocks, least, most,
-                 use_offset, unified, lower_bound):
+                 use_offset, unified, lower_bound, eager=False):
         self.base = base
         self.block_bytes = 1 << log_block_bytes
         self.blocks = blocks
@@ -56,6 +56,7 @@ class Parameters:
         self.use_offset = use_offset
         self.unified = unified
         self.lower_bound = lower_bound  # L
+        self.eager = eager              # R-8 of document 02
         self.end = base + blocks * self.block_bytes
         self.block_words = self.block_bytes // WORD
 
@@ -605,7 +606,7 @@ class Space:
             for kind in (AVAILABLE, CONSUMED):
                 l = list_number(h, kind, bin)
                 self.release_blocks(l)
-                self.append(list_number(h, UNSWEPT, bin), l)
+                self.leave_unswept(list_number(h, UNSWEPT, bin), l)
         self.abandon_blocks(h, IN_GC)
         return self.end_release(h)
 
@@ -620,9 +621,14 @@ class Space:
                 for kind in (AVAILABLE, UNSWEPT, CONSUMED))
             for l in (available, consumed, unswept):
                 self.release_blocks(l)
-            self.append(unswept, available)
-            self.append(unswept, consumed)
+            self.leave_unswept(unswept, available)
+            self.leave_unswept(unswept, consumed)
         return self.end_release(0)
+
+    def leave_unswept(self, l, other):
+        """R-8: eager "releases append nothing to unswept lists"."""
+        if not self.p.eager:
+            self.append(l, other)
 
     def end_release(self, part):
         """The first enters Releasing; the last merges in-gc and ends it."""
@@ -630,10 +636,31 @@ class Space:
         self.released |= 1 << part
         merged = 0
         if self.released == self.bound | 1:
+            if self.p.eager:
+                self.sweep_all()
+                self.recycle_blocks(ABANDONED)
+                self.recycle_blocks(IN_GC)
             merged = self.abandon_blocks(IN_GC, ABANDONED)
             self.released = 0
             self.phase = RUNNING
-        return self.count('release'), merged
+        return self.count('release'), merged, self.count('sweep')
+
+    # R-8 of document 02: eager sweeping, in the last release before the merge
+
+    def sweep_all(self):
+        """All occupied blocks, in ascending order."""
+        for b in range(self.p.blocks):
+            if self.state[b] != UNALLOCATED:
+                self.sweep(b)
+
+    def recycle_blocks(self, owner):
+        """Consumed blocks with a free cell go to the head of available."""
+        for bin in range(BINS):
+            consumed = list_number(owner, CONSUMED, bin)
+            for b in self.walk(consumed):
+                if self.has_free_cells(b):
+                    self.remove(consumed, b)
+                    self.push(list_number(owner, AVAILABLE, bin), b)
 
     def pages_used(self, set):
         """Bins 1 to 48 of one set; walks tables that need not be sound, and
@@ -666,6 +693,8 @@ class Space:
         return (all(map(self.is_sound_block, range(self.p.blocks)))
                 and self.are_sound_lists() and self.is_sound_phase()
                 and self.are_due_lists_empty()
+                and (not self.p.eager
+                     or all(map(self.is_left_swept, range(self.p.blocks))))
                 and all(map(self.is_sound_chain, range(self.p.blocks))))
 
     def is_sound_block(self, b):
@@ -684,6 +713,22 @@ class Space:
                 and (self.free[b] == 0 or self.is_whole_cell(b, self.free[b]))
                 and self.is_holder(self.tls[b])
                 and (not self.is_holder(owner) or self.tls[b] == owner))
+
+    def is_left_swept(self, b):
+        """R-8, with the choice on: "a block on any unswept list and, in
+        Releasing, an Unmarked block in in-gc or, once the shared part is
+        done, on abandoned" is BadTables."""
+        return self.state[b] == UNALLOCATED or not (
+            self.is_on_unswept(b) or self.is_released_late(b))
+
+    def is_on_unswept(self, b):
+        return kind_of(self.list[b]) == UNSWEPT
+
+    def is_released_late(self, b):
+        owner = owner_of(self.list[b])
+        return (self.phase == RELEASING and self.state[b] == UNMARKED
+                and (owner == IN_GC
+                     or owner == ABANDONED and self.released & 1 == 1))
 
     def is_sound_chain(self, b):
         """R-7: "each word equals its chain's length, with the chain in whole
@@ -842,13 +887,15 @@ class Driver:
         return action(*map(number, rest))
 
     def do_setup(self, words):
-        bad_unless(len(words) == 9)
+        bad_unless(len(words) in (9, 10))
         base, log, blocks, least, most = map(number, words[:5])
         use_offset, unified = map(number, words[5:7])
         lower_bound, seed = signed(words[7]), number(words[8])
-        bad_unless(log <= 63 and use_offset <= 1 and unified <= 1)
+        eager = number(words[9]) if len(words) == 10 else 0
+        bad_unless(log <= 63 and use_offset <= 1 and unified <= 1
+                   and eager <= 1)
         p = Parameters(base, log, blocks, least, most, use_offset == 1,
-                       unified == 1, lower_bound)
+                       unified == 1, lower_bound, eager == 1)
         self.space = None
         refuse_unless(p.fit(), BAD_SETUP)
         test_classes(self.classes, p)
@@ -895,10 +942,10 @@ class Driver:
         return 'ok %d' % self.space.mark(place, b)
 
     def do_release(self, h):
-        return 'ok %d %d' % self.space.release(h)
+        return 'ok %d %d %d' % self.space.release(h)
 
     def do_shared_release(self):
-        return 'ok %d %d' % self.space.shared_release()
+        return 'ok %d %d %d' % self.space.shared_release()
 
     def do_pages_used(self, set):
         bad_unless(set < SETS)

@@ -1,11 +1,13 @@
 #!/usr/bin/env python3
 """Shows that the comparer finds what document 01 calls wrong.
 
-Each mutant is the reference with one rule bent; run as a driver beside the
-true reference, it must be found and shrunk.  `selftest.py --mutant NAME` is
-that driver.  Also compares the bins with the octave rule for every size.
+Each mutant is the reference with one rule bent; run beside the true
+reference, it must be found and shrunk.  `selftest.py --mutant NAME` is that
+mutant as a driver.  Also compares the bins with the octave rule for every
+size.
 """
 import argparse
+import signal
 import subprocess
 import sys
 from pathlib import Path
@@ -19,6 +21,7 @@ SEEDS = 40          # scripts tried for each mutant
 CALLS = 500
 ARENA = 1 << 17     # small heaps, for speed
 MOST_LINES = 40     # a shrunk script is no longer
+SECONDS = 60        # for one script in a mutant, which may find no end
 
 
 # ---- Mutants: the first eight are 01's "Wrong though tempting"
@@ -138,7 +141,7 @@ class UnsweptReleased(ref.Space):
         if owner == ref.IN_GC:
             for bin in range(1, ref.BINS):
                 self.release_blocks(ref.list_number(h, ref.UNSWEPT, bin))
-        super().abandon_blocks(h, owner)
+        return super().abandon_blocks(h, owner)
 
 
 class KeptHolder(ref.Space):
@@ -225,8 +228,9 @@ class LeavesInReleasing(ref.Space):
         if self.phase != ref.RELEASING:
             return super().destroy(h)
         ref.refuse_unless(self.is_bound(h), ref.BAD_HOLDER)
-        self.abandon_blocks(h, ref.ABANDONED)
+        left = self.abandon_blocks(h, ref.ABANDONED)
         self.bound &= ~(1 << h)
+        return left
 
 
 class BindingKept(ref.Space):
@@ -234,17 +238,19 @@ class BindingKept(ref.Space):
 
     def destroy(self, h):
         bound = self.bound
-        super().destroy(h)
+        left = super().destroy(h)
         if self.phase == ref.MARKING:
             self.bound = bound
+        return left
 
 
 class ListsLeftBehind(ref.Space):
     """A holder that leaves in Marking leaves its blocks on its own lists."""
 
     def abandon_blocks(self, h, owner):
-        if not (self.phase == ref.MARKING and owner == ref.ABANDONED):
-            super().abandon_blocks(h, owner)
+        if self.phase == ref.MARKING and owner == ref.ABANDONED:
+            return 0
+        return super().abandon_blocks(h, owner)
 
 
 class SweptNotCounted(ref.Space):
@@ -269,8 +275,8 @@ class MergedEarly(ref.Space):
     def end_release(self, part):
         waiting = sum(s != ref.UNALLOCATED and ref.owner_of(l) == ref.IN_GC
                       for s, l in zip(self.state, self.list))
-        released, merged = super().end_release(part)
-        return released, merged or waiting
+        released, merged, swept = super().end_release(part)
+        return released, merged or waiting, swept
 
 
 class OneForEachList(ref.Space):
@@ -485,6 +491,229 @@ class QuestionWithoutTables(ref.Space):
                    if self.list[b] % ref.BINS == (bin + 1) % ref.BINS)
 
 
+# ---- Mutants of R-8 of document 02: eager sweeping. Ascending order has none:
+# a sweep reads marks and writes its own block, so no answer shows the order.
+# Nor has in-gc recycled before abandoned: their lists are apart.
+
+class AppendedUnswept(ref.Space):
+    """Eager releases append to unswept lists."""
+
+    def leave_unswept(self, l, other):
+        self.append(l, other)
+
+
+class NotSwept(ref.Space):
+    """The last release sweeps nothing."""
+
+    def sweep_all(self):
+        pass
+
+
+class SweptByKind(ref.Space):
+    """Sweeps consumed blocks alone."""
+
+    def sweep_all(self):
+        for b in range(self.p.blocks):
+            if (self.state[b] != ref.UNALLOCATED
+                    and ref.kind_of(self.list[b]) == ref.CONSUMED):
+                self.sweep(b)
+
+
+class SweptByOwner(ref.Space):
+    """Sweeps what stands in in-gc, and not on abandoned."""
+
+    def sweep_all(self):
+        for b in range(self.p.blocks):
+            if (self.state[b] != ref.UNALLOCATED
+                    and ref.owner_of(self.list[b]) == ref.IN_GC):
+                self.sweep(b)
+
+
+class SweptFirst(ref.Space):
+    """The last release sweeps before it releases its own blocks."""
+
+    def release(self, h):
+        self.part = h
+        return super().release(h)
+
+    def shared_release(self):
+        self.part = 0
+        return super().shared_release()
+
+    def release_blocks(self, l):
+        if (self.p.eager and self.count('sweep') == 0
+                and self.released | 1 << self.part == self.bound | 1):
+            super().sweep_all()
+        super().release_blocks(l)
+
+    def sweep_all(self):
+        pass
+
+
+class SweptEachTime(ref.Space):
+    """Every release sweeps what stands in in-gc."""
+
+    def end_release(self, part):
+        if self.p.eager and self.released | 1 << part != self.bound | 1:
+            for b in range(self.p.blocks):
+                if (self.state[b] != ref.UNALLOCATED
+                        and ref.owner_of(self.list[b]) == ref.IN_GC):
+                    self.sweep(b)
+        return super().end_release(part)
+
+
+class ReleasedAsSwept(ref.Space):
+    """Answers the released count as the swept one."""
+
+    def end_release(self, part):
+        released, merged, swept = super().end_release(part)
+        return released, merged, released if swept else 0
+
+
+class MergedAsSwept(ref.Space):
+    """Answers the merged count as the swept one."""
+
+    def end_release(self, part):
+        released, merged, swept = super().end_release(part)
+        return released, merged, merged if swept else 0
+
+
+def without_recycling(owner):
+    class Left(ref.Space):
+        def recycle_blocks(self, of):
+            if of != owner:
+                super().recycle_blocks(of)
+    return Left
+
+
+class RecycledAll(ref.Space):
+    """Recycles consumed blocks without a free cell too."""
+
+    def recycle_blocks(self, owner):
+        for bin in range(ref.BINS):
+            consumed = ref.list_number(owner, ref.CONSUMED, bin)
+            for b in self.walk(consumed):
+                self.remove(consumed, b)
+                self.push(ref.list_number(owner, ref.AVAILABLE, bin), b)
+
+
+class RecycledUntilFull(ref.Space):
+    """Ends the walk at the first block without a free cell."""
+
+    def recycle_blocks(self, owner):
+        for bin in range(ref.BINS):
+            consumed = ref.list_number(owner, ref.CONSUMED, bin)
+            for b in self.walk(consumed):
+                if not self.has_free_cells(b):
+                    break
+                self.remove(consumed, b)
+                self.push(ref.list_number(owner, ref.AVAILABLE, bin), b)
+
+
+class RecycleNextAfter(ref.Space):
+    """Reads next after the block is pushed, and so goes on in available."""
+
+    def recycle_blocks(self, owner):
+        for bin in range(ref.BINS):
+            consumed = ref.list_number(owner, ref.CONSUMED, bin)
+            link = self.first[consumed]
+            while link != 0 and self.list[self.block_at(link)] == consumed:
+                b = self.block_at(link)
+                if self.has_free_cells(b):
+                    self.remove(consumed, b)
+                    self.push(ref.list_number(owner, ref.AVAILABLE, bin), b)
+                link = self.next[b]
+
+
+class RecycledBehind(ref.Space):
+    """Puts recycled blocks behind available, and not at its head."""
+
+    def recycle_blocks(self, owner):
+        for bin in range(ref.BINS):
+            consumed = ref.list_number(owner, ref.CONSUMED, bin)
+            available = ref.list_number(owner, ref.AVAILABLE, bin)
+            for b in self.walk(consumed):
+                if self.has_free_cells(b):
+                    self.remove(consumed, b)
+                    self.push(consumed, b)      # alone, as its own list
+                    rest = self.next[b]
+                    last = self.last[consumed]
+                    self.next[b], self.last[consumed] = 0, self.start(b)
+                    self.append(available, consumed)
+                    if rest:
+                        self.first[consumed], self.last[consumed] = rest, last
+                        self.prev[self.block_at(rest)] = 0
+
+
+class RecycledAfterMerge(ref.Space):
+    """Merges first, and then recycles."""
+
+    def recycle_blocks(self, owner):
+        pass
+
+    def end_release(self, part):
+        answer = super().end_release(part)
+        if self.p.eager and self.phase == ref.RUNNING:
+            super().recycle_blocks(ref.ABANDONED)
+        return answer
+
+
+class UnsweptSound(ref.Space):
+    """Unswept lists may have blocks."""
+
+    def is_on_unswept(self, b):
+        return False
+
+
+class LocalUnsweptSound(ref.Space):
+    """Holders' unswept lists may have blocks."""
+
+    def is_on_unswept(self, b):
+        return (super().is_on_unswept(b)
+                and not self.is_holder(ref.owner_of(self.list[b])))
+
+
+class LateInGcSound(ref.Space):
+    """An Unmarked block may stand in in-gc."""
+
+    def is_released_late(self, b):
+        return (super().is_released_late(b)
+                and ref.owner_of(self.list[b]) != ref.IN_GC)
+
+
+class LateAbandonedSound(ref.Space):
+    """An Unmarked block may stand on abandoned."""
+
+    def is_released_late(self, b):
+        return (super().is_released_late(b)
+                and ref.owner_of(self.list[b]) != ref.ABANDONED)
+
+
+class SharedPartNotAsked(ref.Space):
+    """None may stand on abandoned, though the shared part is due."""
+
+    def is_released_late(self, b):
+        return (self.phase == ref.RELEASING and self.state[b] == ref.UNMARKED
+                and ref.owner_of(self.list[b]) in (ref.ABANDONED, ref.IN_GC))
+
+
+class LateInEveryPhase(ref.Space):
+    """None may stand on abandoned in Running and Marking either."""
+
+    def is_released_late(self, b):
+        return super().is_released_late(b) or (
+            self.phase != ref.RELEASING and self.state[b] == ref.UNMARKED
+            and ref.owner_of(self.list[b]) == ref.ABANDONED)
+
+
+class TestedWithoutChoice(ref.Space):
+    """Tests R-8's clauses with the choice off too."""
+
+    def is_sound(self):
+        return super().is_sound() and all(
+            map(self.is_left_swept, range(self.p.blocks)))
+
+
 # ---- Mutants of R-5 of document 02: rows
 
 def with_classes(bent):
@@ -635,7 +864,7 @@ class PagesTestRows(ref.Space):
 
 
 # Name: (mode that must find it, mutant); `rows` is `all` with rows in every
-# section.
+# section; `eager` is `rust` and `eager-all` is `all`, with every section eager.
 MUTANTS = {
     'size-before-raise': ('all', SizeBeforeRaise),
     'zero-before-link': ('rust', ZeroBeforeLink),
@@ -683,6 +912,28 @@ MUTANTS = {
     'bin-first': ('all', BinFirst),
     'bin-zero-answered': ('all', BinZeroAnswered),
     'question-without-tables': ('all', QuestionWithoutTables),
+    'appended-unswept': ('eager', AppendedUnswept),
+    'not-swept': ('eager', NotSwept),
+    'swept-by-kind': ('eager', SweptByKind),
+    'swept-by-owner': ('eager', SweptByOwner),
+    'swept-first': ('eager', SweptFirst),
+    'swept-each-time': ('eager', SweptEachTime),
+    'released-as-swept': ('eager', ReleasedAsSwept),
+    'merged-as-swept': ('eager', MergedAsSwept),
+    'abandoned-not-recycled': ('eager', without_recycling(ref.ABANDONED)),
+    'in-gc-not-recycled': ('eager', without_recycling(ref.IN_GC)),
+    'recycled-all': ('eager', RecycledAll),
+    'recycled-until-full': ('eager', RecycledUntilFull),
+    'recycle-next-after': ('eager', RecycleNextAfter),
+    'recycled-behind': ('eager', RecycledBehind),
+    'recycled-after-merge': ('eager', RecycledAfterMerge),
+    'unswept-sound': ('eager-all', UnsweptSound),
+    'local-unswept-sound': ('eager-all', LocalUnsweptSound),
+    'late-in-gc-sound': ('eager-all', LateInGcSound),
+    'late-abandoned-sound': ('eager-all', LateAbandonedSound),
+    'shared-part-not-asked': ('eager', SharedPartNotAsked),
+    'late-in-every-phase': ('eager', LateInEveryPhase),
+    'tested-without-choice': ('rust', TestedWithoutChoice),
     'greatest-count': ('rows', with_classes(GreatestCount)),
     'row-before-count': ('rows', with_classes(RowBeforeCount)),
     'covered-twice': ('rows', with_classes(CoveredTwice)),
@@ -723,16 +974,35 @@ def crash(space, seed):
     raise SystemExit(3)
 
 
+def no_end(*_):
+    raise TimeoutError
+
+
+def mutant_driver(mutant):
+    """The mutant in this process; an error of its own is a difference."""
+    def run(lines):
+        signal.signal(signal.SIGALRM, no_end)
+        signal.alarm(SECONDS)
+        try:
+            return compare.Run(compare.run_reference(lines, mutant))
+        except Exception as error:
+            return compare.Run([None] * len(lines), '', repr(error))
+        finally:
+            signal.alarm(0)
+    return run
+
+
 def find(name, mode):
     """The shrunk script that shows the mutant, or None."""
-    command = '%s %s --mutant %s' % (sys.executable, HERE, name)
-    drivers = ['reference', command]
+    driver = mutant_driver(MUTANTS[name][1])
+    drivers = ['reference', driver]
     rows = 1 if mode == 'rows' else None
-    mode = 'rust' if mode == 'rust' else 'all'
+    eager = 1 if mode.startswith('eager') else None
+    mode = 'rust' if mode in ('rust', 'eager') else 'all'
     for seed in range(1, SEEDS + 1):
-        maker = generate.Maker(seed, mode, ARENA, rows=rows).script(CALLS)
-        runs = [compare.Run(maker.answers),
-                compare.run_driver(command, maker.lines)]
+        maker = generate.Maker(seed, mode, ARENA, rows=rows, eager=eager)
+        maker.script(CALLS)
+        runs = [compare.Run(maker.answers), driver(maker.lines)]
         at = compare.first_difference(runs, maker.lines, mode)
         if at is not None:
             shrinker = compare.Shrinker(drivers, mode)
@@ -750,6 +1020,10 @@ def check_mutants(names):
             missed.append(name)
         print('%s: %s' % (name, 'NOT FOUND' if short is None else
                           'found, shrunk to %d lines' % len(short)))
+        if short is not None:
+            trouble = mutant_driver(MUTANTS[name][1])(short).trouble
+            if trouble:
+                print('  by its own trouble: ' + trouble)
         sys.stdout.flush()
     return missed
 

@@ -3,9 +3,11 @@
 borders of cells, blocks and heap.
 
 Each sweep loads its tables and marks as they are: one or two blocks of a
-holder wait on its unswept list, and an alloc sweeps them. A dump after it
-shows every table word, mark byte and the hash of the heap; the heap's own
-bytes are asked for now and then.
+holder wait on its unswept list, and an alloc sweeps them. In every third
+script the sweeps are eager (R-8): blocks stand on an abandoned list, and a
+shared release, the first and last, sweeps them. A dump after it shows every
+table word, mark byte and the hash of the heap; the heap's own bytes are asked
+for now and then.
 """
 import random
 
@@ -23,6 +25,7 @@ class Sweeps:
     def __init__(self, seed):
         self.rng = random.Random(seed)
         self.seed = seed
+        self.eager = seed % 3 == 0
         self.lines = []
 
     def setup(self):
@@ -39,9 +42,11 @@ class Sweeps:
         least, most, offsets, unified = rng.choice(kinds)
         self.put('setup %d %d %d %d %d %d %d %d %d' % (
             self.base, self.log, self.blocks, least, most, offsets, unified,
-            self.lower, rng.choice([0, 1 + rng.randrange(1 << 32)])))
+            self.lower, rng.choice([0, 1 + rng.randrange(1 << 32)]))
+            + (' 1' if self.eager else ''))
         self.least = least
-        self.put('b 1')
+        if not self.eager:
+            self.put('b 1')
         self.used = set()
 
     def put(self, line):
@@ -95,7 +100,9 @@ class Sweeps:
         for old in sorted(self.used):
             self.put('F %d 0 0' % old)
         starts = [self.base + b * self.size for b in swept]
-        unswept = list_number(1, number)
+        holding = (list_number(rng.choice([24, 26]), number) if self.eager
+                   else list_number(1, number))
+        states = [254, 254, 254, 255] if self.eager else [254, 255]
         for b in range(self.blocks):
             if b not in swept:
                 self.put('T %d 0 0 0 0 0 0 0 0' % b)
@@ -105,16 +112,21 @@ class Sweeps:
             before = starts[at - 1] if at else 0
             head, count = self.chain(starts[at], cell)
             self.put('T %d %d %d %d %d %d %d 1 %d' % (
-                b, rng.choice([254, 255]), after, before, head, cell, unswept,
+                b, rng.choice(states), after, before, head, cell, holding,
                 count))
-        self.put('F %d %d %d' % (unswept, starts[0], starts[-1]))
-        self.used = {list_number(s, number) for s in range(3)}
+        self.put('F %d %d %d' % (holding, starts[0], starts[-1]))
+        self.used = {list_number(24 * self.eager + s, number)
+                     for s in range(3)}
         marked = self.marks(cell)
         bits = bytearray(self.size * self.blocks // 64)
         for g in marked:
             bits[g // 8] |= 1 << g % 8
         self.put('K ' + bits.hex())
-        self.put('a 1 %d %d 0 -' % (cell, self.least))
+        if self.eager:
+            self.put('G 1 0 0')
+            self.put('s')
+        else:
+            self.put('a 1 %d %d 0 -' % (cell, self.least))
         self.put('D')
         if rng.random() < 0.02:
             self.put('H')

@@ -10,7 +10,7 @@ came, and so differs. An alloc that offers block 2^64 - 1 is made directly: thro
 import subprocess
 import sys
 
-VALUES = {'setup': 0, 'b': 0, 'd': 1, 'p': 0, 'a': 4, 'm': 1, 'r': 2, 's': 2}
+VALUES = {'setup': 0, 'b': 0, 'd': 1, 'p': 0, 'a': 4, 'm': 1, 'r': 3, 's': 3}
 UNTOUCHED = 'a5' * 32
 NO_OFFER = str(2 ** 64 - 1)
 

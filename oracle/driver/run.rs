@@ -92,12 +92,17 @@ impl Run {
         self.space = None;
         lent::lend(params, self.options.own_containing);
         lent::heap(|heap| lent::fill_from_seed(heap, seed));
-        let machine = match params.log_block_bytes {
-            12 => ms12::machine::machine(&params),
-            13 => ms13::machine::machine(&params),
-            14 => ms14::machine::machine(&params),
-            15 => ms15::machine::machine(&params),
-            _ => ms16::machine::machine(&params),
+        let machine = match (params.log_block_bytes, params.eager) {
+            (12, false) => ms12::machine::machine(&params),
+            (13, false) => ms13::machine::machine(&params),
+            (14, false) => ms14::machine::machine(&params),
+            (15, false) => ms15::machine::machine(&params),
+            (_, false) => ms16::machine::machine(&params),
+            (12, true) => eager12::machine::machine(&params),
+            (13, true) => eager13::machine::machine(&params),
+            (14, true) => eager14::machine::machine(&params),
+            (15, true) => eager15::machine::machine(&params),
+            (_, true) => eager16::machine::machine(&params),
         };
         // Leaves don't depend on the block in document 01; in the Rust its size bounds the bins.
         let leaves = ms16::machine::leaves(&params);
@@ -235,7 +240,7 @@ impl Space {
     }
 
     /// A release of a holder or of the shared part. The first enters Releasing; the merge, which
-    /// the Rust makes in the last, ends it. The answer: blocks released, blocks merged.
+    /// the Rust makes in the last, ends it. The answer: blocks released, merged, swept.
     fn release(&mut self, bit: u64, call: impl FnOnce(&mut dyn Machine)) -> Answer {
         let before = self.abandoned();
         if self.phase == MARKING {
@@ -250,7 +255,8 @@ impl Space {
             self.released = 0;
             try_rust(|| self.machine.end_of_gc())?;
         }
-        ok(format_args!("{} {}", lent::call().released, self.went_over(&before)))
+        let call = lent::call();
+        ok(format_args!("{} {} {}", call.released, self.went_over(&before), call.swept))
     }
 
     /// Counts the chains, if a call was made since. Where one does not come to 0 the word stays.

@@ -113,8 +113,13 @@ fn bytes(hex: &str) -> Option<Vec<u8>> {
 }
 
 fn setup(words: &[&str]) -> Option<Line> {
-    let [base, log, blocks, min, max, use_offset, unified, lower, seed] = words else {
+    let [base, log, blocks, min, max, use_offset, unified, lower, seed, eager @ ..] = words else {
         return None;
+    };
+    let eager = match eager {
+        [] => false,
+        [word] => flag(word)?,
+        _ => return None,
     };
     let (base, log, blocks) = (number(base)?, number(log)?, number(blocks)?);
     let (min, max) = (number(min)?, number(max)?);
@@ -140,6 +145,7 @@ fn setup(words: &[&str]) -> Option<Line> {
         use_offset,
         unified,
         lower_bound: lower as isize,
+        eager,
     };
     Some(Line::Setup(params, seed))
 }

@@ -137,11 +137,15 @@ fn release_said(x: ReleaseAnswer) -> Said
 {
     match x {
         ReleaseAnswer::Refused(refusal) => refusal_said(refusal),
-        ReleaseAnswer::Released { blocks, merged } => Said {
+        ReleaseAnswer::Released {
+            blocks,
+            merged,
+            swept,
+        } => Said {
             number: 0,
             first: blocks,
             second: merged,
-            third: 0,
+            third: swept,
             fourth: 0,
         },
     }

@@ -150,9 +150,9 @@ pub row-read : (r : List ℕ) (i : ℕ) {x y z : ℕ} → x ≡ loadBytes 8 r i 
 row-read r i e f g = λ k. record { from = e k; to = f k; cell = g k }
 
 pub params-read : (g : Given) (r : List ℕ) {t : List Row} → t ≡ rowsOf r
-    → _≡_ {A = Params} (record { base = g .base; bytes = g .bytes; blocks = g .blocks; min = g .min; max = g .max; offsets = eqb (g .offsets) 1; unified = eqb (g .unified) 1; lower = g .lower; rows = t; count = length r / rowBytes }) (paramsOf g r)
+    → _≡_ {A = Params} (record { base = g .base; bytes = g .bytes; blocks = g .blocks; min = g .min; max = g .max; offsets = eqb (g .offsets) 1; unified = eqb (g .unified) 1; lower = g .lower; eager = eqb (g .eager) 1; rows = t; count = length r / rowBytes }) (paramsOf g r)
 params-read g r e =
-    λ k. record { base = g .base; bytes = g .bytes; blocks = g .blocks; min = g .min; max = g .max; offsets = eqb (g .offsets) 1; unified = eqb (g .unified) 1; lower = g .lower; rows = e k; count = length r / rowBytes }
+    λ k. record { base = g .base; bytes = g .bytes; blocks = g .blocks; min = g .min; max = g .max; offsets = eqb (g .offsets) 1; unified = eqb (g .unified) 1; lower = g .lower; eager = eqb (g .eager) 1; rows = e k; count = length r / rowBytes }
 
 tabulated-length : {A : Type 0} (f : ℕ → A) (n i : ℕ) → length (tabulated f n i) ≡ n
 unfolding tabulated

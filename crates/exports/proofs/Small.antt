@@ -19,10 +19,10 @@ use Rattle.model.specs.Classes.{classesFit}
 use Rattle.model.specs.BlockList.{blocksOn}
 use Rattle.model.specs.Block.{cellCount, isCell}
 use Rattle.model.specs.Global.{isHolder}
-use Rattle.model.specs.Sound.{stateOf, blockClear, linkOk, phaseKnown, flagsKnown, sound, chained, soundOn}
+use Rattle.model.specs.Sound.{stateOf, blockClear, linkOk, phaseKnown, flagsKnown, sound, eagerOk, chained, soundOn}
 use Rattle.model.specs.Calls.{Call, plan, finish, step, Result, tablesIn, call}
 use Rattle.laws.proofs.Base.{if-cases}
-use Rattle.laws.proofs.Below.{test, and-left, and-right, and-five, or-cases, allBelow-at}
+use Rattle.laws.proofs.Below.{test, and-left, and-right, and-three, and-five, or-cases, allBelow-at}
 use Rattle.laws.proofs.Params.{Bounds, good-bounds, start-end}
 use Rattle.laws.proofs.Classes.{cellBytes-most}
 use Rattle.laws.proofs.Cells.{isCell-whole, whole-isCell, whole-to}
@@ -229,10 +229,10 @@ module _ (p : Params) (l : Lent) (c : Call) (h : Small (l .words)) where
 
       go : (soundOn p (tablesIn l) (l .heap) ≡ true) ⊎ (soundOn p (tablesIn l) (l .heap) ≡ false) → Small (flat (step p (tablesIn l) (l .heap) c .tables .words))
       go (inl s) =
+          let q = and-three (sound p (tablesIn l)) (eagerOk p (tablesIn l)) (chained p (tablesIn l) (l .heap)) s in
           sound-small p B rows _ _ (step-sound p B rows (tablesIn l) (l .heap) c
           (kept-sound p B (tablesIn l) (l .heap)
-          (record { sized = sized-view (p .blocks) (l .words) long; states = eqb-true _ _ (r .2); passes = and-left (sound p (tablesIn l)) (chained p (tablesIn l) (l .heap)) s })
-          (eqb-true _ _ (r .4)) (and-right (sound p (tablesIn l)) (chained p (tablesIn l) (l .heap)) s)))
+          (record { sized = sized-view (p .blocks) (l .words) long; states = eqb-true _ _ (r .2); passes = q .0 }) (eqb-true _ _ (r .4)) (q .1) (q .2)))
       go (inr n) = subst Small (sym (ap (λ (t : Tables). flat (t .words)) (unsound-step p (tablesIn l) (l .heap) c n) ∙ flat-view (p .blocks) (l .words) long)) h
 
   pub call-small : Small (call p l c .lent .words)

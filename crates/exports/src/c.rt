@@ -129,7 +129,10 @@ fn flags_ok(g: Given) -> bool
     if 1 < g.offsets {
         return false;
     }
-    g.unified <= 1
+    if 1 < g.unified {
+        return false;
+    }
+    g.eager <= 1
 }
 
 fn rows_ok(rows: &[u8]) -> bool
@@ -173,6 +176,7 @@ fn params(g: Given, rows: &[u8]) -> Params
         offsets: g.offsets == 1,
         unified: g.unified == 1,
         lower: g.lower,
+        eager: g.eager == 1,
         rows: rows_of(rows),
         count: rows.len() / ROW_BYTES,
     }
@@ -246,6 +250,7 @@ pub extern "C" fn native_ms_set_up(
     offsets: usize,
     unified: usize,
     lower: i64,
+    eager: usize,
     words: &mut [u8],
     states: &mut [u8],
     marks: &mut [u8],
@@ -253,7 +258,7 @@ pub extern "C" fn native_ms_set_up(
     rows: &[u8],
     answer: &mut [u8],
 ) -> usize
-    ensures { λ r. ⌜ gives r (lendBytes (now (words .exit)) (now (states .exit)) (now (marks .exit)) (now (heap .exit)) (now (answer .exit))) ≡ called (given base bytes blocks min max offsets unified lower) (now (rows .entry)) (lendBytes (now (words .entry)) (now (states .entry)) (now (marks .entry)) (now (heap .entry)) (now (answer .entry))) setUp ⌝ }
+    ensures { λ r. ⌜ gives r (lendBytes (now (words .exit)) (now (states .exit)) (now (marks .exit)) (now (heap .exit)) (now (answer .exit))) ≡ called (given base bytes blocks min max offsets unified lower eager) (now (rows .entry)) (lendBytes (now (words .entry)) (now (states .entry)) (now (marks .entry)) (now (heap .entry)) (now (answer .entry))) setUp ⌝ }
 {
     let g = Given {
         base,
@@ -264,6 +269,7 @@ pub extern "C" fn native_ms_set_up(
         offsets,
         unified,
         lower,
+        eager,
     };
     export(g, words, states, marks, heap, rows, answer, Entry::SetUp)
 }
@@ -279,6 +285,7 @@ pub extern "C" fn native_ms_bind(
     offsets: usize,
     unified: usize,
     lower: i64,
+    eager: usize,
     words: &mut [u8],
     states: &mut [u8],
     marks: &mut [u8],
@@ -287,7 +294,7 @@ pub extern "C" fn native_ms_bind(
     answer: &mut [u8],
     holder: usize,
 ) -> usize
-    ensures { λ r. ⌜ gives r (lendBytes (now (words .exit)) (now (states .exit)) (now (marks .exit)) (now (heap .exit)) (now (answer .exit))) ≡ called (given base bytes blocks min max offsets unified lower) (now (rows .entry)) (lendBytes (now (words .entry)) (now (states .entry)) (now (marks .entry)) (now (heap .entry)) (now (answer .entry))) (asks (bind holder)) ⌝ }
+    ensures { λ r. ⌜ gives r (lendBytes (now (words .exit)) (now (states .exit)) (now (marks .exit)) (now (heap .exit)) (now (answer .exit))) ≡ called (given base bytes blocks min max offsets unified lower eager) (now (rows .entry)) (lendBytes (now (words .entry)) (now (states .entry)) (now (marks .entry)) (now (heap .entry)) (now (answer .entry))) (asks (bind holder)) ⌝ }
 {
     let g = Given {
         base,
@@ -298,6 +305,7 @@ pub extern "C" fn native_ms_bind(
         offsets,
         unified,
         lower,
+        eager,
     };
     export(
         g,
@@ -322,6 +330,7 @@ pub extern "C" fn native_ms_destroy(
     offsets: usize,
     unified: usize,
     lower: i64,
+    eager: usize,
     words: &mut [u8],
     states: &mut [u8],
     marks: &mut [u8],
@@ -330,7 +339,7 @@ pub extern "C" fn native_ms_destroy(
     answer: &mut [u8],
     holder: usize,
 ) -> usize
-    ensures { λ r. ⌜ gives r (lendBytes (now (words .exit)) (now (states .exit)) (now (marks .exit)) (now (heap .exit)) (now (answer .exit))) ≡ called (given base bytes blocks min max offsets unified lower) (now (rows .entry)) (lendBytes (now (words .entry)) (now (states .entry)) (now (marks .entry)) (now (heap .entry)) (now (answer .entry))) (asks (destroy holder)) ⌝ }
+    ensures { λ r. ⌜ gives r (lendBytes (now (words .exit)) (now (states .exit)) (now (marks .exit)) (now (heap .exit)) (now (answer .exit))) ≡ called (given base bytes blocks min max offsets unified lower eager) (now (rows .entry)) (lendBytes (now (words .entry)) (now (states .entry)) (now (marks .entry)) (now (heap .entry)) (now (answer .entry))) (asks (destroy holder)) ⌝ }
 {
     let g = Given {
         base,
@@ -341,6 +350,7 @@ pub extern "C" fn native_ms_destroy(
         offsets,
         unified,
         lower,
+        eager,
     };
     export(
         g,
@@ -365,6 +375,7 @@ pub extern "C" fn native_ms_alloc(
     offsets: usize,
     unified: usize,
     lower: i64,
+    eager: usize,
     words: &mut [u8],
     states: &mut [u8],
     marks: &mut [u8],
@@ -377,7 +388,7 @@ pub extern "C" fn native_ms_alloc(
     offset: usize,
     offer: usize,
 ) -> usize
-    ensures { λ r. ⌜ gives r (lendBytes (now (words .exit)) (now (states .exit)) (now (marks .exit)) (now (heap .exit)) (now (answer .exit))) ≡ called (given base bytes blocks min max offsets unified lower) (now (rows .entry)) (lendBytes (now (words .entry)) (now (states .entry)) (now (marks .entry)) (now (heap .entry)) (now (answer .entry))) (asks (alloc holder size align offset (offeredBy offer))) ⌝ }
+    ensures { λ r. ⌜ gives r (lendBytes (now (words .exit)) (now (states .exit)) (now (marks .exit)) (now (heap .exit)) (now (answer .exit))) ≡ called (given base bytes blocks min max offsets unified lower eager) (now (rows .entry)) (lendBytes (now (words .entry)) (now (states .entry)) (now (marks .entry)) (now (heap .entry)) (now (answer .entry))) (asks (alloc holder size align offset (offeredBy offer))) ⌝ }
 {
     let g = Given {
         base,
@@ -388,6 +399,7 @@ pub extern "C" fn native_ms_alloc(
         offsets,
         unified,
         lower,
+        eager,
     };
     let taken = offered(offer);
     let ask = Ask::Alloc {
@@ -420,6 +432,7 @@ pub extern "C" fn native_ms_prepare(
     offsets: usize,
     unified: usize,
     lower: i64,
+    eager: usize,
     words: &mut [u8],
     states: &mut [u8],
     marks: &mut [u8],
@@ -427,7 +440,7 @@ pub extern "C" fn native_ms_prepare(
     rows: &[u8],
     answer: &mut [u8],
 ) -> usize
-    ensures { λ r. ⌜ gives r (lendBytes (now (words .exit)) (now (states .exit)) (now (marks .exit)) (now (heap .exit)) (now (answer .exit))) ≡ called (given base bytes blocks min max offsets unified lower) (now (rows .entry)) (lendBytes (now (words .entry)) (now (states .entry)) (now (marks .entry)) (now (heap .entry)) (now (answer .entry))) (asks prepare) ⌝ }
+    ensures { λ r. ⌜ gives r (lendBytes (now (words .exit)) (now (states .exit)) (now (marks .exit)) (now (heap .exit)) (now (answer .exit))) ≡ called (given base bytes blocks min max offsets unified lower eager) (now (rows .entry)) (lendBytes (now (words .entry)) (now (states .entry)) (now (marks .entry)) (now (heap .entry)) (now (answer .entry))) (asks prepare) ⌝ }
 {
     let g = Given {
         base,
@@ -438,6 +451,7 @@ pub extern "C" fn native_ms_prepare(
         offsets,
         unified,
         lower,
+        eager,
     };
     export(
         g,
@@ -462,6 +476,7 @@ pub extern "C" fn native_ms_mark(
     offsets: usize,
     unified: usize,
     lower: i64,
+    eager: usize,
     words: &mut [u8],
     states: &mut [u8],
     marks: &mut [u8],
@@ -471,7 +486,7 @@ pub extern "C" fn native_ms_mark(
     place: usize,
     block: usize,
 ) -> usize
-    ensures { λ r. ⌜ gives r (lendBytes (now (words .exit)) (now (states .exit)) (now (marks .exit)) (now (heap .exit)) (now (answer .exit))) ≡ called (given base bytes blocks min max offsets unified lower) (now (rows .entry)) (lendBytes (now (words .entry)) (now (states .entry)) (now (marks .entry)) (now (heap .entry)) (now (answer .entry))) (asks (mark place block)) ⌝ }
+    ensures { λ r. ⌜ gives r (lendBytes (now (words .exit)) (now (states .exit)) (now (marks .exit)) (now (heap .exit)) (now (answer .exit))) ≡ called (given base bytes blocks min max offsets unified lower eager) (now (rows .entry)) (lendBytes (now (words .entry)) (now (states .entry)) (now (marks .entry)) (now (heap .entry)) (now (answer .entry))) (asks (mark place block)) ⌝ }
 {
     let g = Given {
         base,
@@ -482,6 +497,7 @@ pub extern "C" fn native_ms_mark(
         offsets,
         unified,
         lower,
+        eager,
     };
     export(
         g,
@@ -506,6 +522,7 @@ pub extern "C" fn native_ms_release(
     offsets: usize,
     unified: usize,
     lower: i64,
+    eager: usize,
     words: &mut [u8],
     states: &mut [u8],
     marks: &mut [u8],
@@ -514,7 +531,7 @@ pub extern "C" fn native_ms_release(
     answer: &mut [u8],
     holder: usize,
 ) -> usize
-    ensures { λ r. ⌜ gives r (lendBytes (now (words .exit)) (now (states .exit)) (now (marks .exit)) (now (heap .exit)) (now (answer .exit))) ≡ called (given base bytes blocks min max offsets unified lower) (now (rows .entry)) (lendBytes (now (words .entry)) (now (states .entry)) (now (marks .entry)) (now (heap .entry)) (now (answer .entry))) (asks (release holder)) ⌝ }
+    ensures { λ r. ⌜ gives r (lendBytes (now (words .exit)) (now (states .exit)) (now (marks .exit)) (now (heap .exit)) (now (answer .exit))) ≡ called (given base bytes blocks min max offsets unified lower eager) (now (rows .entry)) (lendBytes (now (words .entry)) (now (states .entry)) (now (marks .entry)) (now (heap .entry)) (now (answer .entry))) (asks (release holder)) ⌝ }
 {
     let g = Given {
         base,
@@ -525,6 +542,7 @@ pub extern "C" fn native_ms_release(
         offsets,
         unified,
         lower,
+        eager,
     };
     export(
         g,
@@ -549,6 +567,7 @@ pub extern "C" fn native_ms_shared_release(
     offsets: usize,
     unified: usize,
     lower: i64,
+    eager: usize,
     words: &mut [u8],
     states: &mut [u8],
     marks: &mut [u8],
@@ -556,7 +575,7 @@ pub extern "C" fn native_ms_shared_release(
     rows: &[u8],
     answer: &mut [u8],
 ) -> usize
-    ensures { λ r. ⌜ gives r (lendBytes (now (words .exit)) (now (states .exit)) (now (marks .exit)) (now (heap .exit)) (now (answer .exit))) ≡ called (given base bytes blocks min max offsets unified lower) (now (rows .entry)) (lendBytes (now (words .entry)) (now (states .entry)) (now (marks .entry)) (now (heap .entry)) (now (answer .entry))) (asks sharedRelease) ⌝ }
+    ensures { λ r. ⌜ gives r (lendBytes (now (words .exit)) (now (states .exit)) (now (marks .exit)) (now (heap .exit)) (now (answer .exit))) ≡ called (given base bytes blocks min max offsets unified lower eager) (now (rows .entry)) (lendBytes (now (words .entry)) (now (states .entry)) (now (marks .entry)) (now (heap .entry)) (now (answer .entry))) (asks sharedRelease) ⌝ }
 {
     let g = Given {
         base,
@@ -567,6 +586,7 @@ pub extern "C" fn native_ms_shared_release(
         offsets,
         unified,
         lower,
+        eager,
     };
     export(
         g,
@@ -591,10 +611,11 @@ pub extern "C" fn native_ms_check_classes(
     offsets: usize,
     unified: usize,
     lower: i64,
+    eager: usize,
     rows: &[u8],
     answer: &mut [u8],
 ) -> usize
-    ensures { λ r. ⌜ checkGives r (now (answer .exit)) ≡ checkCalled (given base bytes blocks min max offsets unified lower) (now (rows .entry)) (now (answer .entry)) ⌝ }
+    ensures { λ r. ⌜ checkGives r (now (answer .exit)) ≡ checkCalled (given base bytes blocks min max offsets unified lower eager) (now (rows .entry)) (now (answer .entry)) ⌝ }
 {
     let g = Given {
         base,
@@ -605,6 +626,7 @@ pub extern "C" fn native_ms_check_classes(
         offsets,
         unified,
         lower,
+        eager,
     };
     check(g, rows, answer)
 }

@@ -26,6 +26,8 @@ const UNIFIED: usize = 1;
 
 const LOWER: i64 = 0;
 
+const EAGER: usize = 0;
+
 const WORDS_LEN: usize = 23888;
 
 const HEAP: usize = 16384;
@@ -62,6 +64,7 @@ fn set_up(
         OFFSETS,
         UNIFIED,
         LOWER,
+        EAGER,
         words,
         states,
         marks,
@@ -88,6 +91,7 @@ fn bind(
         OFFSETS,
         UNIFIED,
         LOWER,
+        EAGER,
         words,
         states,
         marks,
@@ -115,6 +119,7 @@ fn destroy(
         OFFSETS,
         UNIFIED,
         LOWER,
+        EAGER,
         words,
         states,
         marks,
@@ -146,6 +151,7 @@ fn alloc(
         OFFSETS,
         UNIFIED,
         LOWER,
+        EAGER,
         words,
         states,
         marks,
@@ -176,6 +182,7 @@ fn prepare(
         OFFSETS,
         UNIFIED,
         LOWER,
+        EAGER,
         words,
         states,
         marks,
@@ -203,6 +210,7 @@ fn mark(
         OFFSETS,
         UNIFIED,
         LOWER,
+        EAGER,
         words,
         states,
         marks,
@@ -231,6 +239,7 @@ fn release(
         OFFSETS,
         UNIFIED,
         LOWER,
+        EAGER,
         words,
         states,
         marks,
@@ -257,6 +266,7 @@ fn shared_release(
         OFFSETS,
         UNIFIED,
         LOWER,
+        EAGER,
         words,
         states,
         marks,

@@ -96,6 +96,16 @@ module _ (p : Params) (h : List ℕ) (b s : ℕ) (none : isCell p b s 0 ≡ fals
 
 -- ---- and back
 
+-- a chain of whole cells that stands is what a walk with room for it passes
+pub stands-passed : (p : Params) (h : List ℕ) (b s : ℕ) → isCell p b s 0 ≡ false → (k a : ℕ) (l : List ℕ) → chainStands p h a l
+    → ((x : ℕ) → In x l → isCell p b s x ≡ true) → length l ≤ k → chainFrom k p h b s a ≡ l
+unfolding chainStands chainFrom In
+stands-passed p h b s none zero a [] c f le = refl
+stands-passed p h b s none (suc k) a [] c f le = rw (c, none)
+stands-passed p h b s none zero a (x ∷ l) c f le = absurd (omega arith)
+stands-passed p h b s none (suc k) a (x ∷ l) c f le =
+    rw (c .0, f x (inl refl)) (ap (λ (y : List ℕ). x ∷ y) (stands-passed p h b s none k (load p h x) l (c .1) (λ y m. f y (inr m)) (omega arith)))
+
 module _ (p : Params) (h : List ℕ) (b s : ℕ) where
   pub stands-counts : (a : ℕ) (l : List ℕ) → chainStands p h a l → ((x : ℕ) → In x l → isCell p b s x ≡ true) → chainCounts (length l) p h b s a ≡ true
   unfolding chainStands chainCounts In

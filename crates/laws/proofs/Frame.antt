@@ -133,13 +133,19 @@ module _ (p : Params) where
       if-links (eqb (getD (t .first) o 0) 0) a
       (last-links _ _ (first-links _ _ (relabel-keeps (LinksOnly _) l (λ b u. list-links b _) (p .blocks) _ _ (link-links l o t a))))
 
+-- what grows with the rounds is whole at the end
+pub each-grows :
+    {A : Type 0} (P : ℕ → A → Type 0) (n : ℕ) (f : ℕ → A → A) → ((i : ℕ) → i < n → (x : A) → P i x → P (suc i) (f i x))
+    → (x : A) → P 0 x → P n (eachBelow n f x)
+unfolding eachBelow
+each-grows P zero f h x q = q
+each-grows P (suc n) f h x q = h n (omega arith) _ (each-grows P n f (λ i l. h i (omega arith)) x q)
+
 -- what holds at the start and after each round holds at the end
 pub each-keeps :
     {A : Type 0} (P : A → Type 0) (n : ℕ) (f : ℕ → A → A) → ((i : ℕ) → i < n → (x : A) → P x → P (f i x))
     → (x : A) → P x → P (eachBelow n f x)
-unfolding eachBelow
-each-keeps P zero f h x q = q
-each-keeps P (suc n) f h x q = h n (omega arith) _ (each-keeps P n f (λ i l. h i (omega arith)) x q)
+each-keeps P n f h x q = each-grows (λ i y. P y) n f h x q
 
 -- ---- first words: an operation on lists changes those of its lists alone
 

@@ -18,6 +18,7 @@ pub fn params() -> Params
         offsets: false,
         unified: true,
         lower: 0,
+        eager: false,
         rows,
         count: 0,
     }

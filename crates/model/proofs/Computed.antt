@@ -14,15 +14,15 @@ use Rattle.model.specs.BlockList.{push, popHead, pop, removeBetween, rem
 use Rattle.model.specs.Block.{cellCount, isCell, cellsDown, linkAll, initChain, initBlock, simple, keeps, sweepChain, sweptWords, clearBlock, chainFrom, freeChain}
 use Rattle.model.specs.Events.{eventHeap, eventsHeap, isSweep, isRelease, sweeps, releases}
 use Rattle.model.specs.FreeListAllocator.{findFreeBlockWith, recycleLocalBlocks, acquireAbandoned, acquireFresh, findBlock}
-use Rattle.model.specs.Global.{freshWords, freshTables, isHolder, isBound, bindHolder, abandonBin, abandonBlocks, destroyHolder, unmarkedState, prepared, markPlace, releaseFrom, releaseBlocks, appendTo, releaseBin, releaseHolder, sweepLaterBin, sweepLater, hasReleased, allReleased, partReleased}
-use Rattle.model.specs.Sound.{stateOf, stateKnown, blockClear, listNamed, binNamed, setNamed, onListNamed, sizeOk, linkOk, tlsOk, blockSound, linkedFrom, linked, ownerEmpty, unboundEmpty, inGcEmpty, phaseKnown, flagsKnown, releasedFew, releasedSome, releasedEmpty, sound, chainCounts, chainOk, chained}
+use Rattle.model.specs.Global.{freshWords, freshTables, isHolder, isBound, bindHolder, abandonBin, abandonBlocks, destroyHolder, unmarkedState, prepared, markPlace, releaseFrom, releaseBlocks, appendTo, leftUnswept, releaseBin, releaseHolder, sweepLaterBin, sweepLater, hasReleased, allReleased, isLast, sweepBlock, sweepAll, recycleFrom, recycleBin, recycleBlocks, sweptEagerly, eagerly, partReleased}
+use Rattle.model.specs.Sound.{stateOf, stateKnown, blockClear, listNamed, binNamed, setNamed, onListNamed, sizeOk, linkOk, tlsOk, blockSound, linkedFrom, linked, ownerEmpty, unboundEmpty, inGcEmpty, phaseKnown, flagsKnown, releasedFew, releasedSome, releasedEmpty, sound, chainCounts, chainOk, onUnswept, releasedBefore, eagerBlock, eagerOk, chained}
 use Rattle.model.specs.Calls.{refusalNumber, goodRequest, tooBig, goodOffer, goodObject, mayLeave, mayRelease, andThen, phaseTest, bindTests, leaveTests, boundTests, requestTests, markTests, releaseTests, sharedTests, callTests, takePlan, releasePlan, planPassed, ifPassed, planSound, plan, takeCell, finish, step, call, setUp, checkedRows, checkClasses}
 use Rattle.model.specs.Census.{before, pieces, dropBlankEnd, linesOf, isDigit, valueOf, isNumber, isWord, numbersTo, isLine, arg, isAlloc, offerOf, lineOf, censusParams, censusLent, lineResult, runLines, digits, decimal, spaced, section, refusedRow, upTo, occupied, letter, blockRow, awaitsSweep, printedChain, freeRows, freeSection, listing, census}
 use Rattle.model.specs.Cases.{leastClass, classesRight, firstAlloc, row, withRows, offices, officeAlloc, checked, saidWith, cases, rowCases, exampleTrace, exampleListing, same, allRight}
 
 -- who opens `machine` opens all that its line names
 machine : Params
-unfolding same leadingZeros allBelow anyBelow member filter eachBelow flag powerOfTwo lowerOk biased plusLower minusLower heapBytes heapEnd goodParams wordCount fits start blockAt inHeap isStart listOf listWord localSets available unswept consumed loadBytes bytesOf overwrite load store zeroed bitOf setBit markIndex marked setMark cleared view flat setFirst setLast setBound setReleased setNext setPrev setFree setSize setList setTls setCells setPhase withReleased fours classWords classBytes wordsIn highestBit binInOctave miBin rowAt covers wordsAsked binOf cellBytes leastFrom sumBelow blockWords rowsOver isBadCount rowFits isBadRow badCount badRow classesFit checkedRows checkClasses raised shift alignAllocation push popHead pop headD removeBetween remove relabel link append walk blocksOn cellCount isCell cellsDown linkAll initChain initBlock simple keeps sweepChain sweptWords clearBlock chainFrom freeChain eventHeap eventsHeap isSweep isRelease sweeps releases findFreeBlockWith recycleLocalBlocks acquireAbandoned acquireFresh findBlock freshWords freshTables isHolder isBound bindHolder abandonBin abandonBlocks destroyHolder unmarkedState prepared markPlace releaseFrom releaseBlocks appendTo releaseBin releaseHolder sweepLaterBin sweepLater hasReleased allReleased partReleased stateOf stateKnown blockClear listNamed binNamed setNamed onListNamed sizeOk linkOk tlsOk blockSound linkedFrom linked ownerEmpty unboundEmpty inGcEmpty phaseKnown flagsKnown releasedFew releasedSome releasedEmpty sound chainCounts chainOk chained refusalNumber goodRequest tooBig goodOffer goodObject takePlan mayRelease releasePlan andThen phaseTest bindTests boundTests requestTests markTests releaseTests sharedTests callTests planPassed ifPassed planSound plan takeCell finish step call setUp before pieces dropBlankEnd linesOf isDigit valueOf isNumber isWord numbersTo isLine arg isAlloc offerOf lineOf censusParams censusLent lineResult runLines digits decimal spaced section refusedRow upTo occupied letter blockRow awaitsSweep printedChain freeRows freeSection flatten flatMap listing census appended mayLeave leaveTests
+unfolding same leadingZeros allBelow anyBelow member filter eachBelow flag powerOfTwo lowerOk biased plusLower minusLower heapBytes heapEnd goodParams wordCount fits start blockAt inHeap isStart listOf listWord localSets available unswept consumed loadBytes bytesOf overwrite load store zeroed bitOf setBit markIndex marked setMark cleared view flat setFirst setLast setBound setReleased setNext setPrev setFree setSize setList setTls setCells setPhase withReleased fours classWords classBytes wordsIn highestBit binInOctave miBin rowAt covers wordsAsked binOf cellBytes leastFrom sumBelow blockWords rowsOver isBadCount rowFits isBadRow badCount badRow classesFit checkedRows checkClasses raised shift alignAllocation push popHead pop headD removeBetween remove relabel link append walk blocksOn cellCount isCell cellsDown linkAll initChain initBlock simple keeps sweepChain sweptWords clearBlock chainFrom freeChain eventHeap eventsHeap isSweep isRelease sweeps releases findFreeBlockWith recycleLocalBlocks acquireAbandoned acquireFresh findBlock freshWords freshTables isHolder isBound bindHolder abandonBin abandonBlocks destroyHolder unmarkedState prepared markPlace releaseFrom releaseBlocks appendTo leftUnswept releaseBin releaseHolder sweepLaterBin sweepLater hasReleased allReleased partReleased isLast sweepBlock sweepAll recycleFrom recycleBin recycleBlocks sweptEagerly eagerly stateOf stateKnown blockClear listNamed binNamed setNamed onListNamed sizeOk linkOk tlsOk blockSound linkedFrom linked ownerEmpty unboundEmpty inGcEmpty phaseKnown flagsKnown releasedFew releasedSome releasedEmpty sound chainCounts chainOk chained onUnswept releasedBefore eagerBlock eagerOk refusalNumber goodRequest tooBig goodOffer goodObject takePlan mayRelease releasePlan andThen phaseTest bindTests boundTests requestTests markTests releaseTests sharedTests callTests planPassed ifPassed planSound plan takeCell finish step call setUp before pieces dropBlankEnd linesOf isDigit valueOf isNumber isWord numbersTo isLine arg isAlloc offerOf lineOf censusParams censusLent lineResult runLines digits decimal spaced section refusedRow upTo occupied letter blockRow awaitsSweep printedChain freeRows freeSection flatten flatMap listing census appended mayLeave leaveTests
 machine = censusParams
 
 pub cases-hold : allRight cases ≡ true

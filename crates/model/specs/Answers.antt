@@ -42,9 +42,9 @@ markReply = elim [ Mark.Marked new ↦ answered (flag new ∷ []) | Mark.Refused
 unfoldable pub destroyReply : DestroyAnswer → Reply
 destroyReply = elim [ Destroy.Destroyed blocks ↦ answered (blocks ∷ []) | Destroy.Refused refusal ↦ refused refusal ]
 
--- release and shared release: the blocks released, and those merged from in-gc (02, R-6)
+-- release and shared release: the blocks released, those merged from in-gc (02, R-6), and those swept (02, R-8)
 unfoldable pub releaseReply : ReleaseAnswer → Reply
-releaseReply = elim [ Release.Released blocks merged ↦ answered (blocks ∷ merged ∷ []) | Release.Refused refusal ↦ refused refusal ]
+releaseReply = elim [ Release.Released blocks merged swept ↦ answered (blocks ∷ merged ∷ swept ∷ []) | Release.Refused refusal ↦ refused refusal ]
 
 -- pages used
 unfoldable pub pagesReply : PagesAnswer → Reply

@@ -25,7 +25,7 @@ use Rattle.model.specs.BlockList.{pagesUsed, pagesEnd}
 use Rattle.model.specs.Block.{Unallocated}
 use Rattle.model.specs.Events.{Event, taken, eventHeap, eventsHeap, sweeps, releases}
 use Rattle.model.specs.FreeListAllocator.{Search, findBlock}
-use Rattle.model.specs.Global.{Running, Marking, Releasing, freshTables, isHolder, isBound, hasReleased, bindHolder, abandonedBlocks, destroyHolder, prepared, markPlace, Freed, releaseHolder, sweepLater, partReleased, merged}
+use Rattle.model.specs.Global.{Running, Marking, Releasing, freshTables, isHolder, isBound, hasReleased, bindHolder, abandonedBlocks, destroyHolder, prepared, markPlace, Freed, releaseHolder, sweepLater, eagerly, partReleased, merged}
 use Rattle.model.specs.Sound.{stateOf, binNamed, soundOn}
 
 -- ---- refusals and replies
@@ -180,11 +180,14 @@ takePlan p align offset ended =
     let end : End = if eqb (ended .at) 0 then says (refused Exhausted) else takes (blockAt p (ended .at)) align offset (ended .fresh) in
     record { tables = ended .tables; events = ended .events; end = end }
 
--- blocks were released, and so a part is done. The answer: blocks released, blocks merged
+-- blocks were released, and so a part is done. The answer: blocks released, blocks merged, and (02, R-8) "the number swept as a
+-- further number", 0 where nothing was swept
 unfoldable pub releasePlan : Params → ℕ → Tables → Freed → Plan
 releasePlan p part t f =
-    let tables : Tables = tablesOf (partReleased p part (f .words)) (f .states) (t .marks) in
-    record { tables = tables; events = f .events; end = says (answered (releases (f .events) ∷ merged p part (f .words) ∷ [])) }
+    let g : Freed = eagerly p (t .marks) part f in
+    let tables : Tables = tablesOf (partReleased p part (g .words)) (g .states) (t .marks) in
+    let reply : Reply = answered (releases (g .events) ∷ merged p part (g .words) ∷ sweeps (g .events) ∷ []) in
+    record { tables = tables; events = g .events; end = says reply }
 
 unfoldable pub planPassed : Params → Tables → Call → Plan
 planPassed p t (bind holder) = changes (bindHolder holder t) []

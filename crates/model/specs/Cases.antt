@@ -43,7 +43,7 @@ classesRight = allBelow 8192 (λ i. leastClass (suc i))
 -- "with 4,096-byte blocks, MIN 8, MAX 16"
 abbrev pub maxSixteen : Params
 maxSixteen =
-    record { base = 16384; bytes = 4096; blocks = 4; min = 8; max = 16; offsets = false; unified = true; lower = pos 0; rows = noRows; count = 0 }
+    record { base = 16384; bytes = 4096; blocks = 4; min = 8; max = 16; offsets = false; unified = true; lower = pos 0; eager = false; rows = noRows; count = 0 }
 
 -- the number that an alloc of this size and align is answered with, right after set-up and bind: 0 is served, 6 is TooBig
 unfoldable pub firstAlloc : ℕ → ℕ → ℕ
@@ -59,7 +59,7 @@ row from to cell = record { from = from; to = to; cell = cell }
 -- maxSixteen with these rows
 unfoldable pub withRows : List Row → Params
 withRows rows =
-    record { base = 16384; bytes = 4096; blocks = 4; min = 8; max = 16; offsets = false; unified = true; lower = pos 0; rows = rows ++ replicate (maxRows - length rows) noRow; count = length rows }
+    record { base = 16384; bytes = 4096; blocks = 4; min = 8; max = 16; offsets = false; unified = true; lower = pos 0; eager = false; rows = rows ++ replicate (maxRows - length rows) noRow; count = length rows }
 
 -- "mostly 72-byte entries and want a 72-byte cell"
 unfoldable pub offices : Params

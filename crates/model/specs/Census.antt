@@ -111,7 +111,7 @@ lineOf words =
 
 unfoldable pub censusParams : Params
 censusParams =
-    record { base = 16384; bytes = 4096; blocks = 4; min = 8; max = 8; offsets = false; unified = true; lower = pos 0; rows = noRows; count = 0 }
+    record { base = 16384; bytes = 4096; blocks = 4; min = 8; max = 8; offsets = false; unified = true; lower = pos 0; eager = false; rows = noRows; count = 0 }
 
 -- the buffers that are lent, and after set-up
 unfoldable pub censusLent : Lent

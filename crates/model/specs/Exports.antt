@@ -103,9 +103,9 @@ unfoldable pub exported : Params → LentBytes → Inner → Export
 exported p l inner = if lengthsOk l then shown (l .answer) (inner p (decodedLent l)) else gives (refusalNumber BadSetup) l
 
 -- the parameters, from numbers; a flag that is neither 0 nor 1 is "a parameter [..] off" (01)
-abbrev pub given : ℕ → ℕ → ℕ → ℕ → ℕ → ℕ → ℕ → ℤ → Given
-given base bytes blocks min max offsets unified lower =
-    record { base = base; bytes = bytes; blocks = blocks; min = min; max = max; offsets = offsets; unified = unified; lower = lower }
+abbrev pub given : ℕ → ℕ → ℕ → ℕ → ℕ → ℕ → ℕ → ℤ → ℕ → Given
+given base bytes blocks min max offsets unified lower eager =
+    record { base = base; bytes = bytes; blocks = blocks; min = min; max = max; offsets = offsets; unified = unified; lower = lower; eager = eager }
 
 -- 02, R-5: "Set-up takes up to 48 rows: from words, to words, cell words": three such words each, in a slice of their own
 abbrev pub rowBytes : ℕ
@@ -121,10 +121,10 @@ rowsOf rows = tabulated (λ n. rowFrom rows (rowBytes * n)) maxRows 0
 
 abbrev pub paramsOf : Given → List ℕ → Params
 paramsOf g rows =
-    record { base = g .base; bytes = g .bytes; blocks = g .blocks; min = g .min; max = g .max; offsets = eqb (g .offsets) 1; unified = eqb (g .unified) 1; lower = g .lower; rows = rowsOf rows; count = length rows / rowBytes }
+    record { base = g .base; bytes = g .bytes; blocks = g .blocks; min = g .min; max = g .max; offsets = eqb (g .offsets) 1; unified = eqb (g .unified) 1; lower = g .lower; eager = eqb (g .eager) 1; rows = rowsOf rows; count = length rows / rowBytes }
 
 abbrev pub flagsOk : Given → Bool
-flagsOk g = leb (g .offsets) 1 && leb (g .unified) 1
+flagsOk g = leb (g .offsets) 1 && leb (g .unified) 1 && leb (g .eager) 1
 
 -- a part of a row is a slice length that is off; the inner call tests that there are at most 48
 abbrev pub rowsOk : List ℕ → Bool

@@ -11,6 +11,9 @@
 -- | release        | Marking, Releasing | Unmarked blocks released, its unswept lists apart; the rest to in-gc      | Releasing, |
 -- | shared release | Marking, Releasing | abandoned Unmarked blocks released; the rest unswept                      | Releasing, |
 -- |                |                    | the last of these: in-gc merged into abandoned                            | or Running |
+--
+-- With the choice of eager sweeping (02, R-8) nothing becomes unswept: what a release leaves stays available or consumed, and the last
+-- one sweeps every occupied block and files it anew before the merge.
 use Prim.Native.Nat.{ℕ, zero, suc, _+_, _-_, _*_, _/_}
 use mathlib.Core.Bool.{Bool, true, false, not, _&&_, _||_}
 use mathlib.Core.List.{List, [], _∷_, _++_, map}
@@ -21,9 +24,10 @@ use Rattle.model.specs.Base.{if_then_else_, allBelow, sumBelow, eachBelo
 use Rattle.model.specs.Params.{wordCount, blockAt, heapBytes, bins, holders, parts, localSets, abandoned, inGc, available, unswept, consumed}
 use Rattle.model.specs.Memory.{marked, setMark, cleared}
 use Rattle.model.specs.Tables.{Words, view, Tables, tablesOf, withWords, setPhase, setBound, setReleased, withReleased}
-use Rattle.model.specs.BlockList.{remove, append, appended}
-use Rattle.model.specs.Block.{Unallocated, Unmarked, Marked, clearBlock}
+use Rattle.model.specs.BlockList.{push, remove, append, appended}
+use Rattle.model.specs.Block.{Unallocated, Unmarked, Marked, sweptWords, clearBlock}
 use Rattle.model.specs.Events.{Event, released}
+use Rattle.model.specs.FreeListAllocator.{sweepOf}
 
 -- "Phases (added): Running, Marking, Releasing."
 abbrev pub Running : ℕ
@@ -99,7 +103,7 @@ markPlace p place b t =
 
 -- ---- releasing
 
--- words and states after, and the blocks released on the way
+-- words and states after, and what happened to blocks on the way
 pub record Freed : Type 0 where
   pub words : Words
   pub states : List ℕ
@@ -132,13 +136,17 @@ releaseBlocks p list f =
 unfoldable pub appendTo : Params → ℕ → ℕ → Freed → Freed
 appendTo p list other f = record { words = append p list other (f .words); states = f .states; events = f .events }
 
+-- what stays of the other list is swept later. 02, R-8, with the choice on: "releases append nothing to unswept lists"
+unfoldable pub leftUnswept : Params → ℕ → ℕ → Freed → Freed
+leftUnswept p list other f = if p .eager then f else appendTo p list other f
+
 -- "A holder's release is `FreeListAllocator::release`": available and consumed blocks are released or become unswept;
 -- blocks that are unswept already stay, Unmarked or not, as in the Rust
 unfoldable pub releaseBin : Params → ℕ → ℕ → Freed → Freed
 releaseBin p owner bin f =
-    appendTo p (unswept owner bin) (consumed owner bin)
+    leftUnswept p (unswept owner bin) (consumed owner bin)
     (releaseBlocks p (consumed owner bin)
-    (appendTo p (unswept owner bin) (available owner bin) (releaseBlocks p (available owner bin) f)))
+    (leftUnswept p (unswept owner bin) (available owner bin) (releaseBlocks p (available owner bin) f)))
 
 -- ", into in-gc"
 unfoldable pub releaseHolder : Params → ℕ → Words → List ℕ → Freed
@@ -149,8 +157,8 @@ releaseHolder p holder w st =
 -- "the shared one is `sweep_later` on abandoned"
 unfoldable pub sweepLaterBin : Params → ℕ → Freed → Freed
 sweepLaterBin p bin f =
-    appendTo p (unswept abandoned bin) (consumed abandoned bin)
-    (appendTo p (unswept abandoned bin) (available abandoned bin)
+    leftUnswept p (unswept abandoned bin) (consumed abandoned bin)
+    (leftUnswept p (unswept abandoned bin) (available abandoned bin)
     (releaseBlocks p (unswept abandoned bin)
     (releaseBlocks p (consumed abandoned bin) (releaseBlocks p (available abandoned bin) f))))
 
@@ -164,6 +172,49 @@ hasReleased w part = eqb (getD (w .released) part 0) 1
 -- "Each bound holder releases once, the shared part once": nothing is due any more
 unfoldable pub allReleased : Words → Bool
 allReleased w = hasReleased w 0 && allBelow holders (λ i. not (isBound w (suc i)) || hasReleased w (suc i))
+
+-- with this part nothing is due any more: it is the last
+unfoldable pub isLast : ℕ → Words → Bool
+isLast part w = allReleased (setReleased part 1 (setPhase Releasing w))
+
+-- ---- the end of a collection with the choice of eager sweeping. 02, R-8: "the last one sweeps all occupied blocks in ascending order
+
+unfoldable pub sweepBlock : Params → List ℕ → ℕ → Freed → Freed
+sweepBlock p ms b f =
+    if eqb (getD (f .states) b 0) Unallocated then f
+    else record { words = sweptWords p ms b (f .words); states = f .states; events = f .events ++ (sweepOf p ms b (f .words) ∷ []) }
+
+unfoldable pub sweepAll : Params → List ℕ → Freed → Freed
+sweepAll p ms f = eachBelow (p .blocks) (sweepBlock p ms) f
+
+-- and runs `recycle_blocks` on abandoned and in-gc before the merge": consumed blocks that have a free cell go to available. From the
+-- address a on; next is read before the block is removed. At most k blocks
+unfoldable pub recycleFrom : ℕ → Params → ℕ → ℕ → ℕ → Words → Words
+recycleFrom zero p avail full a w = w
+recycleFrom (suc k) p avail full a w =
+    let b : ℕ = blockAt p a in
+    let next : ℕ = getD (w .next) b 0 in
+    if eqb a 0 then w
+    else if eqb (getD (w .free) b 0) 0 then recycleFrom k p avail full next w
+    else recycleFrom k p avail full next (push p avail b (remove p full b w))
+
+unfoldable pub recycleBin : Params → ℕ → ℕ → Words → Words
+recycleBin p owner bin w =
+    recycleFrom (p .blocks) p (available owner bin) (consumed owner bin) (getD (w .first) (consumed owner bin) 0) w
+
+unfoldable pub recycleBlocks : Params → ℕ → Words → Words
+recycleBlocks p owner w = eachBelow bins (recycleBin p owner) w
+
+unfoldable pub sweptEagerly : Params → List ℕ → Freed → Freed
+sweptEagerly p ms f =
+    let all : Freed = sweepAll p ms f in
+    record { words = recycleBlocks p inGc (recycleBlocks p abandoned (all .words)); states = all .states; events = all .events }
+
+-- after a part's own work: nothing, but for the last part with the choice on
+unfoldable pub eagerly : Params → List ℕ → ℕ → Freed → Freed
+eagerly p ms part f = if p .eager && isLast part (f .words) then sweptEagerly p ms f else f
+
+-- ---- the part is done
 
 -- a part has released: "the first entering Releasing". "The last merges in-gc into abandoned and returns to Running."
 unfoldable pub partReleased : Params → ℕ → Words → Words

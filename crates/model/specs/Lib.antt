@@ -63,6 +63,8 @@ pub mod Runs
 pub mod Spans
 -- what a refusal leaves, what a release counts, kept tables, as propositions
 pub mod Refusals
+-- what eager sweeping leaves, as a proposition
+pub mod Eager
 -- demand 3 of any chain of the promises
 pub mod Port
 -- from a trace to its listing

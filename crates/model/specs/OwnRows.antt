@@ -24,7 +24,7 @@ ownRow n =
 -- "01's own sizes up to the block given as rows"
 unfoldable pub withOwnRows : Params → Params
 withOwnRows p =
-    record { base = p .base; bytes = p .bytes; blocks = p .blocks; min = p .min; max = p .max; offsets = p .offsets; unified = p .unified; lower = p .lower; rows = tabulated ownRow maxRows 1; count = miBin (p .bytes) }
+    record { base = p .base; bytes = p .bytes; blocks = p .blocks; min = p .min; max = p .max; offsets = p .offsets; unified = p .unified; lower = p .lower; eager = p .eager; rows = tabulated ownRow maxRows 1; count = miBin (p .bytes) }
 
 -- "tables with no block in a higher bin"
 unfoldable pub LowBins : Params → Lent → Type 0

@@ -15,11 +15,12 @@ use lib.Dec.{eqb, ltb, leb}
 use lib.ListN.{getD}
 use Rattle.model.specs.declared.Params.{Params}
 use Rattle.model.specs.declared.Refusal.the-variants.{BadTables, BadLink, Exhausted}
-use Rattle.model.specs.Base.{flag, sumBelow, In}
+use Rattle.model.specs.Base.{if_then_else_, flag, sumBelow, In}
 use Rattle.model.specs.Params.{goodParams, Lent, fits, listWord, localSets, abandoned, available, unswept, consumed}
 use Rattle.model.specs.Tables.{Words, view}
 use Rattle.model.specs.SizeClasses.{binOf, raised}
 use Rattle.model.specs.Block.{Unallocated, sweepChain}
+use Rattle.model.specs.Global.{Running}
 use Rattle.model.specs.Sound.{setNamed, ChainSound, chainOk, soundOn}
 use Rattle.model.specs.Calls.{refusalNumber, answered, Call, bind, destroy, alloc, prepare, mark, release, sharedRelease, Result, tablesIn, call, setUp, badSetup, badClasses}
 use Rattle.model.specs.Runs.{Turn, begun, HoldersWrite, Seen, seenIn}
@@ -146,12 +147,19 @@ DestroyedCounts =
     → (call p l (destroy holder) .reply .values ≡ blocksOf p l holder ∷ [])
     × (call p l (destroy holder) .reply .values ≡ wentOver p l (call p l (destroy holder) .lent) ∷ [])
 
+-- 02, R-8: "the last one sweeps all occupied blocks": those in use after it, if the choice is on and the collection is over
+unfoldable pub sweptAtEnd : Params → Lent → ℕ
+sweptAtEnd p l′ =
+    if p .eager && eqb (view (l′ .words) .phase) Running
+    then sumBelow (p .blocks) (λ b. flag (not (eqb (getD (l′ .states) b 0) Unallocated))) else 0
+
 -- What a release or a shared release answers, whatever is lent: the blocks made Unallocated, and those that went over: "the last
--- release answers the number merged from in-gc". By one that is not the last no block goes over
+-- release answers the number merged from in-gc". By one that is not the last no block goes over. And the blocks swept
 unfoldable pub CountsReleased : Params → Lent → Call → Type 0
 CountsReleased p l c =
     call p l c .reply .number ≡ 0
-    → call p l c .reply .values ≡ madeUnallocated p l (call p l c .lent) ∷ wentOver p l (call p l c .lent) ∷ []
+    → call p l c .reply .values
+    ≡ madeUnallocated p l (call p l c .lent) ∷ wentOver p l (call p l c .lent) ∷ sweptAtEnd p (call p l c .lent) ∷ []
 
 unfoldable pub ReleasedCounts : Type 0
 ReleasedCounts = (p : Params) (l : Lent) → ((holder : ℕ) → CountsReleased p l (release holder)) × CountsReleased p l sharedRelease

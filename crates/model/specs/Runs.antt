@@ -192,15 +192,18 @@ Served c reply es =
     × (getD (reply .values) 1 0 ≡ cellSize) × (alignAllocation a align offset + size ≤ a + cellSize)
 
 -- The counts answered are those of the call's events, which `Seen` has. 01: "The answer: address, cell size, whether the offer was
--- used, blocks swept (added)." "Each answers how many blocks it released (added)."
+-- used, blocks swept (added)." "Each answers how many blocks it released (added)." 02, R-8: "the last release answers the number swept
+-- as a further number"
 unfoldable pub Counted : Call → Reply → List Event → Type 0
 Counted (bind holder) reply es = Unit {0}
 Counted (destroy holder) reply es = Unit {0}
 Counted (alloc holder size align offset offer) reply es = (reply .number ≡ 0 → getD (reply .values) 3 0 ≡ sweeps es)
 Counted prepare reply es = Unit {0}
 Counted (mark place b) reply es = Unit {0}
-Counted (release holder) reply es = (reply .number ≡ 0 → getD (reply .values) 0 0 ≡ releases es)
-Counted sharedRelease reply es = (reply .number ≡ 0 → getD (reply .values) 0 0 ≡ releases es)
+Counted (release holder) reply es =
+    (reply .number ≡ 0 → (getD (reply .values) 0 0 ≡ releases es) × (getD (reply .values) 2 0 ≡ sweeps es))
+Counted sharedRelease reply es =
+    (reply .number ≡ 0 → (getD (reply .values) 0 0 ≡ releases es) × (getD (reply .values) 2 0 ≡ sweeps es))
 
 -- "no byte lies in two held cells"
 unfoldable pub Apart : Cell → Cell → Type 0

@@ -1,6 +1,7 @@
 -- "Sound tables" (01's term): tables that a call may work on; on any others it is refused BadTables and changes nothing.
 -- A test with a part for each item of 01's sentence, in its order. "Exactly the list it names" is in two parts (`onListNamed`,
--- `linked`), and `flagsKnown` is about words that 01 leaves to us. R-7's sentence on chains is at the end; its test alone reads the heap.
+-- `linked`), and `flagsKnown` is about words that 01 leaves to us. R-8's and R-7's sentences are at the end; the test of
+-- chains alone reads the heap.
 use Prim.Native.Nat.{ℕ, zero, suc, _+_, _-_, _*_, _/_, _%_}
 use mathlib.Core.Bool.{Bool, true, false, not, _&&_, _||_}
 use mathlib.Core.Path.{_≡_}
@@ -133,6 +134,24 @@ sound p t =
     && (releasedFew (t .words) && releasedSome (t .words))
     && releasedEmpty (t .words)
 
+-- ---- eager sweeping. 02, R-8: "With the choice on, BadTables also covers a block on any unswept list
+
+unfoldable pub onUnswept : Words → ℕ → Bool
+onUnswept w b = eqb (setNamed w b % 3) 1
+
+-- and, in Releasing, an Unmarked block in in-gc or, once the shared part is done, on abandoned."
+unfoldable pub releasedBefore : Words → ℕ → Bool
+releasedBefore w b =
+    eqb (w .phase) Releasing && (leb inGc (setNamed w b) || (leb abandoned (setNamed w b) && hasReleased w 0))
+
+unfoldable pub eagerBlock : Tables → ℕ → Bool
+eagerBlock t b =
+    eqb (stateOf t b) Unallocated
+    || (not (onUnswept (t .words) b) && not (eqb (stateOf t b) Unmarked && releasedBefore (t .words) b))
+
+unfoldable pub eagerOk : Params → Tables → Bool
+eagerOk p t = not (p .eager) || allBelow (p .blocks) (eagerBlock t)
+
 -- ---- chains. 02, R-7: "Sound tables now also require that each word equals its chain's length, with the chain in whole cells of its
 -- block and none repeated."
 
@@ -165,6 +184,6 @@ chainOk p h w b =
 unfoldable pub chained : Params → Tables → List ℕ → Bool
 chained p t h = allBelow (p .blocks) (λ b. eqb (stateOf t b) Unallocated || chainOk p h (t .words) b)
 
--- tables that are sound, on the heap h: 01's sentence and R-7's
+-- tables that are sound, on the heap h: 01's sentence, R-8's and R-7's
 abbrev pub soundOn : Params → Tables → List ℕ → Bool
-soundOn p t h = sound p t && chained p t h
+soundOn p t h = sound p t && eagerOk p t && chained p t h

@@ -33,6 +33,8 @@ pub struct Params {
     pub unified: bool,
     // L, OBJECT_REF_OFFSET_LOWER_BOUND
     pub lower: i64,
+    // blocks are swept at the end of a collection (02, R-8), not when an alloc comes to them
+    pub eager: bool,
     // the rows of the class table: row n stands at n − 1, and those from `count` on are not read
     pub rows: [Row; ROWS],
     // how many rows are given; 0 for the classes of document 01
@@ -209,9 +211,13 @@ pub enum DestroyAnswer {
     Refused(Refusal),
 }
 
-// The answer of release and shared release: how many blocks it made Unallocated, and how many it merged from in-gc.
+// The answer of release and shared release: how many blocks it made Unallocated, how many it merged from in-gc, and how many it swept.
 pub enum ReleaseAnswer {
-    Released { blocks: usize, merged: usize },
+    Released {
+        blocks: usize,
+        merged: usize,
+        swept: usize,
+    },
     Refused(Refusal),
 }
 
@@ -254,4 +260,5 @@ pub struct Given {
     pub offsets: usize,
     pub unified: usize,
     pub lower: i64,
+    pub eager: usize,
 }

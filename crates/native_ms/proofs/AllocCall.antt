@@ -16,7 +16,6 @@ use Rattle.model.specs.declared.Refusal.the-variants.{BadRequest, TooBig, BadOf
 use Rattle.model.specs.declared.Tested.{Tested}
 use Rattle.model.specs.declared.Tested.the-variants as Test
 use Rattle.model.specs.Base.{if_then_else_}
-use Rattle.model.specs.Params.{wordCount}
 use Rattle.model.specs.Tables.{Words, Tables, tablesOf, view}
 use Rattle.model.specs.SizeClasses.{binOf, raised}
 use Rattle.model.specs.FreeListAllocator.{findBlock}
@@ -35,8 +34,8 @@ use Rattle.native_ms.specs.declared.checks.Checked.the-variants.{Bin, Re
 use Rattle.native_ms.specs.Raised.{raisedTo}
 use Rattle.native_ms.specs.Checked.{lentTests, binAfter}
 use Rattle.native_ms.specs.Ending.{stepped, shown, Does, servedBy, Ready}
-use Rattle.native_ms.specs.Places.{Known, Classed, Offered}
-use Rattle.native_ms.proofs.Tests.{opened, step-refused, step-passed}
+use Rattle.native_ms.specs.Places.{Known, Offered}
+use Rattle.native_ms.proofs.Tests.{opened, open-known, step-refused, step-passed}
 use Rattle.native_ms.proofs.SpaceCalls.{bound-low, bound-high}
 use Rattle.native_ms.specs.SoundLent.{Lengths}
 use Rattle.native_ms.proofs.Heads.{sound-low, sound-cells}
@@ -167,10 +166,7 @@ module _ (p : Params) (w st ms h : List ℕ) (holder size align offset : ℕ) (o
         }
 
     pub call-known : lentTests p (lend w st ms h) ≡ Test.Passed → Known p (length w) (length ms) (length h)
-    unfolding wordCount
-    call-known e =
-        let o = opened p w st ms h e in
-        record { good = o .parts .good; count = o .parts .words; lines = o .parts .marks; whole = o .parts .heap }
+    call-known e = open-known p w st ms h e
 
     pub call-offered : lentTests p (lend w st ms h) ≡ Test.Passed → Offered p bin offer
     call-offered e =

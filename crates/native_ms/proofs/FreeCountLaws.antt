@@ -15,17 +15,17 @@ use Rattle.model.specs.declared.Refusal.{Refusal}
 use Rattle.model.specs.declared.Refusal.the-variants.{BadSetup, BadTables, BadClasses, BadRequest}
 use Rattle.model.specs.declared.Tested.{Tested}
 use Rattle.model.specs.declared.Tested.the-variants.{Passed, Refused}
-use Rattle.model.specs.Base.{if_then_else_, allBelow, sumBelow}
+use Rattle.model.specs.Base.{sumBelow}
 use Rattle.model.specs.Params.{goodParams, fits, bins, lastBin}
 use Rattle.model.specs.Classes.{classesFit}
 use Rattle.model.specs.Memory.{load}
 use Rattle.model.specs.Tables.{Words, Tables, tablesOf, view}
 use Rattle.model.specs.Block.{cellCount, isCell}
-use Rattle.model.specs.Sound.{stateOf, listNamed, binNamed, blockSound, sound, chainCounts, chainOk, chained, soundOn}
+use Rattle.model.specs.Sound.{stateOf, listNamed, binNamed, blockSound, sound, chainCounts, chainOk, eagerOk, chained, soundOn}
 use Rattle.model.specs.Calls.{refused, answered, refusedIf, andThen, freeCells, cellsOf, ask}
 use Rattle.model.specs.Promise.{lend}
 use Rattle.laws.proofs.Base.{if-cases}
-use Rattle.laws.proofs.Below.{or-left, and-left, and-right, test, allBelow-at}
+use Rattle.laws.proofs.Below.{or-left, and-left, and-three, test, allBelow-at}
 use Rattle.laws.proofs.Params.{good-bounds}
 use Rattle.laws.proofs.Pigeon.{sum-step, sum-end}
 use Rattle.laws.proofs.Tables.{by-lt, sized-view}
@@ -81,13 +81,17 @@ module _ {st x : ℕ} (e : st ≡ x) where
 abbrev pub chainedAt : Params → Words → List ℕ → List ℕ → ℕ → Bool
 chainedAt p w s h b = eqb (getD s b 0) 0 || chainOk p h w b
 
--- the tables first, then the chains
-module _ {x a : Bool} (c : Bool) (ex : x ≡ a) where
-  pub unsound-tables : x ≡ false → false ≡ (a && c)
-  unsound-tables n = rw (← ex, n)
+-- the tables first, then what the choice of sweeping asks, then the chains
+module _ {x a : Bool} (ex : x ≡ a) where
+  pub unsound-tables : (b c : Bool) → x ≡ false → false ≡ (a && b && c)
+  unsound-tables b c n = rw (← ex, n)
 
-  pub sound-chains : {y : Bool} → x ≡ true → y ≡ c → y ≡ (a && c)
-  sound-chains n ey = ey ∙ rw (← ex, n)
+  module _ {y b : Bool} (z : x ≡ true) (ey : y ≡ b) where
+    pub unsound-choice : (c : Bool) → y ≡ false → false ≡ (a && b && c)
+    unsound-choice c n = rw (← ex, z, ← ey, n)
+
+    pub sound-chains : {v c : Bool} → y ≡ true → v ≡ c → v ≡ (a && b && c)
+    sound-chains n ev = ev ∙ rw (← ex, z, ← ey, n)
 
 -- ---- the sum of free counts
 
@@ -149,11 +153,11 @@ summed-end w bin blocks left total S e = omega (arith, S .sum, sum-end (cellsIn 
 module _ (p : Params) (t : Tables) (h : List ℕ) (fine : goodParams p ≡ true) (ok : soundOn p t h ≡ true) where
   each-chained : (b : ℕ) → b < p .blocks → (eqb (stateOf t b) 0 || chainOk p h (t .words) b) ≡ true
   unfolding chained
-  each-chained b low = allBelow-at (p .blocks) (λ x. eqb (stateOf t x) 0 || chainOk p h (t .words) x) (and-right (sound p t) (chained p t h) ok) b low
+  each-chained b low = allBelow-at (p .blocks) (λ x. eqb (stateOf t x) 0 || chainOk p h (t .words) x) (and-three (sound p t) (eagerOk p t) (chained p t h) ok .2) b low
 
   block-few : (b : ℕ) → b < p .blocks → (eqb (stateOf t b) 0 ≡ true) ⊎ (eqb (stateOf t b) 0 ≡ false) → getD (t .words .cells) b 0 ≤ 65536
   unfolding blockSound chainOk cellCount
-  block-few b low (inl y) = omega (arith, clear-none (t .words) b (rw y at (each-sound p t (and-left (sound p t) (chained p t h) ok) b low)) .1)
+  block-few b low (inl y) = omega (arith, clear-none (t .words) b (rw y at (each-sound p t (and-three (sound p t) (eagerOk p t) (chained p t h) ok .0) b low)) .1)
   block-few b low (inr n) =
       let s : ℕ = getD (t .words .size) b 0 in
       let k : ℕ = getD (t .words .cells) b 0 in

@@ -23,6 +23,8 @@ pub mod Heads
 pub mod Ending
 pub mod Abandoned
 pub mod Releases
+pub mod EagerLaws
+pub mod EagerTables
 pub mod SpaceCalls
 pub mod AllocCall
 pub mod SoundLent

@@ -13,16 +13,18 @@ use borrow.Author.Tests.{eq-eqb, ne-eqb}
 use mir.Syntax.{w64}
 use mir.Val.{Fits}
 use Rattle.model.specs.declared.Params.{Params}
-use Rattle.model.specs.Base.{eachBelow, filter}
+use Rattle.model.specs.Base.{if_then_else_, eachBelow, filter}
 use Rattle.model.specs.Params.{goodParams, blockAt, abandoned, available, unswept, consumed, localSets}
 use Rattle.model.specs.Tables.{Words}
 use Rattle.model.specs.BlockList.{remove, append}
 use Rattle.model.specs.Block.{Unallocated, Unmarked, clearBlock}
-use Rattle.model.specs.Events.{Event, released, eventHeap, eventsHeap, isRelease, releases}
-use Rattle.model.specs.Global.{Freed, freed, afterRelease, releaseFrom, releaseBlocks, appendTo, releaseBin, releaseHolder, abandonBlocks, sweepLaterBin, sweepLater}
+use Rattle.model.specs.Events.{Event, released, eventHeap, eventsHeap, isSweep, isRelease, sweeps, releases}
+use Rattle.model.specs.Global.{Freed, freed, afterRelease, releaseFrom, releaseBlocks, appendTo, leftUnswept, releaseBin, releaseHolder, abandonBlocks, sweepLaterBin, sweepLater}
 use Rattle.laws.proofs.Params.{good-bounds}
-use Rattle.laws.proofs.Walks.{releasedOne, from-keeps, blocks-keep-any, bins-keep-any, later-keeps-any}
+use Rattle.laws.proofs.Walks.{left-keeps, releasedOne, from-keeps, blocks-keep-any, bins-keep-any, later-keeps-any}
 use Rattle.native_ms.specs.Released.{Out, out, total, attemptRelease, releasedBins}
+use Rattle.native_ms.specs.Eager.{waits}
+use Rattle.native_ms.proofs.Ending.{events-append, sweeps-append}
 
 -- n more
 unfoldable pub plus : ℕ → Out → Out
@@ -130,7 +132,7 @@ from-at p l t s e = ap (λ (k : ℕ). total (releaseFrom (p .blocks) p l k t s))
 unfoldable pub Appends : (Freed → Freed) → Type 0
 Appends F = (f : Freed) → total (F f) ≡ plus (releases (f .events)) (total (F (freed (f .words) (f .states))))
 
-releases-append : (es fs : List Event) → releases (es ++ fs) ≡ releases es + releases fs
+pub releases-append : (es fs : List Event) → releases (es ++ fs) ≡ releases es + releases fs
 unfolding releases
 releases-append es fs = ap length (filter-append isRelease es fs) ∙ length-append (filter isRelease es) (filter isRelease fs)
 
@@ -144,6 +146,15 @@ appends-append : (p : Params) (l o : ℕ) → Appends (appendTo p l o)
 unfolding Appends plus total appendTo releases filter
 appends-append p l o f =
     ap (λ (k : ℕ). out k (append p l o (f .words)) (f .states)) (sym (add-zero (length (filter isRelease (f .events)))))
+
+appends-left : (p : Params) (l o : ℕ) → Appends (leftUnswept p l o)
+unfolding Appends leftUnswept total
+appends-left p l o f = go (p .eager)
+  where
+    go : (on : Bool) → total (if on then f else appendTo p l o f)
+        ≡ plus (releases (f .events)) (total (if on then freed (f .words) (f .states) else appendTo p l o (freed (f .words) (f .states))))
+    go true = more-none (releases (f .events)) (f .words) (f .states)
+    go false = appends-append p l o f
 
 appends-both : (F G : Freed → Freed) → Appends F → Appends G → Appends (λ f. G (F f))
 unfolding Appends plus total
@@ -190,17 +201,35 @@ unfolding total appendTo
 shows-append p l o f {n} {t} {t₁} {s} e q =
     ap (λ (u : Words). out n u s) q ∙ ap (λ (x : Out). out (x .number) (append p l o (x .words)) (x .states)) e
 
+-- or nothing is appended
+module _ (p : Params) (l o : ℕ) (t : Words) where
+  pub waits-none : p .eager ≡ true → t ≡ waits p l o t
+  unfolding waits
+  waits-none z = rw z
+
+  pub waits-append : {t₁ : Words} → p .eager ≡ false → t₁ ≡ append p l o t → t₁ ≡ waits p l o t
+  unfolding waits
+  waits-append z e = e ∙ rw z
+
+shows-left : (p : Params) (l o : ℕ) (f : Freed) {n : ℕ} {t t₁ : Words} {s : List ℕ} → out n t s ≡ total f → t₁ ≡ waits p l o t → out n t₁ s ≡ total (leftUnswept p l o f)
+unfolding waits leftUnswept
+shows-left p l o f {n} {t} {t₁} {s} e q = go (p .eager) q
+  where
+    go : (on : Bool) → t₁ ≡ (if on then t else append p l o t) → out n t₁ s ≡ total (if on then f else appendTo p l o f)
+    go true y = ap (λ (u : Words). out n u s) y ∙ e
+    go false y = shows-append p l o f e y
+
 -- ---- one bin
 
 module _ (p : Params) (owner bin : ℕ) {a u c : ℕ} (t : Words) (s : List ℕ) (ea : a ≡ available owner bin) (eu : u ≡ unswept owner bin) (ec : c ≡ consumed owner bin) where
-  pub bin-total : {n m : ℕ} {t₁ t₂ t₃ t₄ : Words} {s₁ s₃ : List ℕ} → out n t₁ s₁ ≡ total (releaseFrom (p .blocks) p a (getD (t .first) a 0) t s) → t₂ ≡ append p u a t₁ → out m t₃ s₃ ≡ total (releaseFrom (p .blocks) p c (getD (t₂ .first) c 0) t₂ s₁) → t₄ ≡ append p u c t₃ → out (n + m) t₄ s₃ ≡ total (releaseBin p owner bin (freed t s))
+  pub bin-total : {n m : ℕ} {t₁ t₂ t₃ t₄ : Words} {s₁ s₃ : List ℕ} → out n t₁ s₁ ≡ total (releaseFrom (p .blocks) p a (getD (t .first) a 0) t s) → t₂ ≡ waits p u a t₁ → out m t₃ s₃ ≡ total (releaseFrom (p .blocks) p c (getD (t₂ .first) c 0) t₂ s₁) → t₄ ≡ waits p u c t₃ → out (n + m) t₄ s₃ ≡ total (releaseBin p owner bin (freed t s))
   unfolding releaseBin
   bin-total e₁ e₂ e₃ e₄ =
       let f₁ : Freed = releaseBlocks p a (freed t s) in
-      let f₂ : Freed = appendTo p u a f₁ in
+      let f₂ : Freed = leftUnswept p u a f₁ in
       let f₃ : Freed = releaseBlocks p c f₂ in
       rw (← ea, ← eu, ← ec)
-      (shows-append p u c f₃ (shows-blocks p c f₂ (shows-append p u a f₁ (shows-first p a t s e₁) e₂) e₃) e₄)
+      (shows-left p u c f₃ (shows-blocks p c f₂ (shows-left p u a f₁ (shows-first p a t s e₁) e₂) e₃) e₄)
 
 appends-bin : (p : Params) (owner bin : ℕ) → Appends (releaseBin p owner bin)
 unfolding releaseBin
@@ -208,23 +237,23 @@ appends-bin p owner bin =
     let a = available owner bin in
     let u = unswept owner bin in
     let c = consumed owner bin in
-    appends-both (λ f. releaseBlocks p c (appendTo p u a (releaseBlocks p a f))) (appendTo p u c)
-    (appends-both (λ f. appendTo p u a (releaseBlocks p a f)) (releaseBlocks p c)
-    (appends-both (releaseBlocks p a) (appendTo p u a) (appends-blocks p a) (appends-append p u a))
+    appends-both (λ f. releaseBlocks p c (leftUnswept p u a (releaseBlocks p a f))) (leftUnswept p u c)
+    (appends-both (λ f. leftUnswept p u a (releaseBlocks p a f)) (releaseBlocks p c)
+    (appends-both (releaseBlocks p a) (leftUnswept p u a) (appends-blocks p a) (appends-left p u a))
     (appends-blocks p c))
-    (appends-append p u c)
+    (appends-left p u c)
 
 module _ (p : Params) (bin : ℕ) {a u c : ℕ} (t : Words) (s : List ℕ) (ea : a ≡ available abandoned bin) (eu : u ≡ unswept abandoned bin) (ec : c ≡ consumed abandoned bin) where
-  pub later-total : {n m o : ℕ} {t₁ t₂ t₃ t₄ t₅ : Words} {s₁ s₂ s₃ : List ℕ} → out n t₁ s₁ ≡ total (releaseFrom (p .blocks) p a (getD (t .first) a 0) t s) → out m t₂ s₂ ≡ total (releaseFrom (p .blocks) p c (getD (t₁ .first) c 0) t₁ s₁) → out o t₃ s₃ ≡ total (releaseFrom (p .blocks) p u (getD (t₂ .first) u 0) t₂ s₂) → t₄ ≡ append p u a t₃ → t₅ ≡ append p u c t₄ → out (n + m + o) t₅ s₃ ≡ total (sweepLaterBin p bin (freed t s))
+  pub later-total : {n m o : ℕ} {t₁ t₂ t₃ t₄ t₅ : Words} {s₁ s₂ s₃ : List ℕ} → out n t₁ s₁ ≡ total (releaseFrom (p .blocks) p a (getD (t .first) a 0) t s) → out m t₂ s₂ ≡ total (releaseFrom (p .blocks) p c (getD (t₁ .first) c 0) t₁ s₁) → out o t₃ s₃ ≡ total (releaseFrom (p .blocks) p u (getD (t₂ .first) u 0) t₂ s₂) → t₄ ≡ waits p u a t₃ → t₅ ≡ waits p u c t₄ → out (n + m + o) t₅ s₃ ≡ total (sweepLaterBin p bin (freed t s))
   unfolding sweepLaterBin
   later-total e₁ e₂ e₃ e₄ e₅ =
       let f₁ : Freed = releaseBlocks p a (freed t s) in
       let f₂ : Freed = releaseBlocks p c f₁ in
       let f₃ : Freed = releaseBlocks p u f₂ in
-      let f₄ : Freed = appendTo p u a f₃ in
+      let f₄ : Freed = leftUnswept p u a f₃ in
       rw (← ea, ← eu, ← ec)
-      (shows-append p u c f₄
-      (shows-append p u a f₃ (shows-blocks p u f₂ (shows-blocks p c f₁ (shows-first p a t s e₁) e₂) e₃) e₄) e₅)
+      (shows-left p u c f₄
+      (shows-left p u a f₃ (shows-blocks p u f₂ (shows-blocks p c f₁ (shows-first p a t s e₁) e₂) e₃) e₄) e₅)
 
 appends-later : (p : Params) (bin : ℕ) → Appends (sweepLaterBin p bin)
 unfolding sweepLaterBin
@@ -233,13 +262,13 @@ appends-later p bin =
     let u = unswept abandoned bin in
     let c = consumed abandoned bin in
     let rb = releaseBlocks p in
-    appends-both (λ f. appendTo p u a (rb u (rb c (rb a f)))) (appendTo p u c)
-    (appends-both (λ f. rb u (rb c (rb a f))) (appendTo p u a)
+    appends-both (λ f. leftUnswept p u a (rb u (rb c (rb a f)))) (leftUnswept p u c)
+    (appends-both (λ f. rb u (rb c (rb a f))) (leftUnswept p u a)
     (appends-both (λ f. rb c (rb a f)) (rb u)
     (appends-both (rb a) (rb c) (appends-blocks p a) (appends-blocks p c))
     (appends-blocks p u))
-    (appends-append p u a))
-    (appends-append p u c)
+    (appends-left p u a))
+    (appends-left p u c)
 
 -- ---- all bins
 
@@ -329,6 +358,10 @@ few-append : (p : Params) (l o : ℕ) → AddsAtMost 0 (appendTo p l o)
 unfolding AddsAtMost appendTo
 few-append p l o f = omega arith
 
+few-left : (p : Params) (l o : ℕ) → AddsAtMost 0 (leftUnswept p l o)
+unfolding AddsAtMost
+few-left p l o f = left-keeps p (λ g. releases (g .events) ≤ releases (f .events) + 0) l o f (omega arith) (few-append p l o f)
+
 few-both : (j k : ℕ) (F G : Freed → Freed) → AddsAtMost j F → AddsAtMost k G → AddsAtMost (j + k) (λ f. G (F f))
 unfolding AddsAtMost
 few-both j k F G a b f = omega (arith, a f, b (F f))
@@ -339,11 +372,11 @@ few-bin p owner bin =
     let a = available owner bin in
     let u = unswept owner bin in
     let c = consumed owner bin in
-    few-both (p .blocks + 0 + p .blocks) 0 (λ f. releaseBlocks p c (appendTo p u a (releaseBlocks p a f))) (appendTo p u c)
-    (few-both (p .blocks + 0) (p .blocks) (λ f. appendTo p u a (releaseBlocks p a f)) (releaseBlocks p c)
-    (few-both (p .blocks) 0 (releaseBlocks p a) (appendTo p u a) (few-blocks p a) (few-append p u a))
+    few-both (p .blocks + 0 + p .blocks) 0 (λ f. releaseBlocks p c (leftUnswept p u a (releaseBlocks p a f))) (leftUnswept p u c)
+    (few-both (p .blocks + 0) (p .blocks) (λ f. leftUnswept p u a (releaseBlocks p a f)) (releaseBlocks p c)
+    (few-both (p .blocks) 0 (releaseBlocks p a) (leftUnswept p u a) (few-blocks p a) (few-left p u a))
     (few-blocks p c))
-    (few-append p u c)
+    (few-left p u c)
 
 few-later : (p : Params) (bin : ℕ) → AddsAtMost (p .blocks + p .blocks + p .blocks + 0 + 0) (sweepLaterBin p bin)
 unfolding sweepLaterBin
@@ -352,13 +385,13 @@ few-later p bin =
     let u = unswept abandoned bin in
     let c = consumed abandoned bin in
     let rb = releaseBlocks p in
-    few-both (p .blocks + p .blocks + p .blocks + 0) 0 (λ f. appendTo p u a (rb u (rb c (rb a f)))) (appendTo p u c)
-    (few-both (p .blocks + p .blocks + p .blocks) 0 (λ f. rb u (rb c (rb a f))) (appendTo p u a)
+    few-both (p .blocks + p .blocks + p .blocks + 0) 0 (λ f. leftUnswept p u a (rb u (rb c (rb a f)))) (leftUnswept p u c)
+    (few-both (p .blocks + p .blocks + p .blocks) 0 (λ f. rb u (rb c (rb a f))) (leftUnswept p u a)
     (few-both (p .blocks + p .blocks) (p .blocks) (λ f. rb c (rb a f)) (rb u)
     (few-both (p .blocks) (p .blocks) (rb a) (rb c) (few-blocks p a) (few-blocks p c))
     (few-blocks p u))
-    (few-append p u a))
-    (few-append p u c)
+    (few-left p u a))
+    (few-left p u c)
 
 few-of : (k : ℕ) (F : Freed → Freed) → AddsAtMost k F → (t : Words) (s : List ℕ) {r : ℕ} {t₁ : Words} {s₁ : List ℕ} → out r t₁ s₁ ≡ total (F (freed t s)) → r ≤ k
 unfolding AddsAtMost total
@@ -372,19 +405,19 @@ bin-few p owner bin t s h e = omega (arith, few-of _ (releaseBin p owner bin) (f
 pub later-few : (p : Params) (bin : ℕ) (t : Words) (s : List ℕ) {r : ℕ} {t₁ : Words} {s₁ : List ℕ} → p .blocks ≤ 1024 → out r t₁ s₁ ≡ total (sweepLaterBin p bin (freed t s)) → r ≤ 3072
 later-few p bin t s h e = omega (arith, few-of _ (sweepLaterBin p bin) (few-later p bin) t s e)
 
--- ---- releases leave the heap alone
+-- ---- releases leave the heap alone, and sweep nothing
 
-unfoldable pub Quiet : Params → List Event → Type 0
-Quiet p es = (h : List ℕ) → eventsHeap p es h ≡ h
-
-quiet-append : (p : Params) (es fs : List Event) (h : List ℕ) → eventsHeap p (es ++ fs) h ≡ eventsHeap p fs (eventsHeap p es h)
-unfolding eventsHeap
-quiet-append p [] fs h = refl
-quiet-append p (e ∷ es) fs h = quiet-append p es fs (eventHeap p e h)
+pub record Quiet (p : Params) (es : List Event) : Type 0 where
+  pub heap : (h : List ℕ) → eventsHeap p es h ≡ h
+  pub none : sweeps es ≡ 0
 
 quiet-one : (p : Params) (l b : ℕ) (f : Freed) → Quiet p (f .events) → Quiet p (releasedOne p l b f .events)
-unfolding Quiet eventsHeap eventHeap
-quiet-one p l b f q h = quiet-append p (f .events) (released b ∷ []) h ∙ q h
+unfolding eventsHeap eventHeap sweeps filter isSweep
+quiet-one p l b f q =
+    record {
+      heap = λ h. events-append p (f .events) (released b ∷ []) h ∙ q .heap h;
+      none = sweeps-append (f .events) (released b ∷ []) ∙ ap (λ (n : ℕ). n + 0) (q .none);
+    }
 
 quiet-blocks : (p : Params) (l : ℕ) (f : Freed) → Quiet p (f .events) → Quiet p (releaseBlocks p l f .events)
 quiet-blocks p l = blocks-keep-any p l (λ f. Quiet p (f .events)) (λ b f q u. quiet-one p l b f q)
@@ -394,8 +427,8 @@ unfolding appendTo
 quiet-to p l o f q = q
 
 quiet-none : (p : Params) (t : Words) (s : List ℕ) → Quiet p (freed t s .events)
-unfolding Quiet eventsHeap
-quiet-none p t s h = refl
+unfolding eventsHeap sweeps filter
+quiet-none p t s = record { heap = λ h. refl; none = refl }
 
 pub quiet-holder : (p : Params) (h : ℕ) (t : Words) (s : List ℕ) → Quiet p (releaseHolder p h t s .events)
 unfolding releaseHolder

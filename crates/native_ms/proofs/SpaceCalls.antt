@@ -7,7 +7,7 @@ use native.Mathlib.Omega.{arith}
 use native.Mathlib.Nat.{not-suc-le-zero}
 use native.Mathlib.Numerals.{add-one}
 use lib.Dec.{eqb, ltb, leb}
-use lib.ListN.{length, getD, set, length-map, List·getD-map, length-take, length-drop, replicate, length-replicate, getD-replicate}
+use lib.ListN.{length, getD, set, length-map, List·getD-map, replicate, length-replicate, getD-replicate}
 use borrow.Author.Tests.{eq-eqb, ne-eqb, leb-true, lt-ltb, le-ltb, lt-leb, le-leb}
 use borrow.Author.Count.{below-more}
 use lib.Seq.{ext-getD, getD-set-same, getD-set-other}
@@ -17,13 +17,12 @@ use Rattle.model.specs.declared.Refusal.the-variants.{BadSetup, BadClasses}
 use Rattle.model.specs.declared.Tested.{Tested}
 use Rattle.model.specs.declared.Tested.the-variants.{Passed, Refused}
 use Rattle.model.specs.Base.{eachBelow, flag}
-use Rattle.model.specs.Params.{goodParams, fits, wordCount, heapBytes, start, minusLower, inHeap, localSets, abandoned, available, unswept, consumed, headWords, blockTables, bins}
+use Rattle.model.specs.Params.{goodParams, fits, wordCount, heapBytes, start, minusLower, inHeap, localSets, abandoned, headWords, blockTables, bins}
 use Rattle.model.specs.Memory.{marked, setMark, cleared}
 use Rattle.model.specs.Tables.{Words, Tables, tablesOf, view, flat, setBound, setPhase, setReleased, withReleased}
 use Rattle.model.specs.Block.{Marked}
 use Rattle.model.specs.Events.{releases, eventsHeap}
-use Rattle.model.specs.BlockList.{append}
-use Rattle.model.specs.Global.{Running, Marking, freshWords, freshTables, isHolder, isBound, hasReleased, bindHolder, destroyHolder, abandonBin, abandonBlocks, abandonedBlocks, unmarkedState, prepared, markPlace, Freed, releaseHolder, sweepLater, allReleased, partReleased, merged}
+use Rattle.model.specs.Global.{Running, Marking, freshWords, freshTables, isHolder, isBound, hasReleased, bindHolder, destroyHolder, abandonBlocks, unmarkedState, prepared, markPlace, Freed, freed, releaseHolder, sweepLater, eagerly, partReleased, merged}
 use Rattle.model.specs.Sound.{stateOf}
 use Rattle.model.specs.Classes.{classesFit}
 use Rattle.model.specs.Calls.{answered, refused, Call, bind, destroy, prepare, mark, release, sharedRelease, goodObject, mayLeave, mayRelease, phaseTest, bindTests, leaveTests, markTests, releaseTests, sharedTests, callTests, releasePlan, planPassed, finish, carried, setUp}
@@ -34,10 +33,12 @@ use Rattle.laws.proofs.Tests.{bind-passed, leave-passed, release-passed}
 use Rattle.model.specs.Promise.{lend, SetUpPromised}
 use Rattle.native_ms.specs.Released.{Out, out, total}
 use Rattle.native_ms.specs.Moved.{Moved, moved, binsMove, partMoves}
-use Rattle.native_ms.specs.Space.{inBlock, collected}
+use Rattle.native_ms.specs.Space.{inBlock}
 use Rattle.native_ms.specs.Ending.{stepped, shown, Does}
 use Rattle.native_ms.proofs.Tests.{fit-parts, step-refused, step-passed}
+use Rattle.native_ms.specs.Eager.{done, sweptIn}
 use Rattle.native_ms.proofs.Releases.{Quiet, quiet-holder, quiet-shared}
+use Rattle.native_ms.proofs.EagerLaws.{released-nine, AfterPart, after-part}
 use Rattle.native_ms.proofs.MovedLaws.{over-words, over-number}
 
 -- ---- holders
@@ -114,6 +115,10 @@ module _ (p : Params) (t : Words) (n : ℕ) {r : Tested} (e : r ≡ leaveTests t
   destroy-refused z s m h = step-refused p (tablesOf t s m) h (destroy n) e z
 
 -- ---- bin by bin
+
+pub each-none : {A : Type 0} (f : ℕ → A → A) (x : A) → x ≡ eachBelow 0 f x
+unfolding eachBelow
+each-none f x = refl
 
 pub each-more : {A : Type 0} (f : ℕ → A → A) (x : A) (i : ℕ) {y z : A} → y ≡ eachBelow i f x → z ≡ f i y → z ≡ eachBelow (i + 1) f x
 unfolding eachBelow
@@ -297,18 +302,23 @@ already-none t n e z = rw (← e, z)
 pub already-holder : (t : Words) (n : ℕ) {a r : Bool} → a ≡ isHolder n → a ≡ true → r ≡ hasReleased t n → r ≡ (isHolder n && hasReleased t n)
 already-holder t n e z q = rw (← e, z, q)
 
-module _ (p : Params) (c : Call) (part : ℕ) (t : Words) (s : List ℕ) (f : Freed)
-    (planned : (m : List ℕ) → planPassed p (tablesOf t s m) c ≡ releasePlan p part (tablesOf t s m) f) (quiet : Quiet p (f .events)) where
-  freed-done : {n k : ℕ} {t₁ t₂ : Words} {s₁ : List ℕ} → out n t₁ s₁ ≡ total f → moved k t₂ ≡ partMoves p part t₁
-      → (m h : List ℕ) → stepped (answered (n ∷ k ∷ [])) (tablesOf t₂ s₁ m) h ≡ shown (carried p h (planPassed p (tablesOf t s m) c))
-  unfolding releasePlan Quiet total finish partMoves
-  freed-done {n} {k} {t₁} {t₂} {s₁} q v m h =
+-- a part's own work, f, then the end of the collection if it is the last, then the mark
+module _ (p : Params) (c : Call) (part : ℕ) (t : Words) (s m h : List ℕ) (f : Freed)
+    (planned : planPassed p (tablesOf t s m) c ≡ releasePlan p part (tablesOf t s m) f) (quiet : Quiet p (f .events)) where
+  freed-done : {n j k : ℕ} {t₁ t₂ t₃ : Words} {s₁ h₁ : List ℕ} → out n t₁ s₁ ≡ total f → done j t₂ h₁ ≡ sweptIn p h (eagerly p m part (freed t₁ s₁))
+      → moved k t₃ ≡ partMoves p part t₂ → stepped (answered (n ∷ k ∷ j ∷ [])) (tablesOf t₃ s₁ m) h₁ ≡ shown (carried p h (planPassed p (tablesOf t s m) c))
+  unfolding releasePlan total finish partMoves
+  freed-done {n} {j} {k} {t₁} {t₂} {t₃} {s₁} {h₁} q d v =
+      let g : Freed = eagerly p m part f in
       let en : n ≡ releases (f .events) = ap (λ (x : Out). x .number) q in
       let ew : t₁ ≡ f .words = ap (λ (x : Out). x .words) q in
       let es : s₁ ≡ f .states = ap (λ (x : Out). x .states) q in
-      let ek : k ≡ merged p part (f .words) = ap (λ (x : Moved). x .number) v ∙ ap (merged p part) ew in
-      let et : t₂ ≡ partReleased p part (f .words) = ap (λ (x : Moved). x .words) v ∙ ap (partReleased p part) ew in
-      rw (planned m, quiet h, et, es, en, ek)
+      let e : done j t₂ h₁ ≡ sweptIn p h (eagerly p m part (freed (f .words) (f .states))) =
+      d ∙ ap (λ (x : Out). sweptIn p h (eagerly p m part (freed (x .words) (x .states)))) q in
+      let a : AfterPart p m part h f j t₂ h₁ = after-part p m part h f quiet e in
+      let ek : k ≡ merged p part (g .words) = ap (λ (x : Moved). x .number) v ∙ ap (merged p part) (a .words) in
+      let et : t₃ ≡ partReleased p part (g .words) = ap (λ (x : Moved). x .words) v ∙ ap (partReleased p part) (a .words) in
+      rw (planned, et, es ∙ sym (a .states), en ∙ sym (a .released), ek, a .swept, a .heap)
 
 pub release-bound : (t : Words) (n : ℕ) {r : Tested} → r ≡ releaseTests t n → r ≡ Passed → (1 ≤ n) × (n ≤ 8)
 release-bound t n e z = let b = release-passed t n (sym e ∙ z) .1 in (bound-low t n b, bound-high t n b)
@@ -319,12 +329,12 @@ module _ (p : Params) (t : Words) (s : List ℕ) (n : ℕ) {r : Tested} (e : r �
   unfolding callTests
   release-refused z m h = step-refused p (tablesOf t s m) h (release n) e z
 
-  pub release-done : {k j : ℕ} {t₁ t₂ : Words} {s₁ : List ℕ} → r ≡ Passed → out k t₁ s₁ ≡ total (releaseHolder p n t s)
-      → moved j t₂ ≡ partMoves p n t₁
-      → (m h : List ℕ) → Does p (tablesOf t s m) h (release n) (answered (k ∷ j ∷ [])) (tablesOf t₂ s₁ m) h
+  pub release-done : (m h : List ℕ) {k i j : ℕ} {t₁ t₂ t₃ : Words} {s₁ h₁ : List ℕ} → r ≡ Passed → out k t₁ s₁ ≡ total (releaseHolder p n t s)
+      → done i t₂ h₁ ≡ sweptIn p h (eagerly p m n (freed t₁ s₁)) → moved j t₃ ≡ partMoves p n t₂
+      → Does p (tablesOf t s m) h (release n) (answered (k ∷ j ∷ i ∷ [])) (tablesOf t₃ s₁ m) h₁
   unfolding callTests planPassed
-  release-done z q v m h =
-      freed-done p (release n) n t s (releaseHolder p n t s) (λ m₀. refl) (quiet-holder p n t s) q v m h
+  release-done m h z q d v =
+      freed-done p (release n) n t s m h (releaseHolder p n t s) refl (quiet-holder p n t s) q d v
       ∙ step-passed p (tablesOf t s m) h (release n) e z
 
 module _ (p : Params) (t : Words) (s : List ℕ) {r : Tested} (e : r ≡ sharedTests t) where
@@ -333,12 +343,12 @@ module _ (p : Params) (t : Words) (s : List ℕ) {r : Tested} (e : r ≡ sharedT
   unfolding callTests
   shared-refused z m h = step-refused p (tablesOf t s m) h sharedRelease e z
 
-  pub shared-done : {k j : ℕ} {t₁ t₂ : Words} {s₁ : List ℕ} → r ≡ Passed → out k t₁ s₁ ≡ total (sweepLater p t s)
-      → moved j t₂ ≡ partMoves p 0 t₁
-      → (m h : List ℕ) → Does p (tablesOf t s m) h sharedRelease (answered (k ∷ j ∷ [])) (tablesOf t₂ s₁ m) h
+  pub shared-done : (m h : List ℕ) {k i j : ℕ} {t₁ t₂ t₃ : Words} {s₁ h₁ : List ℕ} → r ≡ Passed → out k t₁ s₁ ≡ total (sweepLater p t s)
+      → done i t₂ h₁ ≡ sweptIn p h (eagerly p m 0 (freed t₁ s₁)) → moved j t₃ ≡ partMoves p 0 t₂
+      → Does p (tablesOf t s m) h sharedRelease (answered (k ∷ j ∷ i ∷ [])) (tablesOf t₃ s₁ m) h₁
   unfolding callTests planPassed
-  shared-done z q v m h =
-      freed-done p sharedRelease 0 t s (sweepLater p t s) (λ m₀. refl) (quiet-shared p t s) q v m h
+  shared-done m h z q d v =
+      freed-done p sharedRelease 0 t s m h (sweepLater p t s) refl (quiet-shared p t s) q d v
       ∙ step-passed p (tablesOf t s m) h sharedRelease e z
 
 -- ---- the end of a collection
@@ -368,10 +378,6 @@ unreleased-none t = refl
 pub unreleased-more : (t : Words) (i : ℕ) {u v : Words} → u ≡ unreleased i t → v ≡ setReleased i 0 u → v ≡ unreleased (i + 1) t
 unfolding unreleased
 unreleased-more t i e q = each-more (λ j u. setReleased j 0 u) t i e q
-
-released-nine : (w : List ℕ) → 2958 ≤ length w → length (view w .released) ≡ 9
-unfolding view
-released-nine w h = simp (length-take, length-drop) (omega arith)
 
 unreleased-all : (t : Words) → length (t .released) ≡ 9 → unreleased 9 t ≡ withReleased (replicate 9 0) t
 unfolding unreleased eachBelow setReleased withReleased

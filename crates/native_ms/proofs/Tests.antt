@@ -18,14 +18,15 @@ use Rattle.model.specs.Tables.{Words, Tables, tablesOf, view, flat}
 use Rattle.model.specs.Events.{eventsHeap}
 use Rattle.model.specs.Global.{isHolder, isBound}
 use Rattle.model.specs.Classes.{classesFit}
-use Rattle.model.specs.Sound.{sound, chained, soundOn}
+use Rattle.model.specs.Sound.{sound, eagerOk, chained, soundOn}
 use Rattle.model.specs.Calls.{Reply, refused, Call, refusedIf, andThen, phaseTest, boundTests, callTests, planPassed, ifPassed, planSound, plan, finish, carried, soundStep, step, call}
 use Rattle.model.specs.Promise.{lend, Promised}
-use Rattle.laws.proofs.Below.{or-left, or-right, or-neither, and-left, and-right, and-five}
+use Rattle.laws.proofs.Below.{or-left, or-right, or-neither, and-left, and-right, and-three, and-five}
 use Rattle.laws.proofs.Base.{if-true, if-false}
 use Rattle.laws.proofs.Tables.{words-flat, flat-view}
 use Rattle.laws.proofs.Tests.{clash}
 use Rattle.native_ms.specs.Checked.{lentTests}
+use Rattle.native_ms.specs.Places.{Known}
 use Rattle.native_ms.specs.Ending.{Stepped, shown, Does}
 
 -- ---- parameters and lengths
@@ -107,7 +108,7 @@ pub record Open (p : Params) (w s m h : List ℕ) : Type 0 where
   pub parts : Fitting p w s m h
   pub classes : classesFit p ≡ true
   pub sane : sound p (tablesOf (view w) s m) ≡ true
-  -- R-7: the chains too
+  -- R-8 and R-7: what the choice of sweeping asks, and the chains
   pub whole : soundOn p (tablesOf (view w) s m) h ≡ true
 
 module _ (p : Params) (w s m h : List ℕ) where
@@ -121,10 +122,16 @@ module _ (p : Params) (w s m h : List ℕ) where
       go true false g ef ek eg q = clash q
       go true true false ef ek eg q = clash q
       go true true true ef ek eg q =
-          record { fit = ef; parts = fit-parts p w s m h refl ef; classes = ek; sane = and-left (sound p (tablesOf (view w) s m)) (chained p (tablesOf (view w) s m) h) eg; whole = eg }
+          record { fit = ef; parts = fit-parts p w s m h refl ef; classes = ek; sane = and-three (sound p (tablesOf (view w) s m)) (eagerOk p (tablesOf (view w) s m)) (chained p (tablesOf (view w) s m) h) eg .0; whole = eg }
 
   pub open-good : lentTests p (lend w s m h) ≡ Passed → goodParams p ≡ true
   open-good e = opened e .parts .good
+
+  pub open-known : lentTests p (lend w s m h) ≡ Passed → Known p (length w) (length m) (length h)
+  unfolding wordCount
+  open-known e =
+      let o = opened e in
+      record { good = o .parts .good; count = o .parts .words; lines = o .parts .marks; whole = o .parts .heap }
 
   -- the words are long enough for all that comes before the block tables
   pub open-long : lentTests p (lend w s m h) ≡ Passed → headWords ≤ length w

@@ -13,5 +13,6 @@ pub mod Ending
 pub mod Checked
 pub mod Abandoned
 pub mod Released
+pub mod Eager
 pub mod SoundLent
 pub mod FewCells

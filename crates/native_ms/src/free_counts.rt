@@ -4,6 +4,7 @@ use crate::block;
 use crate::checks;
 use crate::memory;
 use crate::sound;
+use crate::sound::eager;
 use model::Address;
 use model::BINS;
 use model::Block;
@@ -125,12 +126,15 @@ fn cells_of(p: Params, words: &[usize], bin: usize) -> usize
     total
 }
 
-// Tables that are sound, their chains too.
+// Tables that are sound, for the choice of sweeping and their chains too.
 pub(crate) fn sound_on(p: Params, words: &[usize], states: &[u8], heap: &[u8]) -> bool
     requires { ⌜ (Lengths p (now words) (now states)) × (classesFit p ≡ true) ⌝ }
     ensures { λ r. ⌜ ((m : List ℕ) → r ≡ soundOn p (tablesOf (view (now (words .entry))) (now (states .entry)) m) (now (heap .entry))) ⌝ }
 {
     if !sound::sound(p, words, states) {
+        return false;
+    }
+    if !eager::eager_ok(p, words, states) {
         return false;
     }
     chained(p, words, states, heap)

@@ -1,5 +1,5 @@
 // The space: set-up, holders, marking and the releases of a collection. Named after the Rust's global.rs, with
-// `abandon_blocks` and `release` of free_list_allocator.rs.
+// `abandon_blocks` and `release` of free_list_allocator.rs; `eager` has what the last release does with the choice of eager sweeping.
 //
 // | call                    | phase              | after                        |
 // |-------------------------|--------------------|------------------------------|
@@ -8,6 +8,8 @@
 // | prepare                 | Running            | Marking                      |
 // | mark                    | Marking            | Marking                      |
 // | release, shared release | Marking, Releasing | Releasing; the last: Running |
+mod eager;
+
 use crate::address;
 use crate::block;
 use crate::block_list;
@@ -46,6 +48,8 @@ ghost use Rattle.model.specs.Promise.{lend, Promised, SetUpPromised};
 ghost use Rattle.native_ms.specs.Moved.{moved, binMoves, binsMove, endMoves, partMoves};
 ghost use Rattle.native_ms.specs.Ending.{Does};
 ghost use Rattle.native_ms.specs.Released.{out, total, attemptRelease, releasedBins};
+ghost use Rattle.native_ms.specs.Eager.{waits};
+ghost use Rattle.native_ms.specs.Places.{Known};
 
 // The phases.
 pub(crate) const RUNNING: usize = 0;
@@ -369,6 +373,17 @@ fn release_blocks(p: Params, w: &mut [usize], st: &mut [u8], list: usize) -> usi
     released
 }
 
+// What stays of the other list is swept later; with the choice of eager sweeping it stays where it is.
+fn left_unswept(p: Params, w: &mut [usize], list: usize, other: usize)
+    requires { ⌜ (goodParams p ≡ true) × (list < lists) ⌝ }
+    ensures { λ _. ⌜ view (now (w .exit)) ≡ waits p list other (view (now (w .entry))) ⌝ }
+{
+    if p.eager {
+        return;
+    }
+    block_list::append(p, w, list, other);
+}
+
 // One bin of a holder's release: what stays of available and consumed blocks becomes unswept.
 fn release_bin(p: Params, w: &mut [usize], st: &mut [u8], owner: usize, bin: usize) -> usize
     requires { ⌜ (goodParams p ≡ true) × (owner ≤ inGc) × (bin < bins) ⌝ }
@@ -378,9 +393,9 @@ fn release_bin(p: Params, w: &mut [usize], st: &mut [u8], owner: usize, bin: usi
     let unswept = address::unswept(owner, bin);
     let consumed = address::consumed(owner, bin);
     let free = release_blocks(p, w, st, available);
-    block_list::append(p, w, unswept, available);
+    left_unswept(p, w, unswept, available);
     let full = release_blocks(p, w, st, consumed);
-    block_list::append(p, w, unswept, consumed);
+    left_unswept(p, w, unswept, consumed);
     free + full
 }
 
@@ -419,8 +434,8 @@ fn sweep_later_bin(p: Params, w: &mut [usize], st: &mut [u8], bin: usize) -> usi
     let free = release_blocks(p, w, st, available);
     let full = release_blocks(p, w, st, consumed);
     let waiting = release_blocks(p, w, st, unswept);
-    block_list::append(p, w, unswept, available);
-    block_list::append(p, w, unswept, consumed);
+    left_unswept(p, w, unswept, available);
+    left_unswept(p, w, unswept, consumed);
     free + full + waiting
 }
 
@@ -483,18 +498,27 @@ fn part_released(p: Params, w: &mut [usize], part: usize) -> usize
 }
 
 // A holder's release.
-pub(crate) fn do_release(p: Params, w: &mut [usize], st: &mut [u8], holder: usize) -> ReleaseAnswer
-    requires { ⌜ (goodParams p ≡ true) × (headWords ≤ length (now w)) ⌝ }
-    ensures { λ r. ⌜ ((m h : List ℕ) → Does p (tablesOf (view (now (w .entry))) (now (st .entry)) m) h (release holder) (releaseReply r) (tablesOf (view (now (w .exit))) (now (st .exit)) m) h) ⌝ }
+pub(crate) fn do_release(
+    p: Params,
+    w: &mut [usize],
+    st: &mut [u8],
+    m: &[u8],
+    heap: &mut [u8],
+    holder: usize,
+) -> ReleaseAnswer
+    requires { ⌜ Known p (length (now w)) (length (now m)) (length (now heap)) ⌝ }
+    ensures { λ r. ⌜ Does p (tablesOf (view (now (w .entry))) (now (st .entry)) (now (m .entry))) (now (heap .entry)) (release holder) (releaseReply r) (tablesOf (view (now (w .exit))) (now (st .exit)) (now (m .entry))) (now (heap .exit)) ⌝ }
 {
     match checks::check_release(w, holder) {
         Tested::Refused(r) => ReleaseAnswer::Refused(r),
         Tested::Passed => {
             let count = release_holder(p, w, st, holder);
+            let swept = eager::eagerly(p, w, st, m, heap, holder);
             let merged = part_released(p, w, holder);
             ReleaseAnswer::Released {
                 blocks: count,
                 merged,
+                swept,
             }
         }
     }
@@ -505,30 +529,38 @@ pub fn release(
     words: &mut [usize],
     states: &mut [u8],
     marks: &[u8],
-    heap: &[u8],
+    heap: &mut [u8],
     holder: usize,
 ) -> ReleaseAnswer
-    ensures { λ r. ⌜ Promised p (lend (now (words .entry)) (now (states .entry)) (now (marks .entry)) (now (heap .entry))) (release holder) (releaseReply r) (lend (now (words .exit)) (now (states .exit)) (now (marks .entry)) (now (heap .entry))) ⌝ }
+    ensures { λ r. ⌜ Promised p (lend (now (words .entry)) (now (states .entry)) (now (marks .entry)) (now (heap .entry))) (release holder) (releaseReply r) (lend (now (words .exit)) (now (states .exit)) (now (marks .entry)) (now (heap .exit))) ⌝ }
 {
     match checks::check_lent(p, words, states, marks, heap) {
         Tested::Refused(r) => ReleaseAnswer::Refused(r),
-        Tested::Passed => do_release(p, words, states, holder),
+        Tested::Passed => do_release(p, words, states, marks, heap, holder),
     }
 }
 
 // The shared part's release.
-pub(crate) fn do_shared_release(p: Params, w: &mut [usize], st: &mut [u8]) -> ReleaseAnswer
-    requires { ⌜ (goodParams p ≡ true) × (headWords ≤ length (now w)) ⌝ }
-    ensures { λ r. ⌜ ((m h : List ℕ) → Does p (tablesOf (view (now (w .entry))) (now (st .entry)) m) h sharedRelease (releaseReply r) (tablesOf (view (now (w .exit))) (now (st .exit)) m) h) ⌝ }
+pub(crate) fn do_shared_release(
+    p: Params,
+    w: &mut [usize],
+    st: &mut [u8],
+    m: &[u8],
+    heap: &mut [u8],
+) -> ReleaseAnswer
+    requires { ⌜ Known p (length (now w)) (length (now m)) (length (now heap)) ⌝ }
+    ensures { λ r. ⌜ Does p (tablesOf (view (now (w .entry))) (now (st .entry)) (now (m .entry))) (now (heap .entry)) sharedRelease (releaseReply r) (tablesOf (view (now (w .exit))) (now (st .exit)) (now (m .entry))) (now (heap .exit)) ⌝ }
 {
     match checks::check_shared_release(w) {
         Tested::Refused(r) => ReleaseAnswer::Refused(r),
         Tested::Passed => {
             let released = sweep_later(p, w, st);
+            let swept = eager::eagerly(p, w, st, m, heap, 0);
             let merged = part_released(p, w, 0);
             ReleaseAnswer::Released {
                 blocks: released,
                 merged,
+                swept,
             }
         }
     }
@@ -539,12 +571,12 @@ pub fn shared_release(
     words: &mut [usize],
     states: &mut [u8],
     marks: &[u8],
-    heap: &[u8],
+    heap: &mut [u8],
 ) -> ReleaseAnswer
-    ensures { λ r. ⌜ Promised p (lend (now (words .entry)) (now (states .entry)) (now (marks .entry)) (now (heap .entry))) sharedRelease (releaseReply r) (lend (now (words .exit)) (now (states .exit)) (now (marks .entry)) (now (heap .entry))) ⌝ }
+    ensures { λ r. ⌜ Promised p (lend (now (words .entry)) (now (states .entry)) (now (marks .entry)) (now (heap .entry))) sharedRelease (releaseReply r) (lend (now (words .exit)) (now (states .exit)) (now (marks .entry)) (now (heap .exit))) ⌝ }
 {
     match checks::check_lent(p, words, states, marks, heap) {
         Tested::Refused(r) => ReleaseAnswer::Refused(r),
-        Tested::Passed => do_shared_release(p, words, states),
+        Tested::Passed => do_shared_release(p, words, states, marks, heap),
     }
 }

@@ -1,7 +1,8 @@
 // Whether tables are sound. Each block is tested by itself (`blocks`), and each list is walked once (`lists`); `parts` is about
 // the phase, the holders and the released marks. The lengths were tested before, so that a word of a block or a list is read
-// with no test of its index (`known`).
+// with no test of its index (`known`). `eager` has what the choice of eager sweeping asks beyond that.
 mod blocks;
+pub(crate) mod eager;
 pub(crate) mod known;
 pub(crate) mod lists;
 mod parts;

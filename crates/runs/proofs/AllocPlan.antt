@@ -6,7 +6,7 @@ use mathlib.Core.List.{List, [], _∷_}
 use Prim.Native.Nat.{ℕ, zero, suc, _+_, _-_, _*_, _/_, _%_, _≤_, _<_}
 use native.Mathlib.Omega.{arith}
 use native.Mathlib.Nat.{le-div-iff-mul-le}
-use lib.Dec.{eqb, ltb, leb}
+use lib.Dec.{eqb, ltb}
 use lib.ListN.{length, getD, set}
 use lib.Seq.{getD-set-same, getD-set-other}
 use borrow.Author.Tests.{eqb-true, eq-eqb, ne-eqb, ltb-true}
@@ -22,22 +22,20 @@ use Rattle.model.specs.Block.{Unmarked, linkAll, initChain, initBlock, cellsDow
 use Rattle.model.specs.Events.{Event, initialised, eventHeap, eventsHeap}
 use Rattle.model.specs.FreeListAllocator.{Found, Search, inFound, acquireFresh, findBlock}
 use Rattle.model.specs.Calls.{alloc, goodOffer, takePlan}
-use Rattle.model.specs.Sound.{stateOf, sound, sizeOk, binNamed, listNamed}
+use Rattle.model.specs.Sound.{stateOf, sound}
 use Rattle.model.specs.Runs.{Book, bookEvent, bookEvents, bookAnswer, takerOf, entered, frees, hits}
 use Rattle.laws.proofs.Base.{and-left, and-right, not-both}
-use Rattle.laws.proofs.Below.{and-three}
 use Rattle.laws.proofs.Params.{Bounds, some-start, blockAt-start}
-use Rattle.laws.proofs.Classes.{cellBytes-some, cellBytes-words}
+use Rattle.laws.proofs.Classes.{cellBytes-words}
 use Rattle.laws.proofs.Tables.{sized-same, kept-lengths, lengths}
 use Rattle.laws.proofs.Memory as Mem
 use Rattle.laws.proofs.Frame.{LinksOnly, links-refl, push-links, push-list, push-first}
 use Rattle.laws.proofs.Walks.{find-keeps}
-use Rattle.soundness.proofs.SoundLists.{sound-parts, block-parts, sound-lists}
-use Rattle.runs.proofs.Links.{Occupied}
+use Rattle.soundness.proofs.SoundLists.{sound-lists}
 use Rattle.runs.proofs.Inv.{was-held, init-core, init-bytes}
 use Rattle.soundness.proofs.Chains.{shadowEvent, shadowEvents}
 use Rattle.runs.proofs.Steps.{isTaken, EventOk, EventsOk, no-events, events-behind, behind, same-bytes}
-use Rattle.runs.proofs.Search.{Settled, wordBin, available-settled, unswept-unsettled, Searching, Ready, Going, Gone, steps}
+use Rattle.runs.proofs.Search.{Settled, class-of, available-settled, unswept-unsettled, Searching, Ready, Going, Gone, steps}
 use Rattle.runs.proofs.Plans.{refusal-some, bookFor, Inv, EndOk, Planned, Serves, set-steady}
 
 module _ (p : Params) (B : Bounds p) (t : Tables) (h : List ℕ) (sh : List (List ℕ)) (bk : Book) (I : Inv p B t h sh bk)
@@ -48,15 +46,6 @@ module _ (p : Params) (B : Bounds p) (t : Tables) (h : List ℕ) (sh : List (Lis
   own = refl
 
   -- the search starts from sound tables
-  class-of : (b : ℕ) → Occupied p (t .states) b → (8 ≤ getD (t .words .size) b 0) × (getD (t .words .size) b 0 ≡ cellBytes p (wordBin (getD (t .words .list) b 0)))
-  unfolding sizeOk binNamed listNamed wordBin stateOf
-  class-of b ob =
-      let s : ℕ = getD (t .words .size) b 0 in
-      let n : ℕ = (getD (t .words .list) b 0 - 1) % 49 in
-      let q = and-three (leb 1 n) (ltb 0 s) (eqb s (cellBytes p n)) (block-parts p t b (sound-parts p t good .blocks b (ob .0)) (ob .1) .size) in
-      let e : s ≡ cellBytes p n = eqb-true _ _ (q .2) in
-      (rw e (cellBytes-some p n (rw e at (ltb-true 0 s (q .1)))), e)
-
   starting : Searching p B (t .states) (t .marks) hd (t .words) h sh bk
   starting =
       record {
@@ -64,8 +53,8 @@ module _ (p : Params) (B : Bounds p) (t : Tables) (h : List ℕ) (sh : List (Lis
         lengths = I .sized;
         core = I .core;
         young = λ c m o. I .young c m o .1;
-        wide = λ b ob. class-of b ob .0;
-        class = λ b ob. class-of b ob .1;
+        wide = λ b ob. class-of p t good b ob .0;
+        class = λ b ob. class-of p t good b ob .1;
         idle = I .idle;
         phase = running;
       }

@@ -19,7 +19,7 @@ use Rattle.model.specs.Events.{Event, eventsHeap}
 use Rattle.model.specs.FreeListAllocator.{findBlock}
 use Rattle.model.specs.Global.{isHolder, isBound}
 use Rattle.model.specs.Base.{if_then_else_}
-use Rattle.model.specs.Sound.{sound, chained, soundOn}
+use Rattle.model.specs.Sound.{sound, eagerOk, chained, soundOn}
 use Rattle.model.specs.Calls.{Call, bind, destroy, alloc, prepare, mark, release, sharedRelease, End, says, takes, Plan, refuses, takePlan, callTests, planPassed, planSound, plan, finish, step}
 use Rattle.model.specs.Runs.{Book, bookEvents, takerOf}
 use Rattle.laws.proofs.Base.{and-left, and-right, if-cases}
@@ -34,9 +34,13 @@ use Rattle.runs.proofs.Plans.{bookFor, Serves, Inv, Taking, EndOk, Plan
 use Rattle.runs.proofs.AllocPlan.{alloc-planned}
 use Rattle.runs.proofs.Finish.{ShadowStep, shadowFinish, StepOk, said-ok, taken-step, step-is, shadow-is, taken-ok}
 
+-- what the tables say of `soundOn`
+abbrev pub soundTables : Params → Tables → Bool
+soundTables p t = sound p t && eagerOk p t
+
 -- what a call's plan is where the chains are sound: the heap does not matter
 unfoldable pub shadowPlan : Params → Tables → Call → Plan
-shadowPlan p t c = if sound p t then planSound p t c else refuses t BadTables
+shadowPlan p t c = if soundTables p t then planSound p t c else refuses t BadTables
 
 -- what its step is by the shadow
 unfoldable pub shadowStep : Params → Tables → List (List ℕ) → Call → ShadowStep
@@ -85,8 +89,8 @@ module _ (p : Params) (fine : goodParams p ≡ true) where
     planned-passed (release d) s e =
         let q = release-passed (t .words) d e in
         let r = bound-range (t .words) d (q .1) in
-        release-planned p B t h sh bk I (q .0) d (r .0) (r .1)
-    planned-passed sharedRelease s e = shared-planned p B t h sh bk I (shared-passed (t .words) e)
+        release-planned p B t h sh bk I s (q .0) d (r .0) (r .1)
+    planned-passed sharedRelease s e = shared-planned p B t h sh bk I s (shared-passed (t .words) e)
 
     planned-sound : (c : Call) → sound p t ≡ true → Planned p B t h sh bk c (planSound p t c)
     planned-sound c s =
@@ -94,14 +98,14 @@ module _ (p : Params) (fine : goodParams p ≡ true) where
 
     planned : (c : Call) → Planned p B t h sh bk c (shadowPlan p t c)
     unfolding shadowPlan
-    planned c = if-cases (λ q. Planned p B t h sh bk c q) (sound p t) (λ s. planned-sound c s) (λ s. refuses-planned p B t h sh bk I c BadTables)
+    planned c = if-cases (λ q. Planned p B t h sh bk c q) (soundTables p t) (λ s. planned-sound c (and-left (sound p t) (eagerOk p t) s)) (λ s. refuses-planned p B t h sh bk I c BadTables)
 
     -- the chains are sound, by the shadow
     pub chains-pass : chained p t h ≡ true
     chains-pass = chained-by p B t h sh (I .core .chains)
 
-    pub sound-same : soundOn p t h ≡ sound p t
-    sound-same = ap (λ (b : Bool). sound p t && b) chains-pass ∙ and-yes (sound p t)
+    pub sound-same : soundOn p t h ≡ soundTables p t
+    sound-same = ap (λ (b : Bool). soundTables p t && b) chains-pass ∙ and-yes (soundTables p t)
 
     plan-is : (c : Call) → plan p t h c ≡ shadowPlan p t c
     unfolding plan shadowPlan

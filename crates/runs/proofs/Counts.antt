@@ -68,8 +68,8 @@ module _ (p : Params) (t : Tables) (h : List ℕ) where
   passed-counts (alloc d size align offset offer) = take-counts d size align offset offer _
   passed-counts prepare = tt
   passed-counts (mark place b) = tt
-  passed-counts (release d) = λ z. refl
-  passed-counts sharedRelease = λ z. refl
+  passed-counts (release d) = λ z. (refl, refl)
+  passed-counts sharedRelease = λ z. (refl, refl)
 
   plan-counts : (c : Call) → Counts c (planSound p t c)
   plan-counts c = plan-cases (Counts c) p t c (λ r b. refuses-counts c r) (λ e. passed-counts c)

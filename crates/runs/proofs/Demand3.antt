@@ -19,7 +19,7 @@ use Rattle.model.specs.Classes.{classesFit}
 use Rattle.model.specs.Events.{sweeps, releases}
 use Rattle.model.specs.Global.{freshWords, freshTables}
 use Rattle.model.specs.Block.{chainStands}
-use Rattle.model.specs.Sound.{sound, soundOn}
+use Rattle.model.specs.Sound.{soundOn}
 use Rattle.model.specs.Calls.{Reply, answered, refused, Call, Step, step, Result, tablesIn, lentOf, resultFrom, setUp, pages, Question, freeCells, cellsOf, ask}
 use Rattle.model.specs.Runs.{Cell, Book, bookAfter, Write, written, Turn, State, foundBy, stepOf, resultOf, bookOf, turned, emptyBook, begun, covers, Holds, HoldersWrite, Seen, seen, seenIn, points, TurnKeeps, RunKeeps, Demand3}
 use Rattle.laws.proofs.Params.{Bounds}
@@ -31,7 +31,7 @@ use Rattle.laws.proofs.Lent.{fits-parts, answered-fits, answered-classes, set-u
 use Rattle.runs.proofs.Inv.{Held, Core}
 use Rattle.runs.proofs.Plans.{Inv}
 use Rattle.runs.proofs.Finish.{ShadowStep, StepOk, held-apart}
-use Rattle.runs.proofs.Calls.{B, shadowStep, sound-same, step-ok}
+use Rattle.runs.proofs.Calls.{B, soundTables, shadowStep, sound-same, step-ok}
 use Rattle.runs.proofs.Counts.{counts}
 
 -- ---- what holders write
@@ -229,7 +229,7 @@ module _ (p : Params) (fine : goodParams p ≡ true) (rows : classesFit p ≡ tr
 
   shadowAsk : Tables → Question → Reply
   shadowAsk t (freeCells bin) =
-      if not (sound p t) then refused BadTables
+      if not (soundTables p t) then refused BadTables
       else if not (leb 1 bin && leb bin lastBin) then refused BadRequest
       else answered (cellsOf p (t .words) bin ∷ [])
 

@@ -4,6 +4,9 @@
 --
 -- A second run, with the same first turns, meets those of `MarkedStays`: the holder leaves after the mark, the shared release is
 -- first and last, and another holder's alloc sweeps the block. The first cell, the departed holder's, is kept; the second is lost.
+--
+-- A third run, with the same turns up to the mark and the choice of eager sweeping on, meets the premises of demand 3: the last release
+-- sweeps the block. The first cell is kept; the second is lost in that release.
 use Prim.Native.Nat.{ℕ}
 use native.Mathlib.Omega.{arith}
 use mathlib.Core.Path.{_≡_, refl, sym, ap, _∙_, subst}
@@ -25,8 +28,8 @@ use Rattle.model.specs.BlockList.{push, popHead, pop, removeBetween, remove, re
 use Rattle.model.specs.Block.{cellCount, isCell, cellsDown, linkAll, initChain, initBlock, simple, keeps, sweepChain, sweptWords, clearBlock, chainFrom, freeChain}
 use Rattle.model.specs.Events.{Event, swept, released, taken, eventHeap, eventsHeap, isSweep, isRelease, sweeps, releases}
 use Rattle.model.specs.FreeListAllocator.{findFreeBlockWith, recycleLocalBlocks, acquireAbandoned, acquireFresh, findBlock}
-use Rattle.model.specs.Global.{freshWords, freshTables, isHolder, isBound, bindHolder, abandonBin, abandonBlocks, abandonedBin, abandonedBelow, abandonedBlocks, destroyHolder, unmarkedState, prepared, markPlace, releaseFrom, releaseBlocks, appendTo, releaseBin, releaseHolder, sweepLaterBin, sweepLater, hasReleased, allReleased, partReleased, merged}
-use Rattle.model.specs.Sound.{stateOf, stateKnown, blockClear, listNamed, binNamed, setNamed, onListNamed, sizeOk, linkOk, tlsOk, blockSound, linkedFrom, linked, ownerEmpty, unboundEmpty, inGcEmpty, phaseKnown, flagsKnown, releasedFew, releasedSome, releasedEmpty, sound, chainCounts, chainOk, chained}
+use Rattle.model.specs.Global.{freshWords, freshTables, isHolder, isBound, bindHolder, abandonBin, abandonBlocks, abandonedBin, abandonedBelow, abandonedBlocks, destroyHolder, unmarkedState, prepared, markPlace, releaseFrom, releaseBlocks, appendTo, leftUnswept, releaseBin, releaseHolder, sweepLaterBin, sweepLater, hasReleased, allReleased, isLast, sweepBlock, sweepAll, recycleFrom, recycleBin, recycleBlocks, sweptEagerly, eagerly, partReleased, merged}
+use Rattle.model.specs.Sound.{stateOf, stateKnown, blockClear, listNamed, binNamed, setNamed, onListNamed, sizeOk, linkOk, tlsOk, blockSound, linkedFrom, linked, ownerEmpty, unboundEmpty, inGcEmpty, phaseKnown, flagsKnown, releasedFew, releasedSome, releasedEmpty, sound, chainCounts, chainOk, onUnswept, releasedBefore, eagerBlock, eagerOk, chained}
 use Rattle.model.specs.Calls.{answered, Call, bind, destroy, alloc, prepare, mark, release, sharedRelease, refusalNumber, goodRequest, tooBig, goodOffer, goodObject, mayLeave, mayRelease, andThen, phaseTest, bindTests, leaveTests, boundTests, requestTests, markTests, releaseTests, sharedTests, callTests, takePlan, releasePlan, planPassed, ifPassed, planSound, plan, takeCell, finish, step, tablesIn, lentOf, call, setUp}
 use Rattle.model.specs.Census.{censusParams, letter, awaitsSweep, printedChain}
 use Rattle.model.specs.Runs.{Cell, frees, entered, bookEvent, bookEvents, bookAnswer, takerOf, bookAfter, Write, written, Turn, State, foundBy, stepOf, resultOf, bookOf, turned, begun, covers, Holds, HoldersWrite, unmarked, staysHeld, byteAt, RunKeeps, Demand3}
@@ -41,6 +44,23 @@ use Rattle.runs.proofs.Port.{ran-chain, ran-turns, demand3-of-the-port}
 
 abbrev p : Params
 p = censusParams
+
+-- the same with the choice of eager sweeping on
+abbrev p′ : Params
+p′ =
+    record {
+      base = p .base;
+      bytes = p .bytes;
+      blocks = p .blocks;
+      min = p .min;
+      max = p .max;
+      offsets = p .offsets;
+      unified = p .unified;
+      lower = p .lower;
+      eager = true;
+      rows = p .rows;
+      count = p .count;
+    }
 
 unfoldable pub heap₀ : List ℕ
 heap₀ = replicate 16384 255
@@ -76,6 +96,12 @@ otherAsk = alloc 2 1024 8 0 Nothing
 
 unfoldable pub afterReleasing : List Turn
 afterReleasing = quiet (bind 2) ∷ quiet otherAsk ∷ []
+
+-- the third run
+unfoldable pub eagerTurns : List Turn
+eagerTurns =
+    quiet (bind 1) ∷ quiet (ask (Fresh (record { 0 = 2 }))) ∷ quiet (ask Nothing)
+    ∷ record { writes = writing ∷ []; call = prepare } ∷ quiet (mark 27648 2) ∷ quiet (release 1) ∷ quiet sharedRelease ∷ []
 
 -- ---- what stands between its turns
 
@@ -185,10 +211,21 @@ third = record { start = 26624; size = 1024; holder = 2; old = false }
 pub left₉ : State
 left₉ = stands (setTls 2 2 (setBound 1 1 (setBound 0 0 (standing 171 0 none 25600 2)))) (states 254) oneMark heap₈ (third ∷ first true ∷ []) (27648 ∷ [])
 
+-- after the fifth turn, with eager sweeping: the release leaves the block available, and the last one sweeps it. List 1347 is in-gc's
+-- available list of this class
+heap₇ : List ℕ
+heap₇ = linkAll p (26624 ∷ 25600 ∷ 24576 ∷ []) heap₄
+
+pub eager₆ : State
+eager₆ = stands (standing 1347 2 one 25600 2) (states 254) oneMark heap₄ (second true ∷ first true ∷ []) (27648 ∷ [])
+
+pub eager₇ : State
+eager₇ = stands (standing 1200 0 none 26624 3) (states 254) oneMark heap₇ (first true ∷ []) (27648 ∷ [])
+
 -- ---- each turn, computed. Who opens `machine` opens all that its line names
 
 machine : Params
-unfolding begun turned foundBy stepOf resultOf bookOf written takerOf bookAfter bookAnswer bookEvents bookEvent entered frees leadingZeros allBelow anyBelow member filter sumBelow eachBelow flag powerOfTwo lowerOk biased plusLower minusLower heapBytes heapEnd goodParams wordCount fits start blockAt inHeap isStart listOf listWord localSets available unswept consumed loadBytes bytesOf overwrite load store zeroed bitOf setBit markIndex marked setMark cleared view flat setFirst setLast setBound setReleased setNext setPrev setFree setSize setList setTls setCells setPhase withReleased fours classWords classBytes wordsIn highestBit binInOctave miBin binOf cellBytes classesFit raised shift alignAllocation push pop popHead removeBetween remove relabel link append walk blocksOn cellCount isCell cellsDown headD linkAll initChain initBlock simple keeps sweepChain sweptWords clearBlock eventHeap eventsHeap isSweep isRelease sweeps releases findFreeBlockWith recycleLocalBlocks acquireAbandoned acquireFresh findBlock freshWords freshTables isHolder isBound bindHolder abandonBin abandonBlocks destroyHolder unmarkedState prepared markPlace releaseFrom releaseBlocks appendTo releaseBin releaseHolder sweepLaterBin sweepLater hasReleased allReleased partReleased stateOf stateKnown blockClear listNamed binNamed setNamed onListNamed sizeOk linkOk tlsOk blockSound linkedFrom linked ownerEmpty unboundEmpty inGcEmpty phaseKnown flagsKnown releasedFew releasedSome releasedEmpty sound chainCounts chainOk chained refusalNumber goodRequest tooBig goodOffer goodObject mayRelease andThen phaseTest bindTests boundTests requestTests markTests releaseTests sharedTests callTests takePlan releasePlan planPassed ifPassed planSound plan takeCell finish step call setUp censusParams after₀ after₁ after₂ after₃ after₄ after₅ after₆ after₇ after₈ standing states none one noMarks oneMark heap₀ heap₂ heap₃ heap₄ heap₈ lent chainFrom freeChain letter awaitsSweep printedChain appended abandonedBin abandonedBelow abandonedBlocks merged mayLeave leaveTests left₆ left₇ left₈ left₉
+unfolding begun turned foundBy stepOf resultOf bookOf written takerOf bookAfter bookAnswer bookEvents bookEvent entered frees leadingZeros allBelow anyBelow member filter sumBelow eachBelow flag powerOfTwo lowerOk biased plusLower minusLower heapBytes heapEnd goodParams wordCount fits start blockAt inHeap isStart listOf listWord localSets available unswept consumed loadBytes bytesOf overwrite load store zeroed bitOf setBit markIndex marked setMark cleared view flat setFirst setLast setBound setReleased setNext setPrev setFree setSize setList setTls setCells setPhase withReleased fours classWords classBytes wordsIn highestBit binInOctave miBin binOf cellBytes classesFit raised shift alignAllocation push pop popHead removeBetween remove relabel link append walk blocksOn cellCount isCell cellsDown headD linkAll initChain initBlock simple keeps sweepChain sweptWords clearBlock eventHeap eventsHeap isSweep isRelease sweeps releases findFreeBlockWith recycleLocalBlocks acquireAbandoned acquireFresh findBlock freshWords freshTables isHolder isBound bindHolder abandonBin abandonBlocks destroyHolder unmarkedState prepared markPlace releaseFrom releaseBlocks appendTo leftUnswept releaseBin releaseHolder sweepLaterBin sweepLater hasReleased allReleased partReleased isLast sweepBlock sweepAll recycleFrom recycleBin recycleBlocks sweptEagerly eagerly stateOf stateKnown blockClear listNamed binNamed setNamed onListNamed sizeOk linkOk tlsOk blockSound linkedFrom linked ownerEmpty unboundEmpty inGcEmpty phaseKnown flagsKnown releasedFew releasedSome releasedEmpty sound chainCounts chainOk chained onUnswept releasedBefore eagerBlock eagerOk refusalNumber goodRequest tooBig goodOffer goodObject mayRelease andThen phaseTest bindTests boundTests requestTests markTests releaseTests sharedTests callTests takePlan releasePlan planPassed ifPassed planSound plan takeCell finish step call setUp censusParams after₀ after₁ after₂ after₃ after₄ after₅ after₆ after₇ after₈ standing states none one noMarks oneMark heap₀ heap₂ heap₃ heap₄ heap₈ lent chainFrom freeChain letter awaitsSweep printedChain appended abandonedBin abandonedBelow abandonedBlocks merged mayLeave leaveTests left₆ left₇ left₈ left₉ heap₇ eager₆ eager₇
 machine = censusParams
 
 set-up : begun p lent ≡ after₀
@@ -443,3 +480,74 @@ left-lost = rw other-events
 pub left-after : left₉ .book .cells ≡ third ∷ first true ∷ []
 unfolding left₉
 left-after = refl
+
+-- ---- R-8: the third run
+
+eager-set-up : begun p′ lent ≡ after₀
+unfolding machine
+eager-set-up = refl
+
+eager-turn₁ : turned p′ after₀ (quiet (bind 1)) ≡ after₁
+unfolding machine
+eager-turn₁ = refl
+
+eager-turn₂ : turned p′ after₁ (quiet (ask (Fresh (record { 0 = 2 })))) ≡ after₂
+unfolding machine
+eager-turn₂ = refl
+
+eager-turn₃ : turned p′ after₂ (quiet (ask Nothing)) ≡ after₃
+unfolding machine
+eager-turn₃ = refl
+
+eager-turn₄ : turned p′ after₃ (record { writes = writing ∷ []; call = prepare }) ≡ after₄
+unfolding machine
+eager-turn₄ = refl
+
+eager-turn₅ : turned p′ after₄ (quiet (mark 27648 2)) ≡ after₅
+unfolding machine
+eager-turn₅ = refl
+
+eager-turn₆ : turned p′ after₅ (quiet (release 1)) ≡ eager₆
+unfolding machine
+eager-turn₆ = refl
+
+eager-turn₇ : turned p′ eager₆ (quiet sharedRelease) ≡ eager₇
+unfolding machine
+eager-turn₇ = refl
+
+pub eager-writes : HoldersWrite p′ (begun p′ lent) eagerTurns
+unfolding eagerTurns
+eager-writes =
+    subst (λ (x : State). HoldersWrite p′ x eagerTurns) (sym eager-set-up)
+    (quiet-turn p′ _ _ _ _ eager-turn₁ (quiet-turn p′ _ _ _ _ eager-turn₂ (quiet-turn p′ _ _ _ _ eager-turn₃
+    (writing-turn p′ _ _ _ _ _ held eager-turn₄ (quiet-turn p′ _ _ _ _ eager-turn₅ (quiet-turn p′ _ _ _ _ eager-turn₆
+    (quiet-turn p′ _ _ _ _ eager-turn₇ (nothing-left p′ eager₇))))))))
+
+pub eager-answers : setUp p′ lent .reply ≡ answered []
+unfolding machine
+eager-answers = refl
+
+-- so the theorem speaks of this run
+pub eager-run-keeps : RunKeeps p′ (begun p′ lent) eagerTurns
+unfolding Demand3
+eager-run-keeps = demand3 p′ lent lent eagerTurns eagerTurns eager-answers eager-answers eager-writes eager-writes refl .1
+
+-- the last release swept block 2, and answered so: none released, one merged, one swept
+abbrev lastRelease : List Event
+lastRelease = stepOf p′ eager₆ (quiet sharedRelease) .events
+
+pub eager-events : lastRelease ≡ swept 2 (26624 ∷ 25600 ∷ 24576 ∷ []) ∷ []
+unfolding machine
+eager-events = refl
+
+pub eager-said : resultOf p′ eager₆ (quiet sharedRelease) .reply ≡ answered (0 ∷ 1 ∷ 1 ∷ [])
+unfolding machine
+eager-said = refl
+
+pub eager-kept : staysHeld p′ lastRelease (first true) ≡ true
+unfolding staysHeld any frees member
+eager-kept = rw eager-events
+
+pub eager-lost : staysHeld p′ lastRelease (second true) ≡ false
+unfolding staysHeld any frees member
+eager-lost = rw eager-events

@@ -16,15 +16,15 @@ use Rattle.model.specs.Calls.{refusalNumber, Call, step, Result}
 use Rattle.model.specs.Refusals.{NoBadTables}
 use Rattle.model.specs.Runs.{Book, bookAfter, written, Turn, State, emptyBook, begun, HoldersWrite, Seen, seenIn}
 use Rattle.laws.proofs.Lent.{fits-parts, answered-fits, answered-classes, set-up-is}
-use Rattle.soundness.proofs.Kept.{Kept, fresh-kept, step-kept}
+use Rattle.soundness.proofs.Kept.{Sound, kept-sound, fresh-sound, sound-on, step-sound}
 use Rattle.soundness.proofs.Replies.{never-bad}
 use Rattle.runs.proofs.Plans.{Inv}
 use Rattle.runs.proofs.Finish.{StepOk}
-use Rattle.runs.proofs.Calls.{shadowStep, sound-same}
+use Rattle.runs.proofs.Calls.{shadowStep, chains-pass}
 use Rattle.runs.proofs.Demand3.{bounds, stateOf, J, S, result-of, turn-of, fresh-inv}
 
 module _ (p : Params) (fine : goodParams p ≡ true) (rows : classesFit p ≡ true) where
-  never : (us : List Turn) (t : Tables) (h : List ℕ) (sh : List (List ℕ)) (bk : Book) → Inv p (bounds p fine rows) t h sh bk → Kept p (bounds p fine rows) t
+  never : (us : List Turn) (t : Tables) (h : List ℕ) (sh : List (List ℕ)) (bk : Book) → Inv p (bounds p fine rows) t h sh bk → Sound p (bounds p fine rows) t h
       → HoldersWrite p (stateOf p fine rows t h bk) us → (x : Seen) → In x (seenIn p (stateOf p fine rows t h bk) us) → x .reply .number ≢ 2
   unfolding seenIn HoldersWrite In
   never [] t h sh bk I K H x m = absurd m
@@ -34,11 +34,12 @@ module _ (p : Params) (fine : goodParams p ≡ true) (rows : classesFit p ≡ tr
       let e = turn-of p fine rows t h sh bk I u (H .0) in
       let O : StepOk p (bounds p fine rows) g bk c (step p t g c) (shadowStep p t sh c) = S p fine rows t h sh bk I u (H .0) in
       let G : Inv p (bounds p fine rows) t g sh bk = J p fine rows t h sh bk I u (H .0) in
+      let N : Sound p (bounds p fine rows) t g = kept-sound p (bounds p fine rows) t g (K .kept) (G .core .chains .heap) (K .eager) (chains-pass p fine rows t g sh bk G) in
       ⊎-elim
-      (λ q z. never-bad p t g c (sound-same p fine rows t g sh bk G ∙ K .passes)
+      (λ q z. never-bad p t g c (sound-on p (bounds p fine rows) t g N)
       (sym (ap (λ (r : Result). r .reply .number) (result-of p fine rows t h sh bk I u (H .0))) ∙ sym (ap (λ (y : Seen). y .reply .number) q) ∙ z))
       (λ i. never us (step p t g c .tables) (step p t g c .heap) (shadowStep p t sh c .shadow) (bookAfter p c (step p t g c) bk) (O .inv)
-      (step-kept p (bounds p fine rows) rows t g c (G .core .chains .heap) K) (subst (λ (y : State). HoldersWrite p y us) e (H .1)) x
+      (step-sound p (bounds p fine rows) rows t g c N) (subst (λ (y : State). HoldersWrite p y us) e (H .1)) x
       (subst (λ (y : State). In x (seenIn p y us)) e i)) m
 
 pub no-bad-tables : NoBadTables
@@ -49,5 +50,5 @@ no-bad-tables p l us e H x m =
     let rows : classesFit p ≡ true = answered-classes p l e in
     let at : begun p l ≡ stateOf p fine rows (freshTables p) (l .heap) emptyBook =
     ap (λ (x : Result). record { lent = x .lent; book = emptyBook }) (set-up-is p l f rows) in
-    never p fine rows us (freshTables p) (l .heap) (replicate (p .blocks) []) emptyBook (fresh-inv p fine rows (l .heap) (fits-parts p l f .1)) (fresh-kept p (bounds p fine rows))
+    never p fine rows us (freshTables p) (l .heap) (replicate (p .blocks) []) emptyBook (fresh-inv p fine rows (l .heap) (fits-parts p l f .1)) (fresh-sound p (bounds p fine rows) (l .heap) (fits-parts p l f .1))
     (subst (λ (y : State). HoldersWrite p y us) at H) x (subst (λ (y : State). In x (seenIn p y us)) at m)

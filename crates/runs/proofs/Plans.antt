@@ -19,24 +19,26 @@ use Rattle.model.specs.Memory.{marked}
 use Rattle.model.specs.Tables.{Words, Tables, setFirst, setLast, setBound, setReleased, setPhase, withReleased, setFree, setSize, setNext, setPrev, setList, setTls, setCells}
 use Rattle.model.specs.SizeClasses.{alignAllocation}
 use Rattle.model.specs.BlockList.{append, remove, relabel, link}
-use Rattle.model.specs.Block.{Marked, clearBlock}
-use Rattle.model.specs.Events.{released, eventHeap, eventsHeap}
-use Rattle.model.specs.Global.{bindHolder, destroyHolder, abandonBin, abandonBlocks, unmarkedState, prepared, markPlace, Freed, freed, releaseBlocks, appendTo, releaseBin, releaseHolder, sweepLaterBin, sweepLater, partReleased, allReleased}
+use Rattle.model.specs.Block.{Marked, sweptWords, clearBlock}
+use Rattle.model.specs.Events.{Event, released, eventHeap, eventsHeap}
+use Rattle.model.specs.FreeListAllocator.{sweepOf}
+use Rattle.model.specs.Global.{bindHolder, destroyHolder, abandonBin, abandonBlocks, unmarkedState, prepared, markPlace, Freed, freed, releaseBlocks, appendTo, releaseBin, releaseHolder, sweepLaterBin, sweepLater, recycleBlocks, eagerly, partReleased, allReleased}
 use Rattle.model.specs.Calls.{refusalNumber, Reply, refused, Call, bind, destroy, alloc, prepare, mark, release, sharedRelease, End, says, takes, Plan, refuses, changes, goodObject, mayRelease, releasePlan}
-use Rattle.model.specs.Sound.{stateOf}
+use Rattle.model.specs.Sound.{stateOf, sound}
 use Rattle.model.specs.Runs.{Cell, Book, aged, bookEvent, bookEvents, bookAnswer, takerOf, frees, entered, hits, unmarked}
 use Rattle.laws.proofs.Base.{and-left, and-right, in-filter, if-false, if-cases, member-in, or-left, or-cases, bool-cases, not-both}
 use Rattle.laws.proofs.Params.{Bounds, blockAt-within}
 use Rattle.laws.proofs.Tables.{Sized, sized-same, kept-lengths}
 use Rattle.laws.proofs.Memory as Mem
 use Rattle.laws.proofs.Marks.{marked-cleared, length-setMark, length-cleared, bytes-setMark, bytes-cleared, marked-setMark}
-use Rattle.laws.proofs.Frame.{LinksOnly, links-refl, append-links, remove-links, each-keeps, FirstsBut, link-list, append-first, append-none, relabel-keeps}
-use Rattle.laws.proofs.Walks.{releasedOne, blocks-keep-any, bins-keep-any, later-keeps-any}
-use Rattle.soundness.proofs.Owners.{unswept-numbered, abandon-links, abandon-framed, holder-framed, holder-empties, shared-framed}
-use Rattle.runs.proofs.Inv.{Held, Placed, Core, release-core, release-unmarked}
+use Rattle.laws.proofs.Frame.{LinksOnly, links-refl, push-links, append-links, remove-links, each-keeps, FirstsBut, link-list, append-first, append-none, relabel-keeps}
+use Rattle.laws.proofs.Walks.{releasedOne, blocks-keep-any, bins-keep-any, later-keeps-any, sweptOne, all-keeps, recycle-keeps-any, eagerly-keeps}
+use Rattle.soundness.proofs.Owners.{unswept-numbered, abandon-links, abandon-framed, holder-framed, holder-empties, shared-framed, eagerly-framed}
+use Rattle.runs.proofs.Links.{Occupied}
+use Rattle.runs.proofs.Inv.{Held, Placed, Core, sweep-core, in-range, release-core, release-unmarked}
 use Rattle.soundness.proofs.Chains.{set-cases, shadowEvent, shadowEvents}
 use Rattle.runs.proofs.Steps.{isTaken, EventOk, EventsOk, no-events, events-behind, behind}
-use Rattle.runs.proofs.Search.{Settled, Idle, available-settled, consumed-settled, unswept-unsettled}
+use Rattle.runs.proofs.Search.{Settled, Idle, available-settled, consumed-settled, unswept-unsettled, class-of, swept-ok}
 
 -- no refusal has the number 0
 pub refusal-some : (r : Refusal) → eqb (refusalNumber r) 0 ≡ false
@@ -324,14 +326,21 @@ module _ (p : Params) (B : Bounds p) where
                     state = ⊎-elim (λ z. z .1) (λ z. z .1 ∙ P .state) (set-cases (t .states) b Marked 0 (blockAt p (minusLower p q)) room);
                   }
 
-  -- ---- blocks are released: every cell is old by then
+  -- ---- blocks are released, and with eager sweeping swept: every cell is old by then
 
   -- the invariant on the way through a release
   pub record Freeing (hd : ℕ) (ms h : List ℕ) (sh : List (List ℕ)) (bk : Book) (f : Freed) : Type 0 where
     pub events : EventsOk p B hd (f .events) h bk
     pub core : Core p (f .words .free) (f .words .size) (f .words .cells) (f .states) ms (eventsHeap p (f .events) h) (shadowEvents (f .events) sh) (bookEvents p hd (f .events) bk)
     pub sized : Sized (p .blocks) (f .words)
+    -- cells that a sweep frees have room for a link
+    pub wide : (b : ℕ) → Occupied p (f .states) b → 8 ≤ getD (f .words .size) b 0
     pub old : (c : Cell) → In c (bookEvents p hd (f .events) bk .cells) → c .old ≡ true
+
+  -- recycling changes the links and list words of blocks, and the ends of lists
+  recycle-links : (owner : ℕ) (w : Words) → LinksOnly w (recycleBlocks p owner w)
+  recycle-links owner w =
+      recycle-keeps-any p (LinksOnly w) (λ avail full b v L. push-links p avail b (remove p full b v) (remove-links p full b v L)) owner w (links-refl w)
 
   module _ (hd : ℕ) (ms : List ℕ) where
     -- a release frees out every cell of its block, all of them unmarked and old
@@ -348,21 +357,22 @@ module _ (p : Params) (B : Bounds p) where
         both c m (yes e) = rw (eq-eqb _ _ e, release-unmarked p B free size cells st ms h sh bk I b un hd c m e)
         both c m (no f) = rw (ne-eqb _ _ f)
 
-    -- cells that were old are old after a release
-    old-after : (b : ℕ) (bk : Book) → ((c : Cell) → In c (bk .cells) → c .old ≡ true) → (c : Cell) → In c (bookEvent p hd (released b) bk .cells) → c .old ≡ true
-    unfolding bookEvent entered
-    old-after b bk old c m = old c (in-filter (λ (x : Cell). not (frees p (released b) x)) c (bk .cells) m .0)
+    -- cells that were old are old after an event that enters none
+    old-after : (e : Event) → ((cs : List Cell) → entered hd e cs ≡ cs) → (bk : Book) → ((c : Cell) → In c (bk .cells) → c .old ≡ true)
+        → (c : Cell) → In c (bookEvent p hd e bk .cells) → c .old ≡ true
+    unfolding bookEvent
+    old-after e same bk old c m = old c (in-filter (λ (x : Cell). not (frees p e x)) c (bk .cells) (subst (In c) (same _) m) .0)
 
     nothing-freed : (w : Words) (st h : List ℕ) (sh : List (List ℕ)) (bk : Book) → Core p (w .free) (w .size) (w .cells) st ms h sh bk → Sized (p .blocks) w
-        → ((c : Cell) → In c (bk .cells) → c .old ≡ true) → Freeing hd ms h sh bk (freed w st)
+        → ((b : ℕ) → Occupied p st b → 8 ≤ getD (w .size) b 0) → ((c : Cell) → In c (bk .cells) → c .old ≡ true) → Freeing hd ms h sh bk (freed w st)
     unfolding eventsHeap shadowEvents bookEvents
-    nothing-freed w st h sh bk I z old = record { events = no-events p B hd h bk; core = I; sized = z; old = old }
+    nothing-freed w st h sh bk I z wide old = record { events = no-events p B hd h bk; core = I; sized = z; wide = wide; old = old }
 
     -- ---- rows of releases and appends
 
     module _ (h : List ℕ) (sh : List (List ℕ)) (bk : Book) where
       one-freed : (l b : ℕ) (f : Freed) → Freeing hd ms h sh bk f → getD (f .states) b 0 ≡ 255 → Freeing hd ms h sh bk (releasedOne p l b f)
-      unfolding isTaken eventHeap shadowEvent clearBlock setCells setTls setList setSize setFree setPrev setNext
+      unfolding isTaken entered eventHeap shadowEvent clearBlock setCells setTls setList setSize setFree setPrev setNext
       one-freed l b f F un =
           let L : LinksOnly (f .words) (remove p l b (f .words)) = remove-links p l b (f .words) (links-refl (f .words)) in
           record {
@@ -370,25 +380,37 @@ module _ (p : Params) (B : Bounds p) where
             core = behind p B hd (Core p (R .free) (R .size) (R .cells) (set (f .states) b 0) ms) (f .events) (released b) h sh bk
                 (rw (L .free, L .size, L .cells) (release-core p B (f .words .free) (f .words .size) (f .words .cells) (f .states) ms _ _ _ (F .core) b un hd));
             sized = sized-same (simp kept-lengths (L .lengths)) (F .sized);
-            old = behind p B hd (λ g c k. (d : Cell) → In d (k .cells) → d .old ≡ true) (f .events) (released b) h sh bk (old-after b _ (F .old));
+            wide = λ d od. rw (L .size) (wide-of d od);
+            old = behind p B hd (λ g c k. (d : Cell) → In d (k .cells) → d .old ≡ true) (f .events) (released b) h sh bk (old-after (released b) (λ cs. refl) _ (F .old));
           }
         where
           R : Words
           R = clearBlock b (remove p l b (f .words))
 
+          -- a block that is occupied still is another
+          wide-of : (d : ℕ) → Occupied p (set (f .states) b 0) d → 8 ≤ getD (set (f .words .size) b 0) d 0
+          wide-of d od = ⊎-elim
+              (λ e. absurd (od .1 (e .1)))
+              (λ e. rw (getD-set-other (f .words .size) b d 0 0 (e .0)) (F .wide d (od .0, λ z. od .1 (e .1 ∙ z))))
+              (set-cases (f .states) b 0 0 d (omega (arith, od .0, F .core .states, in-range p B (f .words .free) (f .words .size) (f .words .cells) (f .states) ms _ _ _ (F .core) b un hd)))
+
       pub release-freeing : (l : ℕ) (f : Freed) → Freeing hd ms h sh bk f → Freeing hd ms h sh bk (releaseBlocks p l f)
       release-freeing l = blocks-keep-any p l (Freeing hd ms h sh bk) (λ b f F un. one-freed l b f F un)
 
-      pub append-freeing : (l o : ℕ) (f : Freed) → Freeing hd ms h sh bk f → Freeing hd ms h sh bk (appendTo p l o f)
-      unfolding appendTo
-      append-freeing l o f F =
-          let L : LinksOnly (f .words) (append p l o (f .words)) = append-links p l o (f .words) (links-refl (f .words)) in
+      -- only links and list words change
+      links-freeing : (f : Freed) (w : Words) → LinksOnly (f .words) w → Freeing hd ms h sh bk f → Freeing hd ms h sh bk (record { words = w; states = f .states; events = f .events })
+      links-freeing f w L F =
           record {
             events = F .events;
             core = rw (L .free, L .size, L .cells) (F .core);
             sized = sized-same (L .lengths) (F .sized);
+            wide = λ b ob. rw (L .size) (F .wide b ob);
             old = F .old;
           }
+
+      pub append-freeing : (l o : ℕ) (f : Freed) → Freeing hd ms h sh bk f → Freeing hd ms h sh bk (appendTo p l o f)
+      unfolding appendTo
+      append-freeing l o f F = links-freeing f _ (append-links p l o (f .words) (links-refl (f .words))) F
 
       -- the holder's lists, and the abandoned ones
       holder-freeing : (owner : ℕ) (f : Freed) → Freeing hd ms h sh bk f → Freeing hd ms h sh bk (eachBelow bins (releaseBin p owner) f)
@@ -396,6 +418,30 @@ module _ (p : Params) (B : Bounds p) where
 
       shared-freeing : (f : Freed) → Freeing hd ms h sh bk f → Freeing hd ms h sh bk (eachBelow bins (sweepLaterBin p) f)
       shared-freeing = later-keeps-any p (Freeing hd ms h sh bk) release-freeing append-freeing
+
+      -- ---- the end of a collection with eager sweeping
+
+      one-swept : (b : ℕ) → b < p .blocks → (f : Freed) → Freeing hd ms h sh bk f → getD (f .states) b 0 ≢ 0 → Freeing hd ms h sh bk (sweptOne p ms b f)
+      unfolding isTaken entered eventHeap shadowEvent sweptWords setFree setCells
+      one-swept b low f F occ =
+          let word : 8 ≤ getD (f .words .size) b 0 = F .wide b (low, occ) in
+          let e : Event = sweepOf p ms b (f .words) in
+          record {
+            events = events-behind p B hd (f .events) e h bk (F .events) refl (swept-ok p B (f .states) ms hd (f .words) _ _ _ (F .core) b (low, occ) word (λ c m q. F .old c m));
+            core = behind p B hd (Core p (R .free) (R .size) (R .cells) (f .states) ms) (f .events) e h sh bk
+                (sweep-core p B (f .words .free) (f .words .size) (f .words .cells) (f .states) ms _ _ _ (F .core) b low _ occ word refl hd);
+            sized = sized-same (simp kept-lengths) (F .sized);
+            wide = F .wide;
+            old = behind p B hd (λ g c k. (d : Cell) → In d (k .cells) → d .old ≡ true) (f .events) e h sh bk (old-after e (λ cs. refl) _ (F .old));
+          }
+        where
+          R : Words
+          R = sweptWords p ms b (f .words)
+
+      eager-freeing : (part : ℕ) (f : Freed) → Freeing hd ms h sh bk f → Freeing hd ms h sh bk (eagerly p ms part f)
+      eager-freeing part =
+          eagerly-keeps p ms part (Freeing hd ms h sh bk) (λ f F on. all-keeps p ms (Freeing hd ms h sh bk) one-swept f F)
+          (λ f owner F on o. links-freeing f _ (recycle-links owner (f .words)) F)
 
   -- ---- destroy: available and consumed blocks go over; there are no unswept ones
 
@@ -471,6 +517,12 @@ module _ (p : Params) (B : Bounds p) where
 
   -- ---- release and shared release
 
+  -- a holder's unswept lists are none of those that the end of a collection changes
+  eager-idle : (ms : List ℕ) (part : ℕ) (f : Freed) → Idle (f .words) → Idle (eagerly p ms part f .words)
+  eager-idle ms part f idle = λ j n lj ln.
+      let o : unswept (3 * j) n / 147 ≡ j = unswept-numbered j n (omega arith) ln .owner in
+      eagerly-framed p ms part f .first (unswept (3 * j) n) (omega arith) (omega arith) ∙ idle j n lj ln
+
   -- ---- a part has released
 
   pub record Ended (w w′ : Words) : Type 0 where
@@ -505,7 +557,7 @@ module _ (p : Params) (B : Bounds p) where
           }
 
   module _ (t : Tables) (h : List ℕ) (sh : List (List ℕ)) (bk : Book) (I : Inv t h sh bk)
-      (late : mayRelease (t .words) ≡ true) where
+      (good : sound p t ≡ true) (late : mayRelease (t .words) ≡ true) where
     -- a collection runs, so every cell is old
     all-old : (c : Cell) → In c (bk .cells) → c .old ≡ true
     unfolding mayRelease
@@ -517,15 +569,21 @@ module _ (p : Params) (B : Bounds p) where
             let z = I .young c m e .0 in
             absurd (⊎-elim (λ y. omega (arith, eqb-true (t .words .phase) 1 y, z)) (λ y. omega (arith, eqb-true (t .words .phase) 2 y, z)) (or-cases (eqb (t .words .phase) 1) (eqb (t .words .phase) 2) late))
 
-    -- blocks were released, and a part is done
-    part-planned : (c : Call) (part : ℕ) (f : Freed) → bookAnswer c (bookEvents p (takerOf c) (f .events) bk) ≡ bookEvents p (takerOf c) (f .events) bk
+    -- nothing is released yet
+    starting : (hd : ℕ) → Freeing hd (t .marks) h sh bk (freed (t .words) (t .states))
+    starting hd = nothing-freed hd (t .marks) (t .words) (t .states) h sh bk (I .core) (I .sized) (λ b ob. class-of p t good b ob .0) all-old
+
+    -- blocks were released, and with eager sweeping in the last part all swept, and a part is done
+    part-planned : (c : Call) (part : ℕ) (f : Freed) → ((k : Book) → bookAnswer c k ≡ k)
         → Freeing (takerOf c) (t .marks) h sh bk f → Idle (f .words) → ((w : Words) (r : Reply) → Serves c w (says r)) → Planned t h sh bk c (releasePlan p part t f)
     unfolding EndOk releasePlan bookFor
-    part-planned c part f same F idle serves =
-        let E : Ended (f .words) (partReleased p part (f .words)) = part-ended part (f .words) (F .sized) idle in
+    part-planned c part f same F₀ idle serves =
+        let g : Freed = eagerly p (t .marks) part f in
+        let F : Freeing (takerOf c) (t .marks) h sh bk g = eager-freeing (takerOf c) (t .marks) h sh bk part f F₀ in
+        let E : Ended (g .words) (partReleased p part (g .words)) = part-ended part (g .words) (F .sized) (eager-idle (t .marks) part f idle) in
         record {
           events = F .events;
-          inv = rw same (record {
+          inv = rw (same (bookEvents p (takerOf c) (g .events) bk)) (record {
             core = rw (E .free, E .size, E .cells) (F .core);
             sized = E .sized;
             young = λ d m o. absurd (not-both true refl (sym (F .old d m) ∙ o));
@@ -538,13 +596,8 @@ module _ (p : Params) (B : Bounds p) where
     pub release-planned : (d : ℕ) → 1 ≤ d → d ≤ 8 → Planned t h sh bk (release d) (releasePlan p d t (releaseHolder p d (t .words) (t .states)))
     unfolding EndOk Serves bookAnswer releaseHolder localSets
     release-planned d lo hi =
-        part-planned (release d) d (releaseHolder p d (t .words) (t .states)) refl
-        (record {
-          events = F .events;
-          core = rw (L .free, L .size, L .cells) (F .core);
-          sized = sized-same (L .lengths) (F .sized);
-          old = F .old;
-        })
+        part-planned (release d) d (releaseHolder p d (t .words) (t .states)) (λ k. refl)
+        (links-freeing (takerOf (release d)) (t .marks) h sh bk f _ (abandon-links p inGc (localSets d) (f .words)) F)
         (λ j n lj ln. idle-of j n lj ln (ℕ-discrete j (d - 1)))
         (λ w e. tt)
       where
@@ -552,10 +605,7 @@ module _ (p : Params) (B : Bounds p) where
         f = eachBelow bins (releaseBin p (localSets d)) (freed (t .words) (t .states))
 
         F : Freeing (takerOf (release d)) (t .marks) h sh bk f
-        F = holder-freeing (takerOf (release d)) (t .marks) h sh bk (localSets d) _ (nothing-freed (takerOf (release d)) (t .marks) (t .words) (t .states) h sh bk (I .core) (I .sized) all-old)
-
-        L : LinksOnly (f .words) (abandonBlocks p inGc (localSets d) (f .words))
-        L = abandon-links p inGc (localSets d) (f .words)
+        F = holder-freeing (takerOf (release d)) (t .marks) h sh bk (localSets d) _ (starting (takerOf (release d)))
 
         -- the holder's own lists are empty now, those of others stay
         idle-of : (j n : ℕ) → j < 8 → n < 49 → Dec (j ≡ d - 1) → getD (abandonBlocks p inGc (3 * (d - 1)) (f .words) .first) (unswept (3 * j) n) 0 ≡ 0
@@ -568,8 +618,8 @@ module _ (p : Params) (B : Bounds p) where
     pub shared-planned : Planned t h sh bk sharedRelease (releasePlan p 0 t (sweepLater p (t .words) (t .states)))
     unfolding EndOk Serves bookAnswer sweepLater
     shared-planned =
-        part-planned sharedRelease 0 (sweepLater p (t .words) (t .states)) refl
-        (shared-freeing (takerOf sharedRelease) (t .marks) h sh bk _ (nothing-freed (takerOf sharedRelease) (t .marks) (t .words) (t .states) h sh bk (I .core) (I .sized) all-old))
+        part-planned sharedRelease 0 (sweepLater p (t .words) (t .states)) (λ k. refl)
+        (shared-freeing (takerOf sharedRelease) (t .marks) h sh bk _ (starting (takerOf sharedRelease)))
         (λ j n lj ln.
         let o : unswept (3 * j) n / 147 ≡ j = unswept-numbered j n (omega arith) ln .owner in
         shared-framed p (t .words) (t .states) .first (unswept (3 * j) n) (omega arith) (omega arith) ∙ I .idle j n lj ln)

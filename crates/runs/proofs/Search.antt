@@ -6,26 +6,30 @@ use mathlib.Core.List.{List, [], _∷_, _++_}
 use Prim.Native.Nat.{ℕ, _-_, _*_, _/_, _%_, _≤_, _<_}
 use native.Mathlib.Omega.{arith}
 use native.Mathlib.Decide.{ℕ-discrete}
-use lib.Dec.{eqb}
+use lib.Dec.{eqb, ltb, leb}
 use lib.ListN.{getD, set}
 use lib.Seq.{getD-set-other}
-use borrow.Author.Tests.{eqb-true}
+use borrow.Author.Tests.{eqb-true, ltb-true}
 use Rattle.model.specs.declared.Params.{Params}
 use Rattle.model.specs.Base.{In}
 use Rattle.model.specs.Params.{start, blockAt, listWord, listOf, available, unswept, consumed, localSets}
-use Rattle.model.specs.Tables.{Words, setFree, setTls, setCells}
+use Rattle.model.specs.Tables.{Words, Tables, setFree, setTls, setCells}
 use Rattle.model.specs.SizeClasses.{cellBytes}
 use Rattle.model.specs.BlockList.{Popped, push, pop}
 use Rattle.model.specs.Block.{linkAll, sweepChain, sweptWords}
 use Rattle.model.specs.Events.{Event, eventHeap, eventsHeap}
 use Rattle.model.specs.FreeListAllocator.{sweepOf}
+use Rattle.model.specs.Sound.{stateOf, sound, sizeOk, binNamed, listNamed}
 use Rattle.model.specs.Runs.{Cell, Book, bookEvent, bookEvents, frees, entered, hits, unmarked}
 use Rattle.laws.proofs.Base.{and-left}
+use Rattle.laws.proofs.Below.{and-three}
+use Rattle.laws.proofs.Classes.{cellBytes-some}
 use Rattle.laws.proofs.Tables.{Sized, sized-same, kept-lengths}
 use Rattle.laws.proofs.Params.{Bounds, some-start, blockAt-start}
 use Rattle.laws.proofs.Frame.{LinksOnly, links-refl, push-links, pop-links, FirstsBut, pop-firsts, push-first}
 use Rattle.laws.proofs.Walks.{Files, Steps}
 use Rattle.soundness.proofs.Owners.{available-numbered, unswept-numbered, consumed-numbered}
+use Rattle.soundness.proofs.SoundLists.{sound-parts, block-parts}
 use Rattle.runs.proofs.Links.{Occupied, Linked, Loose, linked-same, loose-same, Pop, pop-cases, Pushed, push-pushed}
 use Rattle.runs.proofs.Inv.{Core, was-held, sweep-core, sweep-bytes, sweep-frees}
 use Rattle.soundness.proofs.Chains.{shadowEvent, shadowEvents}
@@ -71,7 +75,33 @@ module _ (j bin : ℕ) (few : j ≤ 9) (low : bin < 49) where
 abbrev pub Idle : Words → Type 0
 Idle w = (j bin : ℕ) → j < 8 → bin < 49 → getD (w .first) (unswept (3 * j) bin) 0 ≡ 0
 
+-- in sound tables an occupied block has the cell size of the bin of its list, and room for a link in each cell
+pub class-of : (p : Params) (t : Tables) → sound p t ≡ true → (b : ℕ) → Occupied p (t .states) b
+    → (8 ≤ getD (t .words .size) b 0) × (getD (t .words .size) b 0 ≡ cellBytes p (wordBin (getD (t .words .list) b 0)))
+unfolding sizeOk binNamed listNamed wordBin stateOf
+class-of p t good b ob =
+    let s : ℕ = getD (t .words .size) b 0 in
+    let n : ℕ = (getD (t .words .list) b 0 - 1) % 49 in
+    let q = and-three (leb 1 n) (ltb 0 s) (eqb s (cellBytes p n)) (block-parts p t b (sound-parts p t good .blocks b (ob .0)) (ob .1) .size) in
+    let e : s ≡ cellBytes p n = eqb-true _ _ (q .2) in
+    (rw e (cellBytes-some p n (rw e at (ltb-true 0 s (q .1)))), e)
+
 module _ (p : Params) (B : Bounds p) (st ms : List ℕ) (hd : ℕ) where
+  -- a sweep of an occupied block frees its unmarked cells and no other, where all that are held of it are old
+  module _ (w : Words) (h : List ℕ) (sh : List (List ℕ)) (bk : Book) (I : Core p (w .free) (w .size) (w .cells) st ms h sh bk)
+      (b : ℕ) (ob : Occupied p st b) (word : 8 ≤ getD (w .size) b 0) (aged : (c : Cell) → In c (bk .cells) → blockAt p (c .start) ≡ b → c .old ≡ true) where
+    pub swept-ok : EventOk p B hd (sweepOf p ms b w) h bk
+    unfolding eventHeap entered hits
+    swept-ok =
+        record {
+          lost = λ c m. (strike c m, λ s. aged c m (eqb-true _ _ (and-left (eqb (blockAt p (c .start)) b) _ (sym (strike c m) ∙ s))));
+          bytes = λ c m out. same-bytes p B hd (w .size) st h (linkAll p (sweepChain p ms b (getD (w .size) b 0)) h) c (I .held c m)
+              (sweep-bytes p B (w .free) (w .size) (w .cells) st ms h sh bk I b (ob .0) _ (ob .1) word refl hd c m out);
+        }
+      where
+        strike : (c : Cell) → In c (bk .cells) → frees p (sweepOf p ms b w) c ≡ (hits p (sweepOf p ms b w) c && unmarked p bk c)
+        strike = sweep-frees p B (w .free) (w .size) (w .cells) st ms h sh bk I b (ob .0) _ (ob .1) word refl hd
+
   -- cells handed out since the last prepare stand in blocks that wait for no sweep
   abbrev pub Young : Words → Book → Type 0
   Young w bk = (c : Cell) → In c (bk .cells) → c .old ≡ false → Settled (getD (w .list) (blockAt p (c .start)) 0)
@@ -185,8 +215,8 @@ module _ (p : Params) (B : Bounds p) (st ms : List ℕ) (hd : ℕ) where
           phase = S .phase;
         }
 
-    -- a block is swept, all of whose held cells are old
-    module _ (b : ℕ) (ob : Occupied p st b) (aged : (c : Cell) → In c (bk .cells) → blockAt p (c .start) ≡ b → c .old ≡ true) where
+    -- a block is swept
+    module _ (b : ℕ) (ob : Occupied p st b) where
       abbrev chain : List ℕ
       chain = sweepChain p ms b (getD (w .size) b 0)
 
@@ -204,18 +234,6 @@ module _ (p : Params) (B : Bounds p) (st ms : List ℕ) (hd : ℕ) where
             idle = S .idle;
             phase = S .phase;
           }
-
-      pub swept-ok : EventOk p B hd (sweepOf p ms b w) h bk
-      unfolding eventHeap entered hits
-      swept-ok =
-          record {
-            lost = λ c m. (strike c m, λ s. aged c m (eqb-true _ _ (and-left (eqb (blockAt p (c .start)) b) _ (sym (strike c m) ∙ s))));
-            bytes = λ c m out. same-bytes p B hd (w .size) st h (linkAll p chain h) c (S .core .held c m)
-                (sweep-bytes p B (w .free) (w .size) (w .cells) st ms h sh bk (S .core) b (ob .0) chain (ob .1) (S .wide b ob) refl hd c m out);
-          }
-        where
-          strike : (c : Cell) → In c (bk .cells) → frees p (sweepOf p ms b w) c ≡ (hits p (sweepOf p ms b w) c && unmarked p bk c)
-          strike = sweep-frees p B (w .free) (w .size) (w .cells) st ms h sh bk (S .core) b (ob .0) chain (ob .1) (S .wide b ob) refl hd
 
   -- ---- the search on its way: es happened so far
 
@@ -345,8 +363,8 @@ module _ (p : Params) (B : Bounds p) (st ms : List ℕ) (hd : ℕ) where
               rw (is-head, P .is, P .first)
               (files _ (sweptWords p ms b W) b
               (record {
-                events = events-behind p B hd es (sweepOf p ms b W) h bk (G .events) refl (swept-ok W _ _ _ T b (P .popping .occupied) aged);
-                searching = behind p B hd (Searching (sweptWords p ms b W)) es (sweepOf p ms b W) h sh bk (swept-searching W _ _ _ T b (P .popping .occupied) aged);
+                events = events-behind p B hd es (sweepOf p ms b W) h bk (G .events) refl (swept-ok W _ _ _ (T .core) b (P .popping .occupied) (T .wide b (P .popping .occupied)) aged);
+                searching = behind p B hd (Searching (sweptWords p ms b W)) es (sweepOf p ms b W) h sh bk (swept-searching W _ _ _ T b (P .popping .occupied));
               })
               (P .popping .occupied) (swept-loose W b b (tls-loose (P .words) b hd b (P .popping .loose)))
               (swept-size W b b ∙ tls-size (P .words) b hd b ∙ popped-size w _ _ _ S l b bin P e))

@@ -79,6 +79,7 @@ fn largest(p: Params) -> Params {
         offsets: p.offsets,
         unified: p.unified,
         lower: p.lower,
+        eager: p.eager,
         rows: rows,
         count: 0,
     }

@@ -62,6 +62,7 @@ fn no_params() -> Params {
         offsets: false,
         unified: false,
         lower: 0,
+        eager: false,
         rows: classes::no_rows(),
         count: 0,
     }
@@ -248,7 +249,7 @@ fn set_up(
 ) -> Heard {
     let mut v = [0usize; numbers::MOST_WORDS];
     let f = numbers::words(line, 5, len, 7, &mut v);
-    if f.count != 9 {
+    if !setup::has_form(f.count) {
         return Heard {
             told: tell(Reply::Bad, o, n),
             space: no_space(via, now),

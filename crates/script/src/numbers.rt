@@ -3,7 +3,7 @@ use crate::lines;
 use words::bytes;
 
 // How many words a form can have, and the count of a line that has none.
-pub(crate) const MOST_WORDS: usize = 9;
+pub(crate) const MOST_WORDS: usize = 10;
 
 pub(crate) const OFF: usize = 99;
 

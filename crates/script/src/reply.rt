@@ -30,7 +30,6 @@ pub(crate) enum Reply {
     Done,
     Nothing,
     One(usize),
-    Two(usize, usize),
     Three(usize, usize, usize),
     Four(usize, usize, usize, usize),
     Count(usize),
@@ -55,7 +54,11 @@ pub(crate) fn of_destroy(a: DestroyAnswer) -> Reply {
 
 pub(crate) fn of_release(a: ReleaseAnswer) -> Reply {
     match a {
-        ReleaseAnswer::Released { blocks, merged } => Reply::Two(blocks, merged),
+        ReleaseAnswer::Released {
+            blocks,
+            merged,
+            swept,
+        } => Reply::Three(blocks, merged, swept),
         ReleaseAnswer::Refused(r) => Reply::Refused(r),
     }
 }
@@ -106,11 +109,6 @@ fn words(o: &mut [u8; out::OUT], n: usize, r: Reply) -> usize {
         Reply::One(a) => {
             let m = out::text(o, n, b"ok");
             out::word(o, m, a)
-        }
-        Reply::Two(a, b) => {
-            let m = out::text(o, n, b"ok");
-            let k = out::word(o, m, a);
-            out::word(o, k, b)
         }
         Reply::Three(a, b, c) => {
             let m = out::text(o, n, b"ok");

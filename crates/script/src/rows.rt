@@ -57,6 +57,7 @@ pub(crate) fn given(p: Params, v: &[usize; numbers::MOST_NUMBERS], count: usize)
         offsets: p.offsets,
         unified: p.unified,
         lower: p.lower,
+        eager: p.eager,
         rows: table(v),
         count: count,
     }
@@ -74,6 +75,7 @@ pub(crate) fn without(p: Params) -> Params {
         offsets: p.offsets,
         unified: p.unified,
         lower: p.lower,
+        eager: p.eager,
         rows: rows,
         count: 0,
     }
@@ -91,6 +93,7 @@ fn for_block(p: Params, bytes: usize) -> Params {
         offsets: false,
         unified: true,
         lower: 0,
+        eager: false,
         rows: rows,
         count: p.count,
     }

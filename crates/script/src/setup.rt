@@ -1,4 +1,4 @@
-// `setup base log_block_bytes blocks MIN MAX use_offset unified L seed`.
+// `setup base log_block_bytes blocks MIN MAX use_offset unified L seed eager`.
 use crate::fill;
 use crate::lines;
 use crate::numbers;
@@ -22,6 +22,9 @@ pub(crate) const TABLES: usize = 10126;
 pub(crate) const MARKS: usize = 65536;
 
 pub(crate) const HEAP: usize = 4194304;
+
+// The eager word is the last one, and may be left out: then it is 0.
+const EAGER_WORD: usize = 9;
 
 // Stands for each L that is off: no multiple of 8, or over 64 either way.
 const OFF_LOWER: i64 = 65;
@@ -54,6 +57,14 @@ pub(crate) fn is_setup(line: &[u8; lines::LINE_BYTES], len: usize) -> bool {
         return false;
     }
     lines::byte(line, 4) == b'p'
+}
+
+// Whether a set-up may have so many words.
+pub(crate) fn has_form(count: usize) -> bool {
+    if count == EAGER_WORD {
+        return true;
+    }
+    count == EAGER_WORD + 1
 }
 
 // The number of a minus sign and a size.
@@ -115,6 +126,9 @@ pub(crate) fn given(now: Params, v: &[usize; numbers::MOST_WORDS], form: u8) -> 
     if !flag(v[6]) {
         return no_form(now);
     }
+    if !flag(v[EAGER_WORD]) {
+        return no_form(now);
+    }
     match lower(form, v[7]) {
         Signed::Bad => no_form(now),
         Signed::Is(l) => Asked {
@@ -128,6 +142,7 @@ pub(crate) fn given(now: Params, v: &[usize; numbers::MOST_WORDS], form: u8) -> 
                 offsets: v[5] == 1,
                 unified: v[6] == 1,
                 lower: l,
+                eager: v[EAGER_WORD] == 1,
                 rows: rows,
                 count: now.count,
             },

@@ -160,6 +160,7 @@ fn line(min: usize, max: usize, align: usize) -> bool
         offsets: false,
         unified: true,
         lower: 0,
+        eager: false,
         rows,
         count: 0,
     };

@@ -42,14 +42,14 @@ use Rattle.soundness.proofs.GoodTables.{GoodTables, SameWords, links-wo
 -- ---- a block out of all lists
 
 -- good tables but for x, an occupied block that is on no list
-record Out (p : Params) (t : Tables) (L : ℕ → List ℕ) (x : ℕ) : Type 0 where
-  low : x < p .blocks
-  occupied : getD (t .states) x 0 ≢ 0
-  lists : Lists p (t .states) (t .words) L
-  off : Off L x
-  on : (b : ℕ) → b < p .blocks → getD (t .states) b 0 ≢ 0 → b ≢ x → OnSome L b
-  fit : (l b : ℕ) → l < 1470 → In b (L l) → Fit p t l b
-  clear : (b : ℕ) → b < p .blocks → stateOf t b ≡ 0 → blockClear (t .words) b ≡ true
+pub record Out (p : Params) (t : Tables) (L : ℕ → List ℕ) (x : ℕ) : Type 0 where
+  pub low : x < p .blocks
+  pub occupied : getD (t .states) x 0 ≢ 0
+  pub lists : Lists p (t .states) (t .words) L
+  pub off : Off L x
+  pub on : (b : ℕ) → b < p .blocks → getD (t .states) b 0 ≢ 0 → b ≢ x → OnSome L b
+  pub fit : (l b : ℕ) → l < 1470 → In b (L l) → Fit p t l b
+  pub clear : (b : ℕ) → b < p .blocks → stateOf t b ≡ 0 → blockClear (t .words) b ≡ true
 
 -- u differs from w in the free, size, tls and cells words of x alone
 pub record Tweaked (x : ℕ) (w u : Words) : Type 0 where
@@ -135,7 +135,7 @@ module _ (p : Params) (B : Bounds p) (st ms : List ℕ) where
       }
 
   -- it is pushed on a list that it fits
-  file-good : (w : Words) → Sized (p .blocks) w → (L : ℕ → List ℕ) (x c : ℕ) → Out p (tablesOf w st ms) L x → c < 1470
+  pub file-good : (w : Words) → Sized (p .blocks) w → (L : ℕ → List ℕ) (x c : ℕ) → Out p (tablesOf w st ms) L x → c < 1470
       → Fit p (tablesOf w st ms) c x → Good p (tablesOf (push p c x w) st ms) (put c (x ∷ L c) L)
   unfolding In AllOn Off stateOf
   file-good w Z L x c O low F =
@@ -160,7 +160,7 @@ module _ (p : Params) (B : Bounds p) (st ms : List ℕ) where
 -- ---- free heads that init and sweeps give
 
 -- the head of a chain of a block's cells is 0 or a whole cell
-chain-link : (p : Params) (w : Words) (x s a : ℕ) (kept : ℕ → Bool) → 8 ≤ s → getD (w .size) x 0 ≡ s
+pub chain-link : (p : Params) (w : Words) (x s a : ℕ) (kept : ℕ → Bool) → 8 ≤ s → getD (w .size) x 0 ≡ s
     → a ≡ headD (cellsDown kept (start p x) s (cellCount p s)) 0 → linkOk p w x a ≡ true
 unfolding linkOk In headD
 chain-link p w x s a kept word e q =

@@ -1,18 +1,18 @@
 -- Every call's plan keeps the chains: links and list words leave them, and each event does to the heap and the words what it does
 -- to the shadow. A plan that takes a cell takes one of a block that has some. Rides on what Alloc.antt shows of each step of a search.
 -- Assumes nothing.
-use mathlib.Core.Path.{_≡_, refl, sym, _∙_, subst}
+use mathlib.Core.Path.{_≡_, refl, sym, ap, _∙_, subst}
 use mathlib.Core.Logic.{_≢_, _⊎_, inl, inr, ⊎-elim}
-use mathlib.Core.Bool.{true, false}
+use mathlib.Core.Bool.{true, false, _&&_}
 use mathlib.Core.List.{List, [], _∷_, _++_}
 use Prim.Native.Nat.{ℕ, zero, suc, _+_, _-_, _*_, _/_, _<_, _≤_}
 use native.Mathlib.Omega.{arith}
 use native.Mathlib.Nat.{le-div-iff-mul-le}
-use native.Mathlib.Decide.{decLt}
-use lib.Dec.{ltb}
-use lib.ListN.{getD, length, length-set, List·getD-eq-default}
+use native.Mathlib.Decide.{decLt, ℕ-discrete}
+use lib.Dec.{eqb, ltb}
+use lib.ListN.{getD, set, length, length-set, List·getD-eq-default}
 use lib.Seq.{getD-set-same}
-use borrow.Author.Tests.{ltb-true, eq-eqb, ne-eqb}
+use borrow.Author.Tests.{ltb-true, eq-eqb, ne-eqb, eqb-true, eqb-false}
 use Rattle.model.specs.declared.Params.{Params}
 use Rattle.model.specs.declared.Offer.{Offer}
 use Rattle.model.specs.declared.Offer.the-variants.{Nothing, Fresh}
@@ -24,15 +24,17 @@ use Rattle.model.specs.BlockList.{push, pop, remove}
 use Rattle.model.specs.Block.{cellCount, cellsDown, sweepChain, sweptWords, initChain, initBlock, clearBlock, chainStands}
 use Rattle.model.specs.Events.{Event, initialised, eventHeap, eventsHeap}
 use Rattle.model.specs.FreeListAllocator.{sweepOf, Found, Search, acquireFresh, findBlock}
-use Rattle.model.specs.Global.{Freed, freed, appendTo, releaseBlocks, releaseBin, releaseHolder, sweepLater, partReleased, allReleased}
+use Rattle.model.specs.Global.{Freed, freed, appendTo, releaseBlocks, releaseBin, releaseHolder, sweepLater, partReleased, allReleased, isLast, sweepBlock, sweepAll, recycleBlocks, sweptEagerly, eagerly}
 use Rattle.model.specs.Calls.{goodOffer, End, says, takes, takePlan}
-use Rattle.laws.proofs.Base.{and-left, if-cases}
+use Rattle.laws.proofs.Base.{and-left, if-cases, if-true}
+use Rattle.laws.proofs.Below.{and-both}
 use Rattle.laws.proofs.Params.{Bounds, some-start, blockAt-start}
-use Rattle.laws.proofs.Frame.{LinksOnly, links-refl, push-links, pop-links, remove-links, append-links}
-use Rattle.laws.proofs.Walks.{available-numbered, unswept-numbered, Files, Steps, find-keeps, releasedOne, blocks-keep-any, bins-keep-any, later-keeps-any}
+use Rattle.laws.proofs.Frame.{LinksOnly, links-refl, push-links, pop-links, remove-links, append-links, each-grows}
+use Rattle.laws.proofs.Walks.{available-numbered, unswept-numbered, Files, Steps, find-keeps, releasedOne, blocks-keep-any, bins-keep-any, later-keeps-any, sweptOne, recycle-keeps-any}
 use Rattle.soundness.proofs.Owners.{abandon-links, framed-refl}
+use Rattle.soundness.proofs.Lists.{AllOn}
 use Rattle.soundness.proofs.GoodTables.{GoodTables}
-use Rattle.soundness.proofs.Chains.{shadowEvent, shadowEvents, heap-behind, shadow-behind, Chains, sweep-chains, init-chains, release-chains}
+use Rattle.soundness.proofs.Chains.{set-cases, shadowEvent, shadowEvents, heap-behind, shadow-behind, Chains, sweep-chains, init-chains, release-chains}
 use Rattle.soundness.proofs.Alloc.{my-available, my-unswept, SearchedSoFar, steps}
 use Rattle.soundness.proofs.Searches.{Head, head-of}
 
@@ -48,6 +50,11 @@ unfoldable pub EndsOn : Params → List (List ℕ) → End → Type 0
 EndsOn p sh (says r) = Unit {0}
 EndsOn p sh (takes b align offset fresh) = Top p sh b
 
+-- the cells of a block in use have a word
+pub good-wide : (p : Params) {ms : List ℕ} {w : Words} {st : List ℕ} → GoodTables p ms w st → (b : ℕ) → b < p .blocks → getD st b 0 ≢ 0 → 8 ≤ getD (w .size) b 0
+unfolding AllOn
+good-wide p H b low occ = let m = H .good .on b low occ in H .good .fit (m .0) b (m .1) (m .2) .word
+
 -- from the heap h and the shadow sh on
 module _ (p : Params) (B : Bounds p) (h : List ℕ) (sh : List (List ℕ)) where
   -- the chains, after these events, of these words
@@ -62,6 +69,14 @@ module _ (p : Params) (B : Bounds p) (h : List ℕ) (sh : List (List ℕ)) where
   behind : (es : List Event) (e : Event) (w : Words)
       → Chains p (w .free) (w .size) (w .cells) (eventHeap p e (eventsHeap p es h)) (shadowEvent e (shadowEvents es sh)) → After (es ++ (e ∷ [])) w
   behind es e w C = rw (heap-behind p es e h, shadow-behind es e sh) C
+
+  -- a sweep of a block
+  swept-after : (ms : List ℕ) (es : List Event) (w : Words) (b : ℕ) → b < p .blocks → 8 ≤ getD (w .size) b 0 → After es w
+      → After (es ++ (sweepOf p ms b w ∷ [])) (sweptWords p ms b w)
+  unfolding sweptWords setFree setCells eventHeap shadowEvent
+  swept-after ms es w b lb wide C =
+      behind es (sweepOf p ms b w) (sweptWords p ms b w)
+      (sweep-chains p B (w .free) (w .size) (w .cells) (eventsHeap p es h) (shadowEvents es sh) C b lb ms (sweepChain p ms b (getD (w .size) b 0)) wide refl)
 
   -- a chain from an address that is not 0 has a first cell
   first-cell : (g : List ℕ) (a : ℕ) (l : List ℕ) → chainStands p g a l → a ≢ 0 → (x : ℕ) × (r : List ℕ) × (l ≡ x ∷ r)
@@ -100,14 +115,6 @@ module _ (p : Params) (B : Bounds p) (h : List ℕ) (sh : List (List ℕ)) where
           inside = X .on .low;
           wide = H .good .fit l (blockAt p (getD (w .first) l 0)) ll (rw (X .is) (inl refl)) .word;
         }
-
-    -- a sweep of a block
-    swept-after : (es : List Event) (w : Words) (b : ℕ) → b < p .blocks → 8 ≤ getD (w .size) b 0 → After es w
-        → After (es ++ (sweepOf p ms b w ∷ [])) (sweptWords p ms b w)
-    unfolding sweptWords setFree setCells eventHeap shadowEvent
-    swept-after es w b lb wide C =
-        behind es (sweepOf p ms b w) (sweptWords p ms b w)
-        (sweep-chains p B (w .free) (w .size) (w .cells) (eventsHeap p es h) (shadowEvents es sh) C b lb ms (sweepChain p ms b (getD (w .size) b 0)) wide refl)
 
     -- a block is filed: a search that rides on the one that keeps tables good
     files : (es : List Event) (a : ℕ) (w : Words) → blockAt p a < p .blocks → Files p ms hd bin (λ es w. Good w) (λ es a w. Good w) es a w → After es w
@@ -157,7 +164,7 @@ module _ (p : Params) (B : Bounds p) (h : List ℕ) (sh : List (List ℕ)) where
               let l = unswept (localSets hd) bin in
               let X = front l w un-low (o .0) some in
               files _ _ _ (X .inside) (S .recycled es w (o .0) some)
-              (swept-after es _ _ (X .inside) (popped-wide l w _ (X .wide)) (popped es l w (o .1)));
+              (swept-after ms es _ _ (X .inside) (popped-wide l w _ (X .wide)) (popped es l w (o .1)));
           over = λ es w o some.
               let l = available abandoned bin in
               let X = front l w (available-numbered 8 bin (omega arith) low .low) (o .0) some in
@@ -166,7 +173,7 @@ module _ (p : Params) (B : Bounds p) (h : List ℕ) (sh : List (List ℕ)) where
               let l = unswept abandoned bin in
               let X = front l w (unswept-numbered 8 bin (omega arith) low .low) (o .0) some in
               files _ _ _ (X .inside) (S .swept es w (o .0) none some)
-              (swept-after es _ _ (X .inside) (rw (mine-size (pop p l w .words) (blockAt p (getD (w .first) l 0)) hd (blockAt p (getD (w .first) l 0))) (popped-wide l w _ (X .wide)))
+              (swept-after ms es _ _ (X .inside) (rw (mine-size (pop p l w .words) (blockAt p (getD (w .first) l 0)) hd (blockAt p (getD (w .first) l 0))) (popped-wide l w _ (X .wide)))
               (mine es _ _ hd (popped es l w (o .1))));
         }
 
@@ -253,27 +260,100 @@ module _ (p : Params) (B : Bounds p) (h : List ℕ) (sh : List (List ℕ)) where
   append-freed l o f F =
       record { chains = links-after (f .events) (append-links p l o (f .words) (links-refl (f .words))) (F .chains); states = F .states }
 
+  -- ---- the end of a collection with eager sweeping
+
+  module _ (ms : List ℕ) (f : Freed) (wide : (b : ℕ) → b < p .blocks → getD (f .states) b 0 ≢ 0 → 8 ≤ getD (f .words .size) b 0) where
+    record Ending (g : Freed) : Type 0 where
+      chains : After (g .events) (g .words)
+      states : g .states ≡ f .states
+      size : g .words .size ≡ f .words .size
+
+    -- the shadow has the chain that the sweep of b built
+    abbrev pub SweptIn : Freed → ℕ → Type 0
+    SweptIn g b = getD (shadowEvents (g .events) sh) b [] ≡ sweepChain p ms b (getD (f .words .size) b 0)
+
+    abbrev SweptBelow : ℕ → Freed → Type 0
+    SweptBelow n g = Ending g × ((b : ℕ) → b < n → getD (f .states) b 0 ≢ 0 → SweptIn g b)
+
+    one-swept : (i : ℕ) → i < p .blocks → (g : Freed) → SweptBelow i g → SweptBelow (suc i) (sweepBlock p ms i g)
+    unfolding sweepBlock sweptWords setFree setCells shadowEvent
+    one-swept i li g X = if-cases (SweptBelow (suc i)) (eqb (getD (g .states) i 0) 0) (λ e. (X .0, unused (eqb-true _ _ e))) (λ e. (sweeps (eqb-false _ _ e), used))
+      where
+        unused : getD (g .states) i 0 ≡ 0 → (b : ℕ) → b < suc i → getD (f .states) b 0 ≢ 0 → SweptIn g b
+        unused z b lb occ = go (ℕ-discrete b i)
+          where
+            go : Dec (b ≡ i) → SweptIn g b
+            go (yes q) = absurd (occ (ap (λ (x : ℕ). getD (f .states) x 0) q ∙ ap (λ (x : List ℕ). getD x i 0) (sym (X .0 .states)) ∙ z))
+            go (no ne) = X .1 b (omega (arith, ne)) occ
+
+        sweeps : getD (g .states) i 0 ≢ 0 → Ending (sweptOne p ms i g)
+        sweeps occ =
+            record {
+              chains = swept-after ms (g .events) (g .words) i li (rw (X .0 .size) (wide i li (rw (X .0 .states) at occ))) (X .0 .chains);
+              states = X .0 .states;
+              size = X .0 .size;
+            }
+
+        used : (b : ℕ) → b < suc i → getD (f .states) b 0 ≢ 0 → SweptIn (sweptOne p ms i g) b
+        used b lb occ = rw (shadow-behind (g .events) (sweepOf p ms i (g .words)) sh) (go (set-cases (shadowEvents (g .events) sh) i _ [] b (omega (arith, li, X .0 .chains .shadow))))
+          where
+            chain : List ℕ
+            chain = sweepChain p ms i (getD (g .words .size) i 0)
+
+            go : ((b ≡ i) × (getD (set (shadowEvents (g .events) sh) i chain) b [] ≡ chain))
+                ⊎ ((b ≢ i) × (getD (set (shadowEvents (g .events) sh) i chain) b [] ≡ getD (shadowEvents (g .events) sh) b []))
+                → getD (set (shadowEvents (g .events) sh) i chain) b [] ≡ sweepChain p ms b (getD (f .words .size) b 0)
+            go (inl q) = q .1 ∙ ap (λ (z : List ℕ). sweepChain p ms i (getD z i 0)) (X .0 .size) ∙ ap (λ (x : ℕ). sweepChain p ms x (getD (f .words .size) x 0)) (sym (q .0))
+            go (inr q) = q .1 ∙ X .1 b (omega (arith, q .0)) occ
+
+    all-swept : After (f .events) (f .words) → SweptBelow (p .blocks) (sweepAll p ms f)
+    unfolding sweepAll
+    all-swept C = each-grows SweptBelow (p .blocks) (sweepBlock p ms) one-swept f (record { chains = C; states = refl; size = refl }, λ b low occ. absurd (omega arith))
+
+    again-ends : (owner : ℕ) (es : List Event) (w : Words) → After es w → After es (recycleBlocks p owner w)
+    again-ends owner es w C =
+        recycle-keeps-any p (After es)
+        (λ avail full b v X. links-after es (push-links p avail b (remove p full b v) (remove-links p full b v (links-refl v))) X) owner w C
+
+    pub eagerly-after : (part : ℕ) → After (f .events) (f .words) → After (eagerly p ms part f .events) (eagerly p ms part f .words)
+    unfolding eagerly sweptEagerly
+    eagerly-after part C =
+        if-cases (λ (g : Freed). After (g .events) (g .words)) (p .eager && isLast part (f .words))
+        (λ e. again-ends inGc _ _ (again-ends abandoned _ _ (all-swept C .0 .chains))) (λ e. C)
+
+    -- after the last part, with the choice on
+    pub eagerly-swept : (part : ℕ) → After (f .events) (f .words) → p .eager ≡ true → isLast part (f .words) ≡ true
+        → (b : ℕ) → b < p .blocks → getD (f .states) b 0 ≢ 0 → SweptIn (eagerly p ms part f) b
+    unfolding eagerly sweptEagerly
+    eagerly-swept part C on last b low occ =
+        subst (λ (g : Freed). SweptIn g b) (sym (if-true (p .eager && isLast part (f .words)) (sweptEagerly p ms f) f (and-both on last))) (all-swept C .1 b low occ)
+
   module _ (t : Tables) (st : length (t .states) ≡ p .blocks) (C : Chains p (t .words .free) (t .words .size) (t .words .cells) h sh) where
     start-freed : Freeing (freed (t .words) (t .states))
     unfolding eventsHeap shadowEvents
     start-freed = record { chains = C; states = st }
 
-    -- a part has released
-    part-after : (part : ℕ) (f : Freed) → After (f .events) (f .words) → After (f .events) (partReleased p part (f .words))
-    unfolding partReleased setPhase setReleased withReleased
-    part-after part f D =
-        if-cases (After (f .events)) (allReleased w₁) (λ e. links-after (f .events) {w = w₁} (abandon-links p abandoned inGc w₁) D) (λ e. D)
-      where
-        w₁ : Words
-        w₁ = setReleased part 1 (setPhase 2 (f .words))
-
-    pub holder-after : (d : ℕ) → let f : Freed = releaseHolder p d (t .words) (t .states) in After (f .events) (partReleased p d (f .words))
+    -- the releases of a part
+    pub holder-chains : (d : ℕ) → let f : Freed = releaseHolder p d (t .words) (t .states) in After (f .events) (f .words)
     unfolding releaseHolder
-    holder-after d =
+    holder-chains d =
         let f : Freed = eachBelow bins (releaseBin p (localSets d)) (freed (t .words) (t .states)) in
-        part-after d (releaseHolder p d (t .words) (t .states))
-        (links-after (f .events) (abandon-links p inGc (localSets d) (f .words)) (bins-keep-any p Freeing blocks-freed append-freed (localSets d) _ start-freed .chains))
+        links-after (f .events) (abandon-links p inGc (localSets d) (f .words)) (bins-keep-any p Freeing blocks-freed append-freed (localSets d) _ start-freed .chains)
 
-    pub shared-after : let f : Freed = sweepLater p (t .words) (t .states) in After (f .events) (partReleased p 0 (f .words))
+    pub shared-chains : let f : Freed = sweepLater p (t .words) (t .states) in After (f .events) (f .words)
     unfolding sweepLater
-    shared-after = part-after 0 (sweepLater p (t .words) (t .states)) (later-keeps-any p Freeing blocks-freed append-freed _ start-freed .chains)
+    shared-chains = later-keeps-any p Freeing blocks-freed append-freed _ start-freed .chains
+
+  -- a part has released
+  pub part-chains : (part : ℕ) (es : List Event) (w : Words) → After es w → After es (partReleased p part w)
+  unfolding partReleased setPhase setReleased withReleased
+  part-chains part es w D =
+      if-cases (After es) (allReleased w₁) (λ e. links-after es {w = w₁} (abandon-links p abandoned inGc w₁) D) (λ e. D)
+    where
+      w₁ : Words
+      w₁ = setReleased part 1 (setPhase 2 w)
+
+  -- the plan of a release, after its releases
+  pub part-after : (ms : List ℕ) (part : ℕ) (f : Freed) → GoodTables p ms (f .words) (f .states) → After (f .events) (f .words)
+      → let g : Freed = eagerly p ms part f in After (g .events) (partReleased p part (g .words))
+  part-after ms part f H D = part-chains part _ _ (eagerly-after ms f (good-wide p H) part D)

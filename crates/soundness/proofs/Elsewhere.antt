@@ -16,13 +16,13 @@ use Rattle.model.specs.BlockList.{Popped, popped, push, popHead, pop, removeBet
 use Rattle.model.specs.Block.{Unallocated, Unmarked, cellCount, isCell, linkAll, initChain, initBlock, simple, keeps, sweepChain, sweptWords, clearBlock}
 use Rattle.model.specs.Events.{Event, initialised, swept, released, taken, eventHeap, eventsHeap}
 use Rattle.model.specs.FreeListAllocator.{findFreeBlockWith, Found, found, after, sweepOf, filed, recycleLocalBlocks, acquireAbandoned}
-use Rattle.model.specs.Global.{Running, Releasing, abandonBin, abandonBlocks, abandonedBin, abandonedBelow, abandonedBlocks, Freed, freed, afterRelease, releaseFrom, releaseBlocks, appendTo, releaseBin, releaseHolder, sweepLaterBin, sweepLater, allReleased, partReleased, merged}
-use Rattle.model.specs.Sound.{stateOf, linkedFrom, chainCounts, chainOk, chained}
+use Rattle.model.specs.Global.{Running, Releasing, abandonBin, abandonBlocks, abandonedBin, abandonedBelow, abandonedBlocks, Freed, freed, afterRelease, releaseFrom, releaseBlocks, appendTo, leftUnswept, releaseBin, releaseHolder, sweepLaterBin, sweepLater, sweepBlock, sweepAll, recycleFrom, recycleBin, recycleBlocks, sweptEagerly, isLast, eagerly, allReleased, partReleased, merged}
+use Rattle.model.specs.Sound.{stateOf, linkedFrom, eagerOk, chainCounts, chainOk, chained}
 
 -- the parameters with other rows
 abbrev pub otherRows : Params → List Row → ℕ → Params
 otherRows p rows count =
-    record { base = p .base; bytes = p .bytes; blocks = p .blocks; min = p .min; max = p .max; offsets = p .offsets; unified = p .unified; lower = p .lower; rows = rows; count = count }
+    record { base = p .base; bytes = p .bytes; blocks = p .blocks; min = p .min; max = p .max; offsets = p .offsets; unified = p .unified; lower = p .lower; eager = p .eager; rows = rows; count = count }
 
 module _ (p : Params) (rows : List Row) (count : ℕ) where
   abbrev q : Params
@@ -168,12 +168,16 @@ module _ (p : Params) (rows : List Row) (count : ℕ) where
   unfolding appendTo
   appendTo-same = λ i l other f. record { words = append-same i l other (f .words); states = f .states; events = f .events }
 
+  leftUnswept-same : leftUnswept q ≡ leftUnswept p
+  unfolding leftUnswept
+  leftUnswept-same = λ i l other f. if p .eager then f else appendTo-same i l other f
+
   releaseBin-same : releaseBin q ≡ releaseBin p
   unfolding releaseBin
   releaseBin-same = λ i owner bin f.
-      appendTo-same i (unswept owner bin) (consumed owner bin)
+      leftUnswept-same i (unswept owner bin) (consumed owner bin)
       (releaseBlocks-same i (consumed owner bin)
-      (appendTo-same i (unswept owner bin) (available owner bin) (releaseBlocks-same i (available owner bin) f)))
+      (leftUnswept-same i (unswept owner bin) (available owner bin) (releaseBlocks-same i (available owner bin) f)))
 
   pub releaseHolder-same : releaseHolder q ≡ releaseHolder p
   unfolding releaseHolder
@@ -184,14 +188,52 @@ module _ (p : Params) (rows : List Row) (count : ℕ) where
   sweepLaterBin-same : sweepLaterBin q ≡ sweepLaterBin p
   unfolding sweepLaterBin
   sweepLaterBin-same = λ i bin f.
-      appendTo-same i (unswept abandoned bin) (consumed abandoned bin)
-      (appendTo-same i (unswept abandoned bin) (available abandoned bin)
+      leftUnswept-same i (unswept abandoned bin) (consumed abandoned bin)
+      (leftUnswept-same i (unswept abandoned bin) (available abandoned bin)
       (releaseBlocks-same i (unswept abandoned bin)
       (releaseBlocks-same i (consumed abandoned bin) (releaseBlocks-same i (available abandoned bin) f))))
 
   pub sweepLater-same : sweepLater q ≡ sweepLater p
   unfolding sweepLater
   sweepLater-same = λ i t s. eachBelow bins (sweepLaterBin-same i) (freed t s)
+
+  -- ---- the end of a collection with eager sweeping
+
+  sweepBlock-same : sweepBlock q ≡ sweepBlock p
+  unfolding sweepBlock sweptWords sweepChain keeps simple marked markIndex inHeap heapEnd heapBytes plusLower cellCount start
+  sweepBlock-same = refl
+
+  sweepAll-same : sweepAll q ≡ sweepAll p
+  unfolding sweepAll
+  sweepAll-same = λ i ms f. eachBelow (p .blocks) (sweepBlock-same i ms) f
+
+  recycleFrom-same : (k : ℕ) → recycleFrom k q ≡ recycleFrom k p
+  unfolding recycleFrom push remove removeBetween start blockAt
+  recycleFrom-same zero = refl
+  recycleFrom-same (suc k) = λ i avail full a w.
+      let b : ℕ = blockAt p a in
+      let next : ℕ = getD (w .next) b 0 in
+      if eqb a 0 then w
+      else if eqb (getD (w .free) b 0) 0 then recycleFrom-same k i avail full next w
+      else recycleFrom-same k i avail full next (push p avail b (remove p full b w))
+
+  recycleBlocks-same : recycleBlocks q ≡ recycleBlocks p
+  unfolding recycleBlocks recycleBin
+  recycleBlocks-same = λ i owner w.
+      eachBelow bins
+      (λ bin u. recycleFrom-same (p .blocks) i (available owner bin) (consumed owner bin) (getD (u .first) (consumed owner bin) 0) u) w
+
+  sweptEagerly-same : sweptEagerly q ≡ sweptEagerly p
+  unfolding sweptEagerly
+  sweptEagerly-same = λ i ms f.
+      let all : Freed = sweepAll-same i ms f in
+      record { words = recycleBlocks-same i inGc (recycleBlocks-same i abandoned (all .words)); states = all .states; events = all .events }
+
+  pub eagerly-same : eagerly q ≡ eagerly p
+  unfolding eagerly
+  eagerly-same = λ i ms part f. if p .eager && isLast part (f .words) then sweptEagerly-same i ms f else f
+
+  -- ---- the part is done
 
   pub partReleased-same : partReleased q ≡ partReleased p
   unfolding partReleased
@@ -215,6 +257,11 @@ module _ (p : Params) (rows : List Row) (count : ℕ) where
       if eqb a 0 then eqb (getD (t .words .last) l 0) before
       else (isStart p a && not (eqb (stateOf t b) Unallocated) && eqb (getD (t .words .list) b 0) (listWord l)
       && eqb (getD (t .words .prev) b 0) before && linkedFrom-same k i t l a (getD (t .words .next) b 0))
+
+  -- what R-8 tests of them
+  pub eagerOk-same : eagerOk q ≡ eagerOk p
+  unfolding eagerOk
+  eagerOk-same = refl
 
   -- ---- and their chains
 

@@ -1,13 +1,15 @@
 -- Refused calls, computed on the machine, of which the theorems of Refused.antt and Released.antt speak: a mark out of its
 -- phase, an alloc that is Exhausted after it has swept and moved a block, one on tables with a bad chain;
--- and a release that makes one block Unallocated, a destroy and a last release by which one block goes over.
-use Prim.Native.Nat.{ℕ, zero, suc}
+-- and a release that makes one block Unallocated, a destroy and a last release by which one block goes over, and one with the choice of
+-- eager sweeping, of which Eager.antt speaks.
+use Prim.Native.Nat.{ℕ, zero, suc, _<_}
 use native.Mathlib.Omega.{arith}
 use mathlib.Core.Path.{_≡_, refl, sym, ap, _∙_}
+use mathlib.Core.Bool.{true}
 use mathlib.Core.List.{List, [], _∷_, headD}
 use lib.Count.{leadingZeros}
 use borrow.Author.Tests.{leb-true}
-use lib.ListN.{set, replicate}
+use lib.ListN.{getD, set, replicate}
 use Rattle.model.specs.declared.Params.{Params}
 use Rattle.model.specs.declared.Refusal.the-variants.{BadTables, WrongPhase, Exhausted}
 use Rattle.model.specs.declared.Offer.the-variants.{Nothing, Fresh}
@@ -18,15 +20,17 @@ use Rattle.model.specs.Tables.{Words, view, flat, setFirst, setLast, setBound, 
 use Rattle.model.specs.SizeClasses.{fours, classWords, classBytes, wordsIn, highestBit, binInOctave, miBin, binOf, cellBytes, raised, shift, alignAllocation}
 use Rattle.model.specs.Classes.{classesFit}
 use Rattle.model.specs.BlockList.{push, popHead, pop, removeBetween, remove, relabel, link, append, walk, blocksOn, appended}
-use Rattle.model.specs.Block.{cellCount, isCell, cellsDown, linkAll, initChain, initBlock, simple, keeps, sweepChain, sweptWords, clearBlock}
+use Rattle.model.specs.Block.{cellCount, isCell, cellsDown, linkAll, initChain, initBlock, simple, keeps, sweepChain, sweptWords, clearBlock, freeChain}
 use Rattle.model.specs.Events.{eventHeap, eventsHeap, isSweep, isRelease, sweeps, releases}
 use Rattle.model.specs.FreeListAllocator.{findFreeBlockWith, recycleLocalBlocks, acquireAbandoned, acquireFresh, findBlock}
-use Rattle.model.specs.Global.{freshWords, freshTables, isHolder, isBound, bindHolder, abandonBin, abandonBlocks, abandonedBin, abandonedBelow, abandonedBlocks, destroyHolder, unmarkedState, prepared, markPlace, releaseFrom, releaseBlocks, appendTo, releaseBin, releaseHolder, sweepLaterBin, sweepLater, hasReleased, allReleased, partReleased, merged}
-use Rattle.model.specs.Sound.{stateOf, stateKnown, blockClear, listNamed, binNamed, setNamed, onListNamed, sizeOk, linkOk, tlsOk, blockSound, linkedFrom, linked, ownerEmpty, unboundEmpty, inGcEmpty, phaseKnown, flagsKnown, releasedFew, releasedSome, releasedEmpty, sound, chainCounts, chainOk, chained}
+use Rattle.model.specs.Global.{freshWords, freshTables, isHolder, isBound, bindHolder, abandonBin, abandonBlocks, abandonedBin, abandonedBelow, abandonedBlocks, destroyHolder, unmarkedState, prepared, markPlace, releaseFrom, releaseBlocks, appendTo, leftUnswept, releaseBin, releaseHolder, sweepLaterBin, sweepLater, hasReleased, allReleased, isLast, sweepBlock, sweepAll, recycleFrom, recycleBin, recycleBlocks, sweptEagerly, eagerly, partReleased, merged}
+use Rattle.model.specs.Sound.{stateOf, stateKnown, blockClear, listNamed, binNamed, setNamed, onListNamed, sizeOk, linkOk, tlsOk, blockSound, linkedFrom, linked, ownerEmpty, unboundEmpty, inGcEmpty, phaseKnown, flagsKnown, releasedFew, releasedSome, releasedEmpty, sound, chainCounts, chainOk, onUnswept, releasedBefore, eagerBlock, eagerOk, chained}
 use Rattle.model.specs.Calls.{Reply, Call, alloc, mark, release, Result, refusalNumber, goodRequest, tooBig, goodOffer, goodObject, mayRelease, andThen, phaseTest, bindTests, boundTests, requestTests, markTests, releaseTests, sharedTests, callTests, takePlan, releasePlan, planPassed, ifPassed, planSound, plan, takeCell, finish, step, refused, answered, call, setUp, destroy, sharedRelease, mayLeave, leaveTests, freeCells, cellsOf, ask}
 use Rattle.model.specs.OwnRows.{withOwnRows, LowBins, OwnRows}
 use Rattle.model.specs.Census.{censusParams}
-use Rattle.model.specs.Refusals.{OfAlloc, KeptExhausted, RefusalKeeps, madeUnallocated, blocksOf, wentOver, CountsReleased, ReleasedCounts, DestroyedCounts}
+use Rattle.model.specs.Eager.{LeftSwept, EndsSwept, EagerSwept}
+use Rattle.model.specs.Refusals.{OfAlloc, KeptExhausted, RefusalKeeps, madeUnallocated, blocksOf, wentOver, sweptAtEnd, CountsReleased, ReleasedCounts, DestroyedCounts}
+use Rattle.soundness.proofs.Eager.{eager-swept}
 use Rattle.soundness.proofs.Refused.{refusal-keeps}
 use Rattle.soundness.proofs.OwnRows.{own-rows}
 use Rattle.soundness.proofs.Released.{destroyed-counted, released-counted}
@@ -83,7 +87,7 @@ wants = alloc 2 1024 8 0 Nothing
 
 -- who opens `machine` opens all that its line names
 machine : Params
-unfolding leadingZeros allBelow anyBelow member filter eachBelow flag powerOfTwo lowerOk biased plusLower minusLower heapBytes heapEnd goodParams wordCount fits start blockAt inHeap isStart listOf listWord localSets available unswept consumed loadBytes bytesOf overwrite load store zeroed bitOf setBit markIndex marked setMark cleared view flat setFirst setLast setBound setReleased setNext setPrev setFree setSize setList setTls setCells setPhase withReleased fours classWords classBytes wordsIn highestBit binInOctave miBin binOf cellBytes classesFit raised shift alignAllocation push pop popHead removeBetween remove relabel link append walk blocksOn cellCount isCell cellsDown headD linkAll initChain initBlock simple keeps sweepChain sweptWords clearBlock eventHeap eventsHeap isSweep isRelease sweeps releases findFreeBlockWith recycleLocalBlocks acquireAbandoned acquireFresh findBlock freshWords freshTables isHolder isBound bindHolder abandonBin abandonBlocks destroyHolder unmarkedState prepared markPlace releaseFrom releaseBlocks appendTo releaseBin releaseHolder sweepLaterBin sweepLater hasReleased allReleased partReleased stateOf stateKnown blockClear listNamed binNamed setNamed onListNamed sizeOk linkOk tlsOk blockSound linkedFrom linked ownerEmpty unboundEmpty inGcEmpty phaseKnown flagsKnown releasedFew releasedSome releasedEmpty sound chainCounts chainOk chained refusalNumber goodRequest tooBig goodOffer goodObject mayRelease andThen phaseTest bindTests boundTests requestTests markTests releaseTests sharedTests callTests takePlan releasePlan planPassed ifPassed planSound plan takeCell finish step call setUp censusParams heap₀ ring noMarks allMarked standing lentOn lent sumBelow appended abandonedBin abandonedBelow abandonedBlocks merged mayLeave leaveTests cellsOf ask
+unfolding leadingZeros allBelow anyBelow member filter eachBelow flag powerOfTwo lowerOk biased plusLower minusLower heapBytes heapEnd goodParams wordCount fits start blockAt inHeap isStart listOf listWord localSets available unswept consumed loadBytes bytesOf overwrite load store zeroed bitOf setBit markIndex marked setMark cleared view flat setFirst setLast setBound setReleased setNext setPrev setFree setSize setList setTls setCells setPhase withReleased fours classWords classBytes wordsIn highestBit binInOctave miBin binOf cellBytes classesFit raised shift alignAllocation push pop popHead removeBetween remove relabel link append walk blocksOn cellCount isCell cellsDown headD linkAll initChain initBlock simple keeps sweepChain sweptWords clearBlock eventHeap eventsHeap isSweep isRelease sweeps releases findFreeBlockWith recycleLocalBlocks acquireAbandoned acquireFresh findBlock freshWords freshTables isHolder isBound bindHolder abandonBin abandonBlocks destroyHolder unmarkedState prepared markPlace releaseFrom releaseBlocks appendTo leftUnswept releaseBin releaseHolder sweepLaterBin sweepLater hasReleased allReleased partReleased isLast sweepBlock sweepAll recycleFrom recycleBin recycleBlocks sweptEagerly eagerly stateOf stateKnown blockClear listNamed binNamed setNamed onListNamed sizeOk linkOk tlsOk blockSound linkedFrom linked ownerEmpty unboundEmpty inGcEmpty phaseKnown flagsKnown releasedFew releasedSome releasedEmpty sound chainCounts chainOk chained onUnswept releasedBefore eagerBlock eagerOk refusalNumber goodRequest tooBig goodOffer goodObject mayRelease andThen phaseTest bindTests boundTests requestTests markTests releaseTests sharedTests callTests takePlan releasePlan planPassed ifPassed planSound plan takeCell finish step call setUp censusParams heap₀ ring noMarks allMarked standing lentOn lent sumBelow appended abandonedBin abandonedBelow abandonedBlocks merged mayLeave leaveTests cellsOf ask
 machine = censusParams
 
 -- ---- a mark in Running, of a block on the available list (24) of holder 1: nothing changes
@@ -147,11 +151,14 @@ one-free = refl
 abbrev unmarked : Lent
 unmarked = lent (standing 24 1 27648 1 1) 255 noMarks
 
-pub one-released : call p unmarked (release 1) .reply ≡ answered (1 ∷ 0 ∷ [])
+pub one-released : call p unmarked (release 1) .reply ≡ answered (1 ∷ 0 ∷ 0 ∷ [])
 unfolding machine
 one-released = refl
 
-pub one-counted : (1 ∷ 0 ∷ []) ≡ madeUnallocated p unmarked (call p unmarked (release 1) .lent) ∷ wentOver p unmarked (call p unmarked (release 1) .lent) ∷ []
+abbrev numbers : Params → Lent → Call → List ℕ
+numbers q l c = madeUnallocated q l (call q l c .lent) ∷ wentOver q l (call q l c .lent) ∷ sweptAtEnd q (call q l c .lent) ∷ []
+
+pub one-counted : (1 ∷ 0 ∷ 0 ∷ []) ≡ numbers p unmarked (release 1)
 unfolding ReleasedCounts CountsReleased
 one-counted =
     sym (ap (λ (r : Reply). r .values) one-released) ∙ released-counted p unmarked .0 1 (ap (λ (r : Reply). r .number) one-released)
@@ -181,14 +188,59 @@ left-counted =
 abbrev waiting : Lent
 waiting = lent (withReleased (0 ∷ 1 ∷ 1 ∷ 0 ∷ 0 ∷ 0 ∷ 0 ∷ 0 ∷ 0 ∷ []) (standing 1396 2 27648 1 1)) 254 noMarks
 
-pub one-merged : call p waiting sharedRelease .reply ≡ answered (0 ∷ 1 ∷ [])
+pub one-merged : call p waiting sharedRelease .reply ≡ answered (0 ∷ 1 ∷ 0 ∷ [])
 unfolding machine
 one-merged = refl
 
-pub merged-counted : (0 ∷ 1 ∷ []) ≡ madeUnallocated p waiting (call p waiting sharedRelease .lent) ∷ wentOver p waiting (call p waiting sharedRelease .lent) ∷ []
+pub merged-counted : (0 ∷ 1 ∷ 0 ∷ []) ≡ numbers p waiting sharedRelease
 unfolding ReleasedCounts CountsReleased
 merged-counted =
     sym (ap (λ (r : Reply). r .values) one-merged) ∙ released-counted p waiting .1 (ap (λ (r : Reply). r .number) one-merged)
+
+-- ---- R-8: the same with the choice on. Block 2 is full, Marked and consumed (1445), with a mark at its first cell. It is swept, recycled
+-- and merged, and the three other cells are free
+
+abbrev q : Params
+q = record { base = p .base; bytes = p .bytes; blocks = p .blocks; min = p .min; max = p .max; offsets = p .offsets; unified = p .unified; lower = p .lower; eager = true; rows = p .rows; count = p .count }
+
+pub oneMarked : List ℕ
+unfolding noMarks
+oneMarked = set noMarks 128 1
+
+abbrev ending : Lent
+ending = lent (withReleased (0 ∷ 1 ∷ 1 ∷ 0 ∷ 0 ∷ 0 ∷ 0 ∷ 0 ∷ 0 ∷ []) (standing 1445 2 0 0 1)) 254 oneMarked
+
+pub one-swept : call q ending sharedRelease .reply ≡ answered (0 ∷ 1 ∷ 1 ∷ [])
+unfolding machine oneMarked
+one-swept = refl
+
+-- available to all (1200), with a free head and a count of 3
+pub swept-words : view (call q ending sharedRelease .lent .words) ≡ standing 1200 0 27648 3 1
+unfolding machine oneMarked
+swept-words = refl
+
+pub swept-counted : (0 ∷ 1 ∷ 1 ∷ []) ≡ numbers q ending sharedRelease
+unfolding ReleasedCounts CountsReleased
+swept-counted =
+    sym (ap (λ (r : Reply). r .values) one-swept) ∙ released-counted q ending .1 (ap (λ (r : Reply). r .number) one-swept)
+
+block-two : (2 < q .blocks) × (getD (call q ending sharedRelease .lent .states) 2 0 ≡ 254)
+unfolding machine oneMarked
+block-two = (omega arith, refl)
+
+after-swept : LeftSwept q ending (call q ending sharedRelease .lent) 2
+unfolding EagerSwept EndsSwept standing
+after-swept =
+    eager-swept q ending .1 refl (ap (λ (r : Reply). r .number) one-swept) (ap (λ (w : Words). w .phase) swept-words) 2 (block-two .0)
+    (λ z. omega (arith, sym (block-two .1) ∙ z))
+
+built : sweepChain q oneMarked 2 1024 ≡ 27648 ∷ 26624 ∷ 25600 ∷ []
+unfolding machine oneMarked
+built = refl
+
+pub swept-chain : freeChain q (call q ending sharedRelease .lent .heap) 2 (view (call q ending sharedRelease .lent .words)) ≡ 27648 ∷ 26624 ∷ 25600 ∷ []
+unfolding standing lent lentOn
+swept-chain = after-swept .chain ∙ ap (λ (w : Words). sweepChain q oneMarked 2 (getD (w .size) 2 0)) swept-words ∙ built
 
 -- ---- 01's own sizes as rows (02, R-5): block 2 is in bin 24, and the block's own bin is 32. Holder 1 asks for 72 bytes and gets what it got
 -- before, a cell of 80 bytes of the block offered

@@ -14,7 +14,7 @@ use Rattle.model.specs.declared.Params.{Params}
 use Rattle.model.specs.Base.{allBelow, anyBelow}
 use Rattle.model.specs.Params.{listOf, localSets, abandoned, inGc, lists}
 use Rattle.model.specs.Tables.{Words, Tables, setBound, setReleased, setPhase, withReleased}
-use Rattle.model.specs.Global.{isHolder, isBound, hasReleased, allReleased, abandonBlocks, partReleased}
+use Rattle.model.specs.Global.{isHolder, isBound, hasReleased, allReleased, isLast, abandonBlocks, partReleased}
 use Rattle.model.specs.Sound.{blockSound, linked, ownerEmpty, unboundEmpty, inGcEmpty, phaseKnown, flagsKnown, releasedFew, releasedSome, releasedEmpty, sound}
 use Rattle.laws.proofs.Base.{and-left, and-right, or-cases, or-left, or-right, bool-cases, not-both, if-cases, all-below, below-all, below-any}
 use Rattle.laws.proofs.Below.{and-both, and-seven, anyBelow-at}
@@ -340,89 +340,108 @@ destroy-flags p w h z G run is =
 -- ---- the releases
 
 -- w₁ is what the release of a part made of w: the lists of its own holder, if any, are empty; those of other holders stay
-pub released-flags :
-    (p : Params) (w w₁ : Words) (part : ℕ) → Sized (p .blocks) w₁ → Flags w → (part ≡ 0) ⊎ (isBound w part ≡ true)
-    → w₁ .bound ≡ w .bound → w₁ .released ≡ w .released
-    → ((l : ℕ) → l / 147 < 8 → suc (l / 147) ≢ part → getD (w₁ .first) l 0 ≡ getD (w .first) l 0)
-    → ((l : ℕ) → suc (l / 147) ≡ part → getD (w₁ .first) l 0 ≡ 0)
-    → Flags (partReleased p part w₁)
-unfolding partReleased setReleased setPhase withReleased Empty
-released-flags p w w₁ part z G whose bound released others own =
-    if-cases Flags (allReleased w₂) (λ e. facts-flags _ last) (λ e. facts-flags w₂ (more e))
-  where
-    F : FlagFacts w
-    F = flag-facts w G
+module _ (p : Params) (w w₁ : Words) (part : ℕ) (z : Sized (p .blocks) w₁) (G : Flags w) (whose : (part ≡ 0) ⊎ (isBound w part ≡ true))
+    (bound : w₁ .bound ≡ w .bound) (released : w₁ .released ≡ w .released)
+    (others : (l : ℕ) → l / 147 < 8 → suc (l / 147) ≢ part → getD (w₁ .first) l 0 ≡ getD (w .first) l 0)
+    (own : (l : ℕ) → suc (l / 147) ≡ part → getD (w₁ .first) l 0 ≡ 0) where
+  F : FlagFacts w
+  F = flag-facts w G
 
-    w₂ : Words
-    w₂ = setReleased part 1 (setPhase 2 w₁)
+  low : part < 9
+  low = ⊎-elim (λ e. omega arith) (λ e. omega (arith, bound-at w part e .high)) whose
 
-    low : part < 9
-    low = ⊎-elim (λ e. omega arith) (λ e. omega (arith, bound-at w part e .high)) whose
+  room : part < length (w₁ .released)
+  room = omega (arith, z .released, low)
 
-    room : part < length (w₁ .released)
-    room = omega (arith, z .released, low)
+  -- lists of a holder that were empty are empty
+  still : (i : ℕ) → i < 8 → Empty w i → Empty w₁ i
+  unfolding Empty
+  still i l E = λ m e. go m e (ℕ-discrete (suc i) part)
+    where
+      go : (m : ℕ) → m / 147 ≡ i → Dec (suc i ≡ part) → getD (w₁ .first) m 0 ≡ 0
+      go m e (yes q) = own m (ap suc e ∙ q)
+      go m e (no f) = others m (omega arith) (λ q. f (sym (ap suc e) ∙ q)) ∙ E m e
 
-    -- lists of a holder that were empty are empty
-    still : (i : ℕ) → i < 8 → Empty w i → Empty w₁ i
-    still i l E = λ m e. go m e (ℕ-discrete (suc i) part)
-      where
-        go : (m : ℕ) → m / 147 ≡ i → Dec (suc i ≡ part) → getD (w₁ .first) m 0 ≡ 0
-        go m e (yes q) = own m (ap suc e ∙ q)
-        go m e (no f) = others m (omega arith) (λ q. f (sym (ap suc e) ∙ q)) ∙ E m e
+  unbound : (i : ℕ) → i < 8 → getD (w₁ .bound) i 0 ≢ 1 → Empty w₁ i
+  unbound i l ne = still i l (F .unbound i l (rw bound at ne))
 
-    unbound : (i : ℕ) → i < 8 → getD (w₁ .bound) i 0 ≢ 1 → Empty w₁ i
-    unbound i l ne = still i l (F .unbound i l (rw bound at ne))
+  -- the mark of another part is that of before
+  before : (k : ℕ) → k ≢ part → getD (set (w₁ .released) part 1) k 0 ≡ getD (w .released) k 0
+  before k ne = set-off (w₁ .released) part 1 k ne ∙ ap (λ (x : List ℕ). getD x k 0) released
 
-    known : (i : ℕ) → i < 8 → getD (w₁ .bound) i 0 ≤ 1
-    known i l = rw bound (F .bound i l)
+  -- a holder that has released has no block
+  none : (i : ℕ) → i < 8 → getD (set (w₁ .released) part 1) (suc i) 0 ≡ 1 → Dec (suc i ≡ part) → Empty w₁ i
+  unfolding Empty
+  none i l e (yes q) = λ m d. own m (ap suc d ∙ q)
+  none i l e (no f) = still i l (F .empty i l (sym (before (suc i) f) ∙ e))
 
-    -- the mark of another part is that of before
-    before : (k : ℕ) → k ≢ part → getD (set (w₁ .released) part 1) k 0 ≡ getD (w .released) k 0
-    before k ne = set-off (w₁ .released) part 1 k ne ∙ ap (λ (x : List ℕ). getD x k 0) released
+  pub released-flags : Flags (partReleased p part w₁)
+  unfolding partReleased setReleased setPhase withReleased Empty
+  released-flags = if-cases Flags (allReleased w₂) (λ e. facts-flags _ last) (λ e. facts-flags w₂ (more e))
+    where
+      w₂ : Words
+      w₂ = setReleased part 1 (setPhase 2 w₁)
 
-    more : allReleased w₂ ≡ false → FlagFacts w₂
-    more left =
-        record {
-          unbound = unbound;
-          in-gc = λ ne. absurd (ne refl);
-          phase = omega arith;
-          bound = known;
-          released = λ i l. set-known (w₁ .released) part 1 i (omega arith) (rw released (F .released i l)) room;
-          only = λ k l e. refl;
-          whose = λ i l e. of i l e (ℕ-discrete (suc i) part);
-          some = λ e. (part, low, set-at (w₁ .released) part 1 room);
-          due = λ e. left;
-          empty = λ i l e. none i l e (ℕ-discrete (suc i) part);
-        }
-      where
-        of : (i : ℕ) → i < 8 → getD (set (w₁ .released) part 1) (suc i) 0 ≡ 1 → Dec (suc i ≡ part) → getD (w₁ .bound) i 0 ≡ 1
-        of i l e (yes q) = rw bound (⊎-elim (λ a. absurd (omega arith)) (λ a. bound-word w i (rw q a)) whose)
-        of i l e (no f) = rw bound (F .whose i l (sym (before (suc i) f) ∙ e))
+      known : (i : ℕ) → i < 8 → getD (w₁ .bound) i 0 ≤ 1
+      known i l = rw bound (F .bound i l)
 
-        none : (i : ℕ) → i < 8 → getD (set (w₁ .released) part 1) (suc i) 0 ≡ 1 → Dec (suc i ≡ part) → Empty w₁ i
-        none i l e (yes q) = λ m d. own m (ap suc d ∙ q)
-        none i l e (no f) = still i l (F .empty i l (sym (before (suc i) f) ∙ e))
+      more : allReleased w₂ ≡ false → FlagFacts w₂
+      more left =
+          record {
+            unbound = unbound;
+            in-gc = λ ne. absurd (ne refl);
+            phase = omega arith;
+            bound = known;
+            released = λ i l. set-known (w₁ .released) part 1 i (omega arith) (rw released (F .released i l)) room;
+            only = λ k l e. refl;
+            whose = λ i l e. of i l e (ℕ-discrete (suc i) part);
+            some = λ e. (part, low, set-at (w₁ .released) part 1 room);
+            due = λ e. left;
+            empty = λ i l e. none i l e (ℕ-discrete (suc i) part);
+          }
+        where
+          of : (i : ℕ) → i < 8 → getD (set (w₁ .released) part 1) (suc i) 0 ≡ 1 → Dec (suc i ≡ part) → getD (w₁ .bound) i 0 ≡ 1
+          of i l e (yes q) = rw bound (⊎-elim (λ a. absurd (omega arith)) (λ a. bound-word w i (rw q a)) whose)
+          of i l e (no f) = rw bound (F .whose i l (sym (before (suc i) f) ∙ e))
 
-    W : Words
-    W = abandonBlocks p abandoned inGc w₂
+      W : Words
+      W = abandonBlocks p abandoned inGc w₂
 
-    R : Framed 9 8 w₂ W
-    R = abandon-framed p 9 8 (omega arith) (omega arith) w₂
+      R : Framed 9 8 w₂ W
+      R = abandon-framed p 9 8 (omega arith) (omega arith) w₂
 
-    last : FlagFacts (setPhase 0 (withReleased (replicate 9 0) W))
-    last =
-        record {
-          unbound = λ i l ne m e. R .first m (omega arith) (omega arith) ∙ unbound i l (rw (R .bound) at ne) m e;
-          in-gc = λ ne. abandon-empties p 8 9 w₂ (sized-same (simp kept-lengths) z) (omega arith) (omega arith) (omega arith);
-          phase = omega arith;
-          bound = λ i l. rw (R .bound) (known i l);
-          released = λ i l. rw (getD-zeros 9 i) (omega arith);
-          only = λ k l e. absurd (clear k e);
-          whose = λ i l e. absurd (clear (suc i) e);
-          some = λ e. absurd (omega arith);
-          due = λ e. absurd (omega arith);
-          empty = λ i l e. absurd (clear (suc i) e);
-        }
-      where
-        clear : (k : ℕ) → getD (replicate {A = ℕ} 9 0) k 0 ≡ 1 → ⊥
-        clear k e = omega (arith, getD-zeros 9 k)
+      last : FlagFacts (setPhase 0 (withReleased (replicate 9 0) W))
+      last =
+          record {
+            unbound = λ i l ne m e. R .first m (omega arith) (omega arith) ∙ unbound i l (rw (R .bound) at ne) m e;
+            in-gc = λ ne. abandon-empties p 8 9 w₂ (sized-same (simp kept-lengths) z) (omega arith) (omega arith) (omega arith);
+            phase = omega arith;
+            bound = λ i l. rw (R .bound) (known i l);
+            released = λ i l. rw (getD-zeros 9 i) (omega arith);
+            only = λ k l e. absurd (clear k e);
+            whose = λ i l e. absurd (clear (suc i) e);
+            some = λ e. absurd (omega arith);
+            due = λ e. absurd (omega arith);
+            empty = λ i l e. absurd (clear (suc i) e);
+          }
+        where
+          clear : (k : ℕ) → getD (replicate {A = ℕ} 9 0) k 0 ≡ 1 → ⊥
+          clear k e = omega (arith, getD-zeros 9 k)
+
+  -- if the part is the last, no holder has a block, and the shared part is done
+  pub last-empties : isLast part w₁ ≡ true → (i : ℕ) → i < 8 → Empty w₁ i
+  unfolding isLast allReleased hasReleased setReleased setPhase
+  last-empties e i l =
+      let w₂ : Words = setReleased part 1 (setPhase 2 w₁) in
+      ⊎-elim (λ f. unbound i l (λ q. not-both (isBound w₂ (suc i)) (at-bound w₂ (suc i) (record { low = omega arith; high = omega arith; is = ap (λ (k : ℕ). getD (w₁ .bound) k 0) (one-less i) ∙ q })) (not-true _ f)))
+      (λ q. none i l (eqb-true _ 1 q) (ℕ-discrete (suc i) part))
+      (or-cases (not (isBound w₂ (suc i))) (hasReleased w₂ (suc i)) (all-below 8 (λ i. not (isBound w₂ (suc i)) || hasReleased w₂ (suc i)) (and-right (hasReleased w₂ 0) _ e) i l))
+    where
+      one-less : (k : ℕ) → suc k - 1 ≡ k
+      one-less k = omega arith
+
+  pub last-shared : isLast part w₁ ≡ true → getD (set (w₁ .released) part 1) 0 0 ≡ 1
+  unfolding isLast allReleased hasReleased setReleased setPhase
+  last-shared e =
+      let w₂ : Words = setReleased part 1 (setPhase 2 w₁) in
+      eqb-true _ 1 (and-left (hasReleased w₂ 0) (allBelow 8 (λ i. not (isBound w₂ (suc i)) || hasReleased w₂ (suc i))) e)

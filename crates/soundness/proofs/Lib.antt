@@ -10,12 +10,15 @@ pub mod Chained
 pub mod Simple
 pub mod Release
 pub mod Alloc
+pub mod Eagerly
 pub mod Searches
 pub mod ChainPlans
+pub mod Over
+pub mod EagerOk
 pub mod Kept
 pub mod Replies
-pub mod Over
 pub mod Released
+pub mod Eager
 pub mod Refused
 pub mod Printed
 pub mod Elsewhere

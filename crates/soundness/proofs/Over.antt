@@ -73,7 +73,7 @@ unfolding ownerOf listNamed
 same-owner w w′ b e = ap (λ (x : ℕ). (x - 1) / 147) e
 
 -- phase and released marks name no list
-releasing-owner : (part : ℕ) (w : Words) (b : ℕ) → ownerOf (setReleased part 1 (setPhase 2 w)) b ≡ ownerOf w b
+pub releasing-owner : (part : ℕ) (w : Words) (b : ℕ) → ownerOf (setReleased part 1 (setPhase 2 w)) b ≡ ownerOf w b
 unfolding ownerOf listNamed setReleased setPhase
 releasing-owner part w b = refl
 

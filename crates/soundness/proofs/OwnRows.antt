@@ -39,7 +39,7 @@ use Rattle.laws.proofs.Params.{Bounds, good-bounds}
 use Rattle.laws.proofs.Classes.{mi-chosen, fits-raised}
 use Rattle.laws.proofs.Lent.{fits-parts}
 use Rattle.laws.proofs.Tests.{alloc-passed}
-use Rattle.soundness.proofs.Elsewhere.{blocksOn-same, pagesUsed-same, pagesEnd-same, eventHeap-same, eventsHeap-same, findFree-same, recycle-same, abandoned-same, abandonBlocks-same, abandonedBlocks-same, releaseHolder-same, sweepLater-same, partReleased-same, merged-same, linkedFrom-same, chained-same}
+use Rattle.soundness.proofs.Elsewhere.{blocksOn-same, pagesUsed-same, pagesEnd-same, eventHeap-same, eventsHeap-same, findFree-same, recycle-same, abandoned-same, abandonBlocks-same, abandonedBlocks-same, releaseHolder-same, sweepLater-same, partReleased-same, merged-same, linkedFrom-same, eagerly-same, eagerOk-same, chained-same}
 use Rattle.soundness.proofs.OwnTable.{own-fit, own-bin, own-cell, own-low}
 
 module _ (p : Params) where
@@ -118,7 +118,7 @@ module _ (p : Params) where
       sound-on-same : (t : Tables) (h : List ℕ) → ((b : ℕ) → b < p .blocks → stateOf t b ≢ 0 → binNamed (t .words) b ≤ n)
           → soundOn q t h ≡ soundOn p t h
       unfolding withOwnRows
-      sound-on-same t h low = λ i. sound-same t low i && chained-same p rs n i t h
+      sound-on-same t h low = λ i. sound-same t low i && eagerOk-same p rs n i t && chained-same p rs n i t h
 
       -- ---- the search, for a bin of the table
 
@@ -168,8 +168,9 @@ module _ (p : Params) where
       releasePlan-same : (part : ℕ) (t : Tables) (f : Freed) → releasePlan q part t f ≡ releasePlan p part t f
       unfolding releasePlan withOwnRows
       releasePlan-same part t f = λ i.
-          let tables : Tables = tablesOf (partReleased-same p rs n i part (f .words)) (f .states) (t .marks) in
-          record { tables = tables; events = f .events; end = says (answered (releases (f .events) ∷ merged-same p rs n i part (f .words) ∷ [])) }
+          let g : Freed = eagerly-same p rs n i (t .marks) part f in
+          let tables : Tables = tablesOf (partReleased-same p rs n i part (g .words)) (g .states) (t .marks) in
+          record { tables = tables; events = g .events; end = says (answered (releases (g .events) ∷ merged-same p rs n i part (g .words) ∷ sweeps (g .events) ∷ [])) }
 
       alloc-same : (t : Tables) (h size align offset : ℕ) (offer : Offer) → raised p size align ≤ p .bytes
           → takePlan q align offset (findBlock q h (binOf q (raised q size align)) offer t)

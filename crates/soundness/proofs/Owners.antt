@@ -1,29 +1,32 @@
 -- What calls leave of the words that are no block's: phase, bound holders, released marks, lengths, and the firsts of lists of
 -- other owners. The owner of the list l is l / 147: 0 to 7 the holders 1 to 8, 8 abandoned, 9 in-gc. Assumes nothing.
 use mathlib.Core.Path.{_≡_, refl, sym, ap, _∙_}
-use mathlib.Core.Logic.{_≢_, _⊎_, inl, inr}
+use mathlib.Core.Logic.{_≢_, _⊎_, inl, inr, ⊎-elim}
+use mathlib.Core.Bool.{Bool, true, false}
 use mathlib.Core.List.{List}
 use Prim.Native.Nat.{ℕ, zero, suc, _-_, _*_, _/_, _%_, _≤_, _<_}
 use native.Mathlib.Omega.{arith}
 use native.Mathlib.Decide.{ℕ-discrete}
+use lib.Dec.{eqb}
 use lib.ListN.{getD}
+use borrow.Author.Tests.{eq-eqb, ne-eqb}
 use Rattle.model.specs.declared.Params.{Params}
-use Rattle.model.specs.Base.{eachBelow}
-use Rattle.model.specs.Params.{start, listOf, localSets, available, unswept, consumed, bins}
-use Rattle.model.specs.Tables.{Words, setNext, setPrev, setFree, setSize, setList, setTls, setCells}
+use Rattle.model.specs.Base.{if_then_else_, eachBelow}
+use Rattle.model.specs.Params.{start, blockAt, listOf, localSets, abandoned, inGc, available, unswept, consumed, bins}
+use Rattle.model.specs.Tables.{Words, setNext, setPrev, setFree, setSize, setList, setTls, setCells, setPhase, setReleased}
 use Rattle.model.specs.BlockList.{push, pop, remove, append}
-use Rattle.model.specs.Block.{clearBlock}
-use Rattle.model.specs.Global.{abandonBin, abandonBlocks, Freed, freed, releaseBlocks, appendTo, releaseBin, releaseHolder, sweepLater}
+use Rattle.model.specs.Block.{clearBlock, sweptWords}
+use Rattle.model.specs.Global.{abandonBin, abandonBlocks, Freed, freed, releaseBlocks, appendTo, releaseBin, releaseHolder, sweepLater, recycleBlocks, eagerly, Running, hasReleased, isBound, allReleased, isLast, partReleased}
 use Rattle.laws.proofs.Stores.{set-off}
 use Rattle.laws.proofs.Tables.{Sized, sized-same, lengths, kept-lengths}
 pub use Rattle.laws.proofs.Walks.{Numbered, available-numbered, unswept-numbered, consumed-numbered, unswept-consumed, unswept-available}
-use Rattle.laws.proofs.Walks.{blocks-keep-any, bins-keep, later-keeps, abandon-keeps}
+use Rattle.laws.proofs.Walks.{blocks-keep-any, bins-keep, later-keeps, abandon-keeps, all-keeps, recycledOne, recycle-from-keeps, recycle-keeps, recycle-keeps-any, eagerly-keeps}
 use Rattle.laws.proofs.Frame.{LinksOnly, links-refl, push-links, pop-links, append-links, remove-links, each-keeps, FirstsBut, push-first, pop-firsts, append-first, remove-first, append-empties}
 
 -- ---- list numbers
 
 -- a list of an owner that is neither available nor consumed is unswept
-third-list : (j bin m : ℕ) → m / 147 ≡ j → m % 49 ≡ bin → m ≢ available (3 * j) bin → m ≢ consumed (3 * j) bin → m ≡ unswept (3 * j) bin
+pub third-list : (j bin m : ℕ) → m / 147 ≡ j → m % 49 ≡ bin → m ≢ available (3 * j) bin → m ≢ consumed (3 * j) bin → m ≡ unswept (3 * j) bin
 unfolding available consumed unswept listOf
 third-list j bin m em e na nc = omega (arith, na, nc)
 
@@ -139,6 +142,70 @@ module _ (p : Params) (w : Words) (st : List ℕ) where
   pub shared-framed : Framed 8 8 w (sweepLater p w st .words)
   unfolding sweepLater
   shared-framed = later-keeps p (λ f. Framed 8 8 w (f .words)) (blocks-framed p 8 8 w) (to-framed p 8 8 w) (freed w st) (framed-refl w)
+
+-- ---- the end of a collection with eager sweeping: lists of abandoned and in-gc alone change
+
+-- one block swept, and one put from a list to another
+swept-framed : {j k : ℕ} (p : Params) (ms : List ℕ) (b : ℕ) (w : Words) → Framed j k w (sweptWords p ms b w)
+unfolding sweptWords
+swept-framed p ms b w = framed-trans (free-framed b _ w) (cells-framed b _ _)
+
+recycled-framed : (p : Params) (j k avail full b : ℕ) (w : Words) → Theirs p j k avail → Theirs p j k full → Framed j k w (recycledOne p avail full b w)
+recycled-framed p j k avail full b w ha hf =
+    framed-trans (links-framed p j k full full hf hf (remove-links p full b w (links-refl w)) (remove-first p full b w)) (push-framed p j k avail b (remove p full b w) ha)
+
+module _ (p : Params) (ms : List ℕ) (part : ℕ) where
+  pub eagerly-framed : (f : Freed) → Framed 8 9 (f .words) (eagerly p ms part f .words)
+  eagerly-framed f =
+      eagerly-keeps p ms part (λ g. Framed 8 9 (f .words) (g .words))
+      (λ g F on. all-keeps p ms (λ x. Framed 8 9 (f .words) (x .words)) (λ b low x X occ. framed-trans X (swept-framed p ms b (x .words))) g F)
+      (λ g owner F on which. of owner which (g .words) F) f (framed-refl (f .words))
+    where
+      walks : (i : ℕ) → i < 10 → (i ≡ 8) ⊎ (i ≡ 9) → (w : Words) → Framed 8 9 (f .words) w → Framed 8 9 (f .words) (recycleBlocks p (3 * i) w)
+      walks i li is =
+          recycle-keeps p i li (Framed 8 9 (f .words))
+          (λ avail full bin A C ne.
+          let theirs : (l : ℕ) → l / 147 ≡ i → Theirs p 8 9 l = λ l e. ⊎-elim (λ q. inl (e ∙ q)) (λ q. inr (e ∙ q)) is in
+          λ w F. recycle-from-keeps p avail full (λ k a v. Framed 8 9 (f .words) v)
+          (λ k a v X some has. framed-trans X (recycled-framed p 8 9 avail full (blockAt p a) v (theirs avail (A .owner)) (theirs full (C .owner))))
+          (λ k a v X some none. X) (Framed 8 9 (f .words)) (λ k a v X. X) (p .blocks) (getD (w .first) full 0) w F)
+
+      of : (owner : ℕ) → (owner ≡ abandoned) ⊎ (owner ≡ inGc) → (w : Words) → Framed 8 9 (f .words) w → Framed 8 9 (f .words) (recycleBlocks p owner w)
+      of owner (inl e) w F = rw e (walks 8 (omega arith) (inl refl) w F)
+      of owner (inr e) w F = rw e (walks 9 (omega arith) (inr refl) w F)
+
+  -- so whether the part is the last stays
+  pub eagerly-last : (f : Freed) → isLast part (eagerly p ms part f .words) ≡ isLast part (f .words)
+  unfolding isLast allReleased hasReleased isBound setReleased setPhase
+  eagerly-last f = let R = eagerly-framed f in rw (R .bound, R .released)
+
+  -- states stay, and of the words of blocks the cell sizes and holders
+  pub record Ended (f g : Freed) : Type 0 where
+    pub states : g .states ≡ f .states
+    pub size : g .words .size ≡ f .words .size
+    pub tls : g .words .tls ≡ f .words .tls
+
+  pub eagerly-ended : (f : Freed) → Ended f (eagerly p ms part f)
+  unfolding sweptWords setFree setCells
+  eagerly-ended f =
+      eagerly-keeps p ms part (Ended f)
+      (λ g E on. all-keeps p ms (Ended f) (λ b low x X occ. record { states = X .states; size = X .size; tls = X .tls }) g E)
+      (λ g owner E on which.
+      recycle-keeps-any p (λ w. Ended f (record { words = w; states = g .states; events = g .events }))
+      (λ avail full b w X.
+      let L = push-links p avail b (remove p full b w) (remove-links p full b w (links-refl w)) in
+      record { states = X .states; size = L .size ∙ X .size; tls = L .tls ∙ X .tls })
+      owner (g .words) E)
+      f (record { states = refl; size = refl; tls = refl })
+
+-- the collection is over if the part was the last
+pub part-phase : (p : Params) (part : ℕ) (w : Words) → eqb (partReleased p part w .phase) Running ≡ isLast part w
+unfolding partReleased isLast setReleased setPhase
+part-phase p part w = go (allReleased (setReleased part 1 (setPhase 2 w))) _ _ refl refl
+  where
+    go : (c : Bool) (x y : Words) → x .phase ≡ 0 → y .phase ≡ 2 → eqb ((if c then x else y) .phase) 0 ≡ c
+    go true x y e f = eq-eqb (x .phase) 0 e
+    go false x y e f = ne-eqb (y .phase) 0 (λ z. omega (arith, sym f ∙ z))
 
 -- ---- an owner's lists put behind another's
 

@@ -2,7 +2,7 @@
 -- Assumes nothing.
 use mathlib.Core.Path.{_≡_, refl, sym, ap, _∙_, subst}
 use mathlib.Core.Logic.{_≢_, _⊎_, inl, inr}
-use mathlib.Core.Bool.{true}
+use mathlib.Core.Bool.{true, _&&_}
 use mathlib.Core.List.{List, [], _∷_}
 use Prim.Native.Nat.{ℕ, _-_, _<_, _≤_}
 use native.Mathlib.Omega.{arith}
@@ -24,7 +24,7 @@ use Rattle.model.specs.BlockList.{blocksOn}
 use Rattle.model.specs.Block.{chainStands}
 use Rattle.model.specs.Events.{Event, eventsHeap}
 use Rattle.model.specs.FreeListAllocator.{Found, Search, inFound, acquireFresh, findBlock}
-use Rattle.model.specs.Sound.{sound, chained, soundOn}
+use Rattle.model.specs.Sound.{sound, eagerOk, chained, soundOn}
 use Rattle.model.specs.Calls.{refusalNumber, Call, bind, destroy, alloc, prepare, mark, release, sharedRelease, Plan, refuses, changes, goodOffer, takePlan, releasePlan, callTests, planPassed, planSound, plan, takeCell, finish, step, Result, tablesIn, lentOf, resultFrom, badSetup, badClasses, call, setUp}
 use Rattle.model.specs.Refusals.{PassedOver, SearchKeeps, KeptExhausted, OfAlloc, Refused, RefusalKeeps, SetUpKeeps}
 use Rattle.laws.proofs.Base.{if-cases, and-left, and-right}
@@ -173,14 +173,14 @@ module _ (p : Params) (l : Lent) (f : fits p l ≡ true) where
 
   module _ (rows : classesFit p ≡ true) (all : soundOn p (tablesIn l) (l .heap) ≡ true) where
     ok : sound p (tablesIn l) ≡ true
-    ok = and-left (sound p (tablesIn l)) (chained p (tablesIn l) (l .heap)) all
+    ok = and-left (sound p (tablesIn l)) (eagerOk p (tablesIn l)) (and-left (sound p (tablesIn l) && eagerOk p (tablesIn l)) (chained p (tablesIn l) (l .heap)) all)
 
     H : GoodTables p (l .marks) w (l .states)
     H = record { lists = λ n. blocksOn p n w; good = sound-good p B (tablesIn l) ok; sized = Z; states = parts .states }
 
     -- a block without a free head counts no free cell
     C : Chains p (w .free) (w .size) (w .cells) (l .heap) (shadowOf p (l .heap) w)
-    C = chains-found p B (tablesIn l) (l .heap) ok (and-right (sound p (tablesIn l)) (chained p (tablesIn l) (l .heap)) all) Z (parts .heap)
+    C = chains-found p B (tablesIn l) (l .heap) ok (and-right (sound p (tablesIn l) && eagerOk p (tablesIn l)) (chained p (tablesIn l) (l .heap)) all) Z (parts .heap)
 
     bare : (b : ℕ) → getD (w .free) b 0 ≡ 0 → getD (w .cells) b 0 ≡ 0
     unfolding chainStands In

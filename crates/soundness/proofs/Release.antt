@@ -1,31 +1,31 @@
 -- Releases and abandoning keep tables good: blocks go from list to list with their words, or are released and clear, and every
 -- list still links its blocks both ways. Assumes nothing.
 use mathlib.Core.Path.{_≡_, refl, sym, ap, _∙_, subst}
-use mathlib.Core.Logic.{_≢_, inl, ⊎-elim}
+use mathlib.Core.Logic.{_≢_, _⊎_, inl, inr, ⊎-elim}
 use mathlib.Core.Bool.{true, false, not}
-use mathlib.Core.List.{List, [], _∷_, _++_, append-assoc}
-use Prim.Native.Nat.{ℕ, _-_, _*_, _/_, _%_, _<_, _≤_}
+use mathlib.Core.List.{List, [], _∷_, _++_, append-assoc, append-nil}
+use Prim.Native.Nat.{ℕ, suc, _-_, _*_, _/_, _%_, _<_, _≤_}
 use native.Mathlib.Omega.{arith}
 use native.Mathlib.Decide.{ℕ-discrete}
 use lib.Dec.{eqb}
-use lib.ListN.{getD, set, length-set}
+use lib.ListN.{length, getD, set, length-set, List·getD-eq-default}
 use borrow.Author.Tests.{eq-eqb, ne-eqb}
 use Rattle.model.specs.declared.Params.{Params}
 use Rattle.model.specs.Base.{In, member, filter}
-use Rattle.model.specs.Params.{start, blockAt, localSets}
+use Rattle.model.specs.Params.{start, blockAt, listWord, localSets}
 use Rattle.model.specs.Tables.{Words, tablesOf, setNext, setPrev, setFree, setSize, setList, setTls, setCells}
 use Rattle.model.specs.BlockList.{remove, append}
-use Rattle.model.specs.Block.{clearBlock}
+use Rattle.model.specs.Block.{Unmarked, clearBlock}
 use Rattle.model.specs.Global.{abandonBlocks, Freed, freed, releaseBlocks, appendTo, releaseHolder, sweepLater}
 use Rattle.model.specs.Sound.{stateOf, blockClear}
 use Rattle.laws.proofs.Base.{not-both, or-none-left, or-none-right, in-append, in-append-left, in-append-right, filter-append}
-use Rattle.laws.proofs.Params.{Bounds, blockAt-start}
+use Rattle.laws.proofs.Params.{Bounds, some-start, blockAt-start, word-same}
 use Rattle.laws.proofs.Stores.{set-at, set-off}
-use Rattle.laws.proofs.Tables.{Sized, sized-same, lengths, kept-lengths}
+use Rattle.laws.proofs.Tables.{Sized, sized-same, lengths, kept-lengths, by-lt}
 use Rattle.laws.proofs.Frame.{LinksOnly, links-refl, append-links, remove-links}
-use Rattle.laws.proofs.Walks.{Numbered, releasedOne, blocks-keep, bins-keep, later-keeps, abandon-keeps}
+use Rattle.laws.proofs.Walks.{Numbered, releasedOne, blocks-end, bins-keep, later-keeps, abandon-keeps}
 use Rattle.laws.proofs.Pigeon.{Distinct}
-use Rattle.soundness.proofs.Lists.{Seg, Run, Lists, AllOn, Off, OnSome, put, put-same, put-other, put-all, put-in, in-put, on-list, one-list, free-off, lists-distinct}
+use Rattle.soundness.proofs.Lists.{Seg, seg-short, Run, Lists, AllOn, Off, OnSome, put, put-same, put-other, put-all, put-in, in-put, on-list, one-list, free-off, lists-distinct}
 use Rattle.soundness.proofs.Removes.{without, in-without, without-in, without-none, remove-lists, remove-stays, append-lists, append-stays, clear-lists}
 use Rattle.soundness.proofs.SoundLists.{Fit}
 use Rattle.soundness.proofs.GoodTables.{GoodTables, SameWords, links-words, fit-moves, fit-same, clear-same}
@@ -33,7 +33,7 @@ use Rattle.soundness.proofs.GoodTables.{GoodTables, SameWords, links-wo
 -- ---- a list from some block on
 
 -- the link a leads to the head of the list, or is 0 if there is none
-At : Params → ℕ → List ℕ → Type 0
+unfoldable pub At : Params → ℕ → List ℕ → Type 0
 At p a [] = a ≡ 0
 At p a (x ∷ xs) = a ≡ start p x
 
@@ -167,8 +167,8 @@ module _ (p : Params) (B : Bounds p) (ms : List ℕ) where
     lb = on-list p (H .good .lists) l b ll i .low
 
     -- what is on a list after was there before, and is not b
-    old : (m x : ℕ) → m < 1470 → In x (Left m) → In x (Ls m) × (x ≢ b)
-    old m x low y = ⊎-elim
+    pub left-old : (m x : ℕ) → m < 1470 → In x (Left m) → In x (Ls m) × (x ≢ b)
+    left-old m x low y = ⊎-elim
         (λ q. let z = in-without b x (Ls l) (q .1) in (subst (λ (k : ℕ). In x (Ls k)) (sym (q .0)) (z .0), z .1))
         (λ q. (q .1, λ e. q .0 (one-list p (H .good .lists) m l b low ll (subst (λ (k : ℕ). In k (Ls m)) e (q .1)) i)))
         (in-put l (without b (Ls l)) Ls m x y)
@@ -212,7 +212,7 @@ module _ (p : Params) (B : Bounds p) (ms : List ℕ) where
 
     pub released-lists : Lists p (set st b 0) (clearBlock b R) Left
     unfolding Off
-    released-lists = clear-lists p (remove-lists p B st w (H .sized) Ls (H .good .lists) l b ll i) b (λ m low x. old m b low x .1 refl)
+    released-lists = clear-lists p (remove-lists p B st w (H .sized) Ls (H .good .lists) l b ll i) b (λ m low x. left-old m b low x .1 refl)
 
     pub release-good : GoodTables p ms (clearBlock b R) (set st b 0)
     unfolding AllOn Off stateOf
@@ -225,7 +225,7 @@ module _ (p : Params) (B : Bounds p) (ms : List ℕ) where
                 let ne : x ≢ b = λ e. occ (ap (λ (k : ℕ). getD (set st b 0) k 0) e ∙ set-at st b 0 (omega (arith, lb, H .states))) in
                 let m = H .good .on x low (rw (set-off st b 0 x ne) at occ) in
                 (m .0, m .1, put-in l (without b (Ls l)) Ls (m .0) x (λ e. without-in b x (Ls l) (subst (λ (k : ℕ). In x (Ls k)) e (m .2)) ne) (λ f. m .2));
-            fit = λ m x low y. let z = old m x low y in fit-same p ms m x (set-off st b 0 x (z .1)) (words-of x (z .1)) (H .good .fit m x low (z .0));
+            fit = λ m x low y. let z = left-old m x low y in fit-same p ms m x (set-off st b 0 x (z .1)) (words-of x (z .1)) (H .good .fit m x low (z .0));
             clear = λ x low e. clear-of x low e (ℕ-discrete x b);
           };
           sized = sized-same (cleared-lengths b R) ZR;
@@ -237,62 +237,152 @@ module _ (p : Params) (B : Bounds p) (ms : List ℕ) where
   abbrev pub GoodBy : Freed → Type 0
   GoodBy f = GoodTables p ms (f .words) (f .states)
 
-  -- the walk stands at a: `done` are left behind, `rest` are still to come
-  record Walking (l a : ℕ) (f : Freed) : Type 0 where
-    good : GoodBy f
-    done : List ℕ
-    rest : List ℕ
-    split : good .lists l ≡ done ++ rest
-    at : At p a rest
+  -- no Unmarked block names the list l
+  unfoldable pub Clean : ℕ → Freed → Type 0
+  Clean l f = (b : ℕ) → getD (f .states) b 0 ≡ Unmarked → getD (f .words .list) b 0 ≢ listWord l
 
-  -- it goes on by one block, which is released or stays
-  steps-good : (l a : ℕ) (f : Freed) (H : GoodBy f) (done rest : List ℕ) → l < 1470 → H .lists l ≡ done ++ rest → At p a rest → a ≢ 0
-      → Walking l (getD (f .words .next) (blockAt p a) 0) (releasedOne p l (blockAt p a) f) × Walking l (getD (f .words .next) (blockAt p a) 0) f
-  unfolding At release-good
-  steps-good l a f H done [] ll e at some = absurd (some at)
-  steps-good l a f H done (x ∷ rest) ll e at some = (
-    record { good = release-good (f .words) (f .states) H l (blockAt p a) ll (rw is-x here); done = done; rest = rest; split = left; at = next },
-    record { good = H; done = done ++ (x ∷ []); rest = rest; split = e ∙ sym (append-assoc done (x ∷ []) rest); at = next },
-  )
-    where
-      here : In x (H .lists l)
-      here = rw e (in-middle done x rest)
+  -- the walk stands at a: `done` are left behind and not Unmarked, `rest` are still to come, at most k
+  pub record Walking (l k a : ℕ) (f : Freed) : Type 0 where
+    pub good : GoodBy f
+    pub done : List ℕ
+    pub rest : List ℕ
+    pub split : good .lists l ≡ done ++ rest
+    pub at : At p a rest
+    pub short : length rest ≤ k
 
-      is-x : blockAt p a ≡ x
-      is-x = ap (blockAt p) at ∙ blockAt-start p B x (on-list p (H .good .lists) l x ll here .low)
+  -- those left behind are not Unmarked
+  abbrev Passed : {l k a : ℕ} {f : Freed} → Walking l k a f → Type 0
+  Passed {l} {k} {a} {f} W = (x : ℕ) → In x (W .done) → getD (f .states) x 0 ≢ Unmarked
 
-      left : put l (without (blockAt p a) (H .lists l)) (H .lists) l ≡ done ++ rest
-      left =
-          put-same l (without (blockAt p a) (H .lists l)) (H .lists)
-          ∙ rw (is-x, e) (without-middle done x rest (subst Distinct e (lists-distinct p (H .good .lists) B l ll)))
+  pub record Step (l k a : ℕ) (f : Freed) (W : Walking l (suc k) a f) : Type 0 where
+    pub block : ℕ
+    pub is : blockAt p a ≡ block
+    pub on : In block (W .good .lists l)
+    pub behind : List ℕ
+    pub rest : W .rest ≡ block ∷ behind
+    pub next : At p (getD (f .words .next) block 0) behind
+    pub left : without block (W .good .lists l) ≡ W .done ++ behind
 
-      next : At p (getD (f .words .next) (blockAt p a) 0) rest
-      next = rw is-x (seg-next p (f .states) (f .words) _ _ 0 _ done x rest (subst (Run p (f .states) (f .words) l) e (H .good .lists .seg l ll)))
-
-  -- the block at which it stands is on the list
-  walking-on : (l a : ℕ) (f : Freed) → l < 1470 → (W : Walking l a f) → a ≢ 0 → In (blockAt p a) (W .good .lists l)
+  -- the block at which it stands
+  pub stands-at : (l k a : ℕ) (f : Freed) (W : Walking l (suc k) a f) → l < 1470 → a ≢ 0 → Step l k a f W
   unfolding At
-  walking-on l a f ll W some = go (W .rest) (W .split) (W .at)
+  stands-at l k a f W ll some = go (W .rest) refl
     where
-      go : (rest : List ℕ) → W .good .lists l ≡ W .done ++ rest → At p a rest → In (blockAt p a) (W .good .lists l)
-      go [] e at = absurd (some at)
-      go (x ∷ xs) e at =
-          let here : In x (W .good .lists l) = rw e (in-middle (W .done) x xs) in
-          rw (ap (blockAt p) at ∙ blockAt-start p B x (on-list p (W .good .good .lists) l x ll here .low)) here
+      H : GoodBy f
+      H = W .good
 
-  -- good tables are kept, and with them what each release of a block on the list keeps
+      go : (rest : List ℕ) → W .rest ≡ rest → Step l k a f W
+      go [] q = absurd (some (subst (At p a) q (W .at)))
+      go (x ∷ xs) q =
+          let e : H .lists l ≡ W .done ++ (x ∷ xs) = W .split ∙ ap (λ (ys : List ℕ). W .done ++ ys) q in
+          let here : In x (H .lists l) = rw e (in-middle (W .done) x xs) in
+          record {
+            block = x;
+            is = ap (blockAt p) (subst (At p a) q (W .at)) ∙ blockAt-start p B x (on-list p (H .good .lists) l x ll here .low);
+            on = here;
+            behind = xs;
+            rest = q;
+            next = seg-next p (f .states) (f .words) _ _ 0 _ (W .done) x xs (subst (Run p (f .states) (f .words) l) e (H .good .lists .seg l ll));
+            left = rw e (without-middle (W .done) x xs (subst Distinct e (lists-distinct p (H .good .lists) B l ll)));
+          }
+
+  -- it goes on by a block that stays
+  pub walk-on : (l k a : ℕ) (f : Freed) (W : Walking l (suc k) a f) (S : Step l k a f W) → Walking l k (getD (f .words .next) (blockAt p a) 0) f
+  walk-on l k a f W S =
+      record {
+        good = W .good;
+        done = W .done ++ (S .block ∷ []);
+        rest = S .behind;
+        split = W .split ∙ ap (λ (ys : List ℕ). W .done ++ ys) (S .rest) ∙ sym (append-assoc (W .done) (S .block ∷ []) (S .behind));
+        at = rw (S .is) (S .next);
+        short = omega (arith, W .short, ap length (S .rest));
+      }
+
+  -- or by one that is taken off the list
+  pub walk-off : (l k a : ℕ) (f : Freed) (W : Walking l (suc k) a f) (S : Step l k a f W) (g : Freed) (G : GoodBy g)
+      → G .lists l ≡ without (S .block) (W .good .lists l) → Walking l k (getD (f .words .next) (blockAt p a) 0) g
+  walk-off l k a f W S g G e =
+      record { good = G; done = W .done; rest = S .behind; split = e ∙ S .left; at = rw (S .is) (S .next); short = omega (arith, W .short, ap length (S .rest)) }
+
+  pub walk-start : (l : ℕ) (f : Freed) → l < 1470 → (H : GoodBy f) → Walking l (p .blocks) (getD (f .words .first) l 0) f
+  walk-start l f ll H =
+      record {
+        good = H;
+        done = [];
+        rest = H .lists l;
+        split = refl;
+        at = seg-at p (f .states) (f .words) _ _ 0 _ (H .lists l) (H .good .lists .seg l ll);
+        short = seg-short p B (f .states) (f .words) _ _ 0 _ (H .lists l) (H .good .lists .seg l ll);
+      }
+
+  -- at its end it has left all behind
+  walk-done : (l k a : ℕ) (f : Freed) (W : Walking l k a f) → l < 1470 → (k ≡ 0) ⊎ (a ≡ 0) → W .good .lists l ≡ W .done
+  unfolding At
+  walk-done l k a f W ll end = go (W .rest) refl end
+    where
+      go : (rest : List ℕ) → W .rest ≡ rest → (k ≡ 0) ⊎ (a ≡ 0) → W .good .lists l ≡ W .done
+      go [] q e = W .split ∙ ap (λ (ys : List ℕ). W .done ++ ys) q ∙ append-nil (W .done)
+      go (x ∷ xs) q (inl e) = absurd (omega (arith, W .short, e, ap length q))
+      go (x ∷ xs) q (inr e) =
+          let at : a ≡ start p x = subst (At p a) q (W .at) in
+          let here : In x (W .good .lists l) = rw (W .split, q) (in-middle (W .done) x xs) in
+          absurd (some-start p B x (on-list p (W .good .good .lists) l x ll here .low) (sym at ∙ e))
+
+  -- a block that is not Unmarked, or is not in use, is no Unmarked one after a release
+  still-marked : (st : List ℕ) (b x : ℕ) → getD st x 0 ≢ Unmarked → getD (set st b 0) x 0 ≢ Unmarked
+  still-marked st b x f = go (ℕ-discrete x b)
+    where
+      none : getD (set st b 0) b 0 ≢ Unmarked
+      none e = by-lt b (length st) (λ low. omega (arith, sym (set-at st b 0 low) ∙ e))
+          (λ far. omega (arith, sym (List·getD-eq-default (set st b 0) 0 {n = b} (omega (arith, length-set st b 0))) ∙ e))
+
+      go : Dec (x ≡ b) → getD (set st b 0) x 0 ≢ Unmarked
+      go (yes e) = rw e none
+      go (no g) = rw (set-off st b 0 x g) f
+
+  -- if all blocks of the list are not Unmarked, no Unmarked block names it
+  clean-list : (l : ℕ) (f : Freed) (H : GoodBy f) → l < 1470 → ((x : ℕ) → In x (H .lists l) → getD (f .states) x 0 ≢ Unmarked) → Clean l f
+  unfolding Clean AllOn
+  clean-list l f H ll all b u names =
+      let occ : getD (f .states) b 0 ≢ 0 = λ z. omega (arith, sym u ∙ z) in
+      let low : b < p .blocks = by-lt b (p .blocks) (λ k. k) (λ far. absurd (occ (List·getD-eq-default (f .states) 0 {n = b} (omega (arith, H .states))))) in
+      let m = H .good .on b low occ in
+      let same : m .0 ≡ l = word-same (m .0) l (sym (on-list p (H .good .lists) (m .0) b (m .1) (m .2) .names) ∙ names) in
+      all b (subst (λ (k : ℕ). In b (H .lists k)) same (m .2)) u
+
+  -- good tables are kept, and with them what each release of a block on the list keeps; no Unmarked block is left
+  pub blocks-good-clean : (l bin o : ℕ) → Numbered l o bin → (P : Freed → Type 0)
+      → ((f : Freed) (H : GoodBy f) (b : ℕ) → In b (H .lists l) → P f → P (releasedOne p l b f))
+      → (f : Freed) → GoodBy f → P f → GoodBy (releaseBlocks p l f) × P (releaseBlocks p l f) × Clean l (releaseBlocks p l f)
+  unfolding release-good In walk-on walk-off walk-start
+  blocks-good-clean l bin o N P one f H q =
+      blocks-end p l On
+      (λ k a g W some u.
+      let S = stands-at l k a g (W .0) (N .low) some in
+      let i : In (blockAt p a) (W .0 .good .lists l) = rw (S .is) (S .on) in
+      let G : GoodBy (releasedOne p l (blockAt p a) g) = release-good (g .words) (g .states) (W .0 .good) l (blockAt p a) (N .low) i in (
+        walk-off l k a g (W .0) S (releasedOne p l (blockAt p a) g) G
+            (put-same l (without (blockAt p a) (W .0 .good .lists l)) (W .0 .good .lists) ∙ ap (λ (x : ℕ). without x (W .0 .good .lists l)) (S .is)),
+        (λ x m. still-marked (g .states) (blockAt p a) x (W .1 x m)),
+        one g (W .0 .good) (blockAt p a) i (W .2),
+      ))
+      (λ k a g W some u.
+      let S = stands-at l k a g (W .0) (N .low) some in (
+        walk-on l k a g (W .0) S,
+        (λ x m. ⊎-elim (W .1 x) (λ y. ⊎-elim (λ e. subst (λ (y : ℕ). getD (g .states) y 0 ≢ Unmarked) (S .is ∙ sym e) u) (λ z. absurd z) y) (in-append x (W .0 .done) (S .block ∷ []) m)),
+        W .2,
+      ))
+      (λ g. GoodBy g × P g × Clean l g)
+      (λ k a g W end. (W .0 .good, W .2, clean-list l g (W .0 .good) (N .low) (λ x m. W .1 x (subst (In x) (walk-done l k a g (W .0) (N .low) end) m))))
+      f (walk-start l f (N .low) H, (λ x m. absurd m), q)
+    where
+      On : ℕ → ℕ → Freed → Type 0
+      On k a g = (W : Walking l k a g) × Passed W × P g
+
   pub blocks-good-with : (l bin o : ℕ) → Numbered l o bin → (P : Freed → Type 0)
       → ((f : Freed) (H : GoodBy f) (b : ℕ) → In b (H .lists l) → P f → P (releasedOne p l b f))
       → (f : Freed) → GoodBy f → P f → GoodBy (releaseBlocks p l f) × P (releaseBlocks p l f)
-  blocks-good-with l bin o N P one f H q =
-      blocks-keep p l (λ k a g. Walking l a g × P g)
-      (λ k a g W some u. (step a g (W .0) some .0, one g (W .0 .good) (blockAt p a) (walking-on l a g (N .low) (W .0) some) (W .1)))
-      (λ k a g W some. (step a g (W .0) some .1, W .1)) (λ g. GoodBy g × P g) (λ k a g W. (W .0 .good, W .1)) f
-      (record { good = H; done = []; rest = H .lists l; split = refl; at = seg-at p (f .states) (f .words) _ _ 0 _ (H .lists l) (H .good .lists .seg l (N .low)) }, q)
-    where
-      step : (a : ℕ) (g : Freed) → Walking l a g → a ≢ 0
-          → Walking l (getD (g .words .next) (blockAt p a) 0) (releasedOne p l (blockAt p a) g) × Walking l (getD (g .words .next) (blockAt p a) 0) g
-      step a g W some = steps-good l a g (W .good) (W .done) (W .rest) (N .low) (W .split) (W .at) some
+  blocks-good-with l bin o N P one f H q = let R = blocks-good-clean l bin o N P one f H q in (R .0, R .1)
 
   blocks-good : (l bin o : ℕ) → Numbered l o bin → (f : Freed) → GoodBy f → GoodBy (releaseBlocks p l f)
   blocks-good l bin o N f H = blocks-good-with l bin o N (λ g. Unit {0}) (λ g G b i u. tt) f H tt .0

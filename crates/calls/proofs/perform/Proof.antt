@@ -168,7 +168,7 @@ same-length-24 c = search needs
 --@ returns-6 c = of-call (@ask5 .given .1) (@release .ensures) (@release-said .ensures)
 returns-6 : tie.Need-returns-6
 unfolding callOf
-returns-6 c = of-call (c .before .before .before .before .before .before .before .before .before .before .before .ask5 .given .1) (c .before .before .before .before .before .release .ensures) (c .release-said .ensures)
+returns-6 c = of-call (c .before .before .before .before .before .before .before .before .before .before .before .before .before .ask5 .given .1) (c .before .before .before .before .before .before .before .release .ensures) (c .release-said .ensures)
 
 same-length-25 : tie.Need-same-length-25
 same-length-25 c = search needs
@@ -185,7 +185,7 @@ same-length-28 c = search needs
 --@ returns-7 c = of-call (@enum-told2 .given .1) (@shared-release .ensures) (@release-said2 .ensures)
 returns-7 : tie.Need-returns-7
 unfolding callOf
-returns-7 c = of-call (c .before .before .before .before .before .before .before .before .before .before .enum-told2 .given .1) (c .before .before .before .before .before .shared-release .ensures) (c .release-said2 .ensures)
+returns-7 c = of-call (c .before .before .before .before .before .before .before .before .before .before .before .before .enum-told2 .given .1) (c .before .before .before .before .before .before .before .shared-release .ensures) (c .release-said2 .ensures)
 
 pub perform-spec : {M : Type 1} → statement M
 perform-spec =

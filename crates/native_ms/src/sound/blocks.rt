@@ -53,7 +53,7 @@ fn names_list(words: &[usize], blocks: usize, b: Block) -> bool
 }
 
 // The list that the block names; 0 if it names none.
-fn list_named(words: &[usize], blocks: usize, b: Block) -> usize
+pub(crate) fn list_named(words: &[usize], blocks: usize, b: Block) -> usize
     requires { ⌜ (length (now words) ≡ headWords + blockTables * blocks) × (b .0 < blocks) ⌝ }
     ensures { λ r. ⌜ r ≡ listNamed (view (now (words .entry))) (b .0) ⌝ }
 {

@@ -80,8 +80,11 @@ pub mod copy {
 pub mod epilogue {
     use std::sync::atomic::{AtomicUsize, Ordering};
 
+    /// Not while a panic unwinds: a second one would end the process.
     pub fn debug_assert_counter_zero(counter: &AtomicUsize, what: &str) {
-        debug_assert_eq!(counter.load(Ordering::SeqCst), 0, "{what} isn't 0");
+        if !std::thread::panicking() {
+            debug_assert_eq!(counter.load(Ordering::SeqCst), 0, "{what} isn't 0");
+        }
     }
 }
 

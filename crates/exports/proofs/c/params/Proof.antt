@@ -10,7 +10,7 @@ rows-of-requires c κs = search needs
 
 --@ returns c = rw (toZ-ofZ (record { sfits = @struct-told .given .1 .1 .1 .1 .1 .1 .1 .0 .1 })) (params-read (@args .g) (@args .rows .now) (@rows-of .ensures))
 returns : tie.Need-returns
-returns c = rw (toZ-ofZ (record { sfits = c .struct-told .given .1 .1 .1 .1 .1 .1 .1 .0 .1 })) (params-read (c .before .before .before .before .before .args .g) (c .before .before .before .before .before .args .rows .now) (c .before .rows-of .ensures))
+returns c = rw (toZ-ofZ (record { sfits = c .struct-told .given .1 .1 .1 .1 .1 .1 .1 .0 .1 })) (params-read (c .before .before .before .before .before .before .args .g) (c .before .before .before .before .before .before .args .rows .now) (c .before .rows-of .ensures))
 
 pub params-spec : {M : Type 1} → statement M
 params-spec = tie.close (tie.spec rows-of-requires returns)

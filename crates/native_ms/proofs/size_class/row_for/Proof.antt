@@ -21,10 +21,10 @@ abbrev μ-loop : tie.MeasureT-loop
 loop-holds : tie.Need-loop-holds Inv-loop μ-loop
 loop-holds c = (omega arith, walk-start _ _)
 
---@ returns c = let e : length (@args .p .rows) ≡ 48 = sym (length-map (@args .p .rows) _) ∙ @good .0 .1 .1 .1 .1 .1 .1 .1 .1 .1 .1 .0 .1 .0 .1 in sym (rows-past (@args .p .rows) (@args .words) (@args .p .count) (@loop .n) (omega (arith, @if1 .taken))) ∙ @loop .inv .1
+--@ returns c = let e : length (@args .p .rows) ≡ 48 = sym (length-map (@args .p .rows) _) ∙ @good .0 .1 .1 .1 .1 .1 .1 .1 .1 .1 .1 .1 .0 .1 .0 .1 in sym (rows-past (@args .p .rows) (@args .words) (@args .p .count) (@loop .n) (omega (arith, @if1 .taken))) ∙ @loop .inv .1
 returns : tie.Need-returns Inv-loop μ-loop
 unfolding rowAt
-returns c = let e : length (c .before .before .before .before .args .p .rows) ≡ 48 = sym (length-map (c .before .before .before .before .args .p .rows) _) ∙ c .before .before .before .before .good .0 .1 .1 .1 .1 .1 .1 .1 .1 .1 .1 .0 .1 .0 .1 in sym (rows-past (c .before .before .before .before .args .p .rows) (c .before .before .before .before .args .words) (c .before .before .before .before .args .p .count) (c .before .before .loop .n) (omega (arith, c .if1 .taken))) ∙ c .before .before .loop .inv .1
+returns c = let e : length (c .before .before .before .before .args .p .rows) ≡ 48 = sym (length-map (c .before .before .before .before .args .p .rows) _) ∙ c .before .before .before .before .good .0 .1 .1 .1 .1 .1 .1 .1 .1 .1 .1 .1 .0 .1 .0 .1 in sym (rows-past (c .before .before .before .before .args .p .rows) (c .before .before .before .before .args .words) (c .before .before .before .before .args .p .count) (c .before .before .loop .n) (omega (arith, c .if1 .taken))) ∙ c .before .before .loop .inv .1
 
 mul-row : tie.Need-mul-row Inv-loop μ-loop
 mul-row c = omega arith
