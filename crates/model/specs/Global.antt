@@ -13,7 +13,7 @@
 -- |                |                    | the last of these: in-gc merged into abandoned                            | or Running |
 --
 -- With the choice of eager sweeping (02, R-8) nothing becomes unswept: what a release leaves stays available or consumed, and the last
--- one sweeps every occupied block and files it anew before the merge.
+-- one sweeps every occupied block and moves consumed blocks that have a free cell to available before the merge.
 use Prim.Native.Nat.{ℕ, zero, suc, _+_, _-_, _*_, _/_}
 use mathlib.Core.Bool.{Bool, true, false, not, _&&_, _||_}
 use mathlib.Core.List.{List, [], _∷_, _++_, map}
