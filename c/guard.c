@@ -2,7 +2,7 @@
  * the program. Slices are sound, damaged, or of a wrong length; parameters are now and then off.
  * Half of the spaces have rows, which are damaged for single calls; half sweep eagerly.
  * After each call: bytes beside a slice are as before, and so are the rows; a wrong length or flag is 1; a refusal but 9 changed
- * nothing, and none wrote the answer; none is 8, and a chain that is a ring or shorter than its count is not accepted; an answer's
+ * nothing, and wrote no answer; 9 wrote three zeros and a count of blocks; none is 8, and a chain that is a ring or shorter than its count is not accepted; an answer's
  * last words are 0.
  * Use: guard CALLS SEED */
 #include <stdio.h>
@@ -255,9 +255,12 @@ static size_t one_call(int which, int off)
             fail("a byte beside a slice changed");
         if (i == ROWS && !same(&slices[i]))
             fail("a row changed");
-        if (r != 0 && (i == ANSWER || r != 9) && !same(&slices[i]))
+        if (r != 0 && r != 9 && !same(&slices[i]))
             fail("a refusal changed a byte");
     }
+    for (size_t k = 0; r == 9 && k < 4; k++)
+        if (native_ms_word(slices[ANSWER].at, k) > (k < NATIVE_MS_ALLOC_SWEPT ? 0 : 2 * given.blocks))
+            fail("9 told something else than a count");
     for (size_t k = values; r == 0 && k < 4; k++)
         if (native_ms_word(slices[ANSWER].at, k) != 0)
             fail("a word behind the answer is not 0");

@@ -5,7 +5,8 @@
  * call can test.
  *
  * A call returns 0, or the number of its refusal. A refusal leaves the answer slice alone, and everything else too, save that
- * after 9 the block moves and sweeps already made stand.
+ * after 9 the block moves and sweeps already made stand, and the answer's fourth word says how many blocks were swept, with zeros
+ * before it.
  *
  * DUTIES OF THE HOST
  * - Each slice is a pointer and the length of what is really there. No pointer is null, not even for length 0.
@@ -31,7 +32,7 @@ extern "C" {
 #endif
 
 /* This interface. It changes whenever a signature, a length or an answer does. */
-#define NATIVE_MS_VERSION 5
+#define NATIVE_MS_VERSION 6
 
 #if SIZE_MAX != UINT64_MAX
 #error "size_t must have 64 bits"
@@ -65,7 +66,7 @@ extern "C" {
     uint8_t *words, size_t words_len, uint8_t *states, size_t states_len, uint8_t *marks, size_t marks_len, \
     uint8_t *heap, size_t heap_len, NATIVE_MS_ROWS, uint8_t *answer, size_t answer_len
 
-/* ---- the calls. Behind each: the words of its answer, in order; words after them are 0 */
+/* ---- the calls. Behind each: the words of its answer, in order; words after them are 0. Alloc refused as 9: 0, 0, 0, blocks swept */
 
 size_t native_ms_set_up(NATIVE_MS_PARAMS, NATIVE_MS_SLICES);                                  /* none */
 size_t native_ms_bind(NATIVE_MS_PARAMS, NATIVE_MS_SLICES, size_t holder);                     /* none */

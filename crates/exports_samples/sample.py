@@ -21,10 +21,14 @@ def given(answer):
     kind, *words = answer.split()
     if kind == 'bad':
         return 'bad'
+    number = '0'
     if kind == 'refused':
-        return words[0] + ' ' + UNTOUCHED
+        number, *swept = words
+        if not swept:
+            return number + ' ' + UNTOUCHED
+        words = ['0', '0', '0'] + swept     # Exhausted: its swept count in its place
     values = [int(x) for x in words] + [0] * (4 - len(words))
-    return '0 ' + ''.join(v.to_bytes(8, 'little').hex() for v in values)
+    return number + ' ' + ''.join(v.to_bytes(8, 'little').hex() for v in values)
 
 
 def main():

@@ -31,10 +31,11 @@ ARENA = 1 << 16         # small heaps, since each dump prints every mark byte
 LAST = 'no_newline'     # its last line has no newline, so it stands last
 THROUGH = ('example', 'exhausted', 'bad_link', 'refused_1', 'refused_2_order', 'refused_3', 'refused_4', 'refused_5', 'refused_6',
            'refused_7', 'refused_10', 'release_walk', 'merge', 'leaves_marking', 'sweep_negative_L', 'rows', 'rows_refused',
-           'rows_office', 'free_counts', 'free_counts_refused', 'eager_release', 'eager_refused')   # told again through the exports
+           'rows_office', 'free_counts', 'free_counts_refused', 'eager_release', 'eager_refused', 'exhausted_swept')   # told again through the exports
 ROW_SEEDS = (3, 12)     # with rows, good and damaged
 VALUES = {'setup': 0, 'b': 0, 'd': 1, 'p': 0, 'a': 4, 'm': 1, 'r': 3, 's': 3}
 NO_OFFER = str(2 ** 64 - 1)     # directly a block that isn't there, through an export none
+EXHAUSTED = '9'
 NOT_FOR_THE_RUST = '# not for the Rust'
 
 HEAD = """\
@@ -112,9 +113,13 @@ def as_export(line, answer):
     word, (kind, *values) = line.split(' ')[0], answer.split(' ')
     if word not in VALUES or kind == 'bad':
         return answer
-    if kind == 'refused':
+    if kind == 'refused' and values[0] != EXHAUSTED:
         return values[0] + ' ' + 'a5' * 32
-    return '0 ' + ''.join(int(v).to_bytes(8, 'little').hex() for v in values + ['0'] * (4 - len(values)))
+    if kind == 'refused':
+        number, words = values[0], ['0'] * 3 + values[1:]   # 02, R-12: the swept count in its place
+    else:
+        number, words = '0', values + ['0'] * (4 - len(values))
+    return number + ' ' + ''.join(int(v).to_bytes(8, 'little').hex() for v in words)
 
 
 def through_part(name, lines):
@@ -132,7 +137,7 @@ def through_parts():
     rows = through_part('random rows, seed 5', rows_part(5)[1])
     off = ['x 31', 'setup 16384 12 4 8 8 0 1 0 0', 'x 0', 'setup 16384 12 4 8 8 0 1 0 0', 'x 64', 'setup 16384 12 4 8 8 0 1 0 0', 'x 32',
            'setup 16384 12 4 8 8 0 1 0 0', 'b 1', 'a 1 8 8 0 ' + NO_OFFER, 'a 1 8 8 0 1', 'x 40', 'a 1 8 8 0 -', 'x -', 'a 1 8 8 0 -']
-    given = ['ok', '1 ' + 'a5' * 31, 'ok', '1 -', 'ok', '1 ' + 'a5' * 64, 'ok', '0 ' + '00' * 32, '0 ' + '00' * 32, '9 ' + 'a5' * 32,
+    given = ['ok', '1 ' + 'a5' * 31, 'ok', '1 -', 'ok', '1 ' + 'a5' * 64, 'ok', '0 ' + '00' * 32, '0 ' + '00' * 32, '9 ' + '00' * 32,
              as_export('a', 'ok 24568 8 1 0'), 'ok', '1 ' + 'a5' * 40, 'ok', 'ok 24560 8 0 0']
     return [('# through the exports', ['x 32'], ['ok'])] + named + [rust, eager, rows, ('# document 02: answer slices', off, given)]
 

@@ -25,16 +25,18 @@ BAD_CLASSES = 12    # R-5 of document 02; tested right after 1
 
 
 class Refused(Exception):
-    """A refused call: its number is all that it returns."""
+    """A refused call: its number is all that it returns; but Exhausted also
+    its swept count (R-12 of document 02)."""
 
-    def __init__(self, number):
+    def __init__(self, number, *counts):
         super().__init__(number)
         self.number = number
+        self.counts = counts
 
 
-def refuse_unless(fine, number):
+def refuse_unless(fine, number, *counts):
     if not fine:
-        raise Refused(number)
+        raise Refused(number, *counts)
 
 
 def is_power_of_two(n):
@@ -482,7 +484,7 @@ class Space:
             b = search(h, bin)
             if b is not None:
                 return b, False
-        refuse_unless(offer is not None, EXHAUSTED)
+        refuse_unless(offer is not None, EXHAUSTED, self.count('sweep'))
         self.push(list_number(h, AVAILABLE, bin), offer)
         self.init_block(offer, self.classes.cell_bytes(bin), h)
         return offer, True
@@ -861,7 +863,8 @@ class Driver:
         try:
             return self.run(line.split(' '))
         except Refused as refusal:
-            return 'refused %d' % refusal.number
+            return ' '.join(map(str, ['refused', refusal.number,
+                                      *refusal.counts]))
         except Bad:
             self.ended = True
             return 'bad'

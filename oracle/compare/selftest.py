@@ -15,13 +15,15 @@ from pathlib import Path
 import compare
 import generate
 import reference as ref
+import spans
 
 HERE = Path(__file__).resolve()
 SEEDS = 40          # scripts tried for each mutant
 CALLS = 500
 ARENA = 1 << 17     # small heaps, for speed
 MOST_LINES = 40     # a shrunk script is no longer
-SECONDS = 60        # for one script in a mutant, which may find no end
+SECONDS = 20        # of processor time for one script in a mutant, which may
+                    # find no end
 
 
 # ---- Mutants: the first eight are 01's "Wrong though tempting"
@@ -77,11 +79,14 @@ class ShortTail(ref.Space):
 
 
 class NextAfterRemoval(ref.Space):
-    """Reads next after the block is removed, so the walk ends there."""
+    """Reads next after the block is removed, so the walk ends there; where the
+    block is pushed elsewhere (R-8), the walk may go round."""
 
     def walk(self, l):
-        link = self.first[l]
+        link, steps = self.first[l], 0
         while link != 0:
+            steps += 1
+            assert steps <= self.p.blocks, 'a walk goes round'
             b = self.block_at(link)
             yield b
             link = self.next[b]
@@ -714,6 +719,85 @@ class TestedWithoutChoice(ref.Space):
             map(self.is_left_swept, range(self.p.blocks)))
 
 
+# ---- Mutants of R-12 of document 02: what Exhausted counts
+
+class ExhaustedNone(ref.Space):
+    """Exhausted answers 0 for its swept count."""
+
+    def find_block(self, h, bin, offer):
+        try:
+            return super().find_block(h, bin, offer)
+        except ref.Refused as refusal:
+            raise ref.Refused(refusal.number, 0)
+
+
+class ExhaustedBare(ref.Space):
+    """Exhausted answers its number alone, as before."""
+
+    def find_block(self, h, bin, offer):
+        try:
+            return super().find_block(h, bin, offer)
+        except ref.Refused as refusal:
+            raise ref.Refused(refusal.number)
+
+
+class ExhaustedAbandoned(ref.Space):
+    """Exhausted leaves the sweeps of local blocks out."""
+
+    def find_block(self, h, bin, offer):
+        try:
+            return super().find_block(h, bin, offer)
+        except ref.Refused as refusal:
+            raise ref.Refused(refusal.number,
+                              self.count('sweep') - self.local)
+
+    def recycle_local_blocks(self, h, bin):
+        b = super().recycle_local_blocks(h, bin)
+        self.local = self.count('sweep')
+        return b
+
+
+# Readings that break R-12's ceiling. The comparer must see it where every
+# driver is bent alike.
+
+class SweepsAvailable(spans.Watched):
+    """Abandoned available blocks count as swept again."""
+
+    def acquire_abandoned(self, h, bin):
+        for b in self.walk(ref.list_number(ref.ABANDONED, ref.AVAILABLE, bin)):
+            self.events.append(('sweep', b, []))
+        return super().acquire_abandoned(h, bin)
+
+
+class ConsumedAgain(spans.Watched):
+    """A search looks at a consumed block once more, on available."""
+
+    def find_free_block(self, h, bin):
+        b = super().find_free_block(h, bin)
+        consumed = ref.list_number(h, ref.CONSUMED, bin)
+        if b is None and self.first[consumed] != 0:
+            b = self.block_at(self.first[consumed])
+            self.remove(consumed, b)
+            self.push(ref.list_number(h, ref.AVAILABLE, bin), b)
+            return super().find_free_block(h, bin)
+        return b
+
+
+class SweepsEagerly(spans.Watched):
+    """With the eager choice an alloc counts a sweep all the same."""
+
+    def acquire_abandoned(self, h, bin):
+        b = super().acquire_abandoned(h, bin)
+        if self.p.eager and b is not None:
+            self.events.append(('sweep', b, []))
+        return b
+
+
+SPAN_MUTANTS = {'sweeps-available': SweepsAvailable,
+                'consumed-again': ConsumedAgain,
+                'sweeps-eagerly': SweepsEagerly}
+
+
 # ---- Mutants of R-5 of document 02: rows
 
 def with_classes(bent):
@@ -934,6 +1018,9 @@ MUTANTS = {
     'shared-part-not-asked': ('eager', SharedPartNotAsked),
     'late-in-every-phase': ('eager', LateInEveryPhase),
     'tested-without-choice': ('rust', TestedWithoutChoice),
+    'exhausted-none': ('rust', ExhaustedNone),
+    'exhausted-bare': ('rust', ExhaustedBare),
+    'exhausted-abandoned': ('rust', ExhaustedAbandoned),
     'greatest-count': ('rows', with_classes(GreatestCount)),
     'row-before-count': ('rows', with_classes(RowBeforeCount)),
     'covered-twice': ('rows', with_classes(CoveredTwice)),
@@ -979,16 +1066,22 @@ def no_end(*_):
 
 
 def mutant_driver(mutant):
-    """The mutant in this process; an error of its own is a difference."""
+    """The mutant in this process; an error of its own is a difference, at the
+    line where it comes."""
     def run(lines):
-        signal.signal(signal.SIGALRM, no_end)
-        signal.alarm(SECONDS)
+        signal.signal(signal.SIGVTALRM, no_end)
+        signal.setitimer(signal.ITIMER_VIRTUAL, SECONDS)
+        driver, answers, trouble = ref.Driver(mutant), [], None
         try:
-            return compare.Run(compare.run_reference(lines, mutant))
+            for line in lines:
+                answer = driver.answer(line)
+                answers.append(answer if compare.is_answered(line) else '')
         except Exception as error:
-            return compare.Run([None] * len(lines), '', repr(error))
+            answers += [None] * (len(lines) - len(answers))
+            trouble = repr(error)
         finally:
-            signal.alarm(0)
+            signal.setitimer(signal.ITIMER_VIRTUAL, 0)
+        return compare.Run(answers, '', trouble)
     return run
 
 
@@ -1028,6 +1121,24 @@ def check_mutants(names):
     return missed
 
 
+def check_spans():
+    """A bent reading that no other driver stands beside: the sums and the
+    moves of its own answers show it."""
+    missed = []
+    for name, mutant in SPAN_MUTANTS.items():
+        for seed in range(1, SEEDS + 1):
+            maker = generate.Maker(seed, 'rust', ARENA, make_space=mutant)
+            maker.script(CALLS)
+            trouble = maker.spans.trouble(maker.lines, maker.answers)
+            if trouble:
+                print('%s: found, %s' % (name, trouble))
+                break
+        else:
+            missed.append(name)
+            print('%s: NOT FOUND' % name)
+    return missed
+
+
 def check_crash():
     """A driver that stops early is a difference."""
     lines = generate.Maker(1, 'rust').script(50).lines
@@ -1055,9 +1166,13 @@ def main():
         return 0
     check_bins()
     check_crash()
-    missed = check_mutants(options.names or MUTANTS)
+    tried = list(options.names or MUTANTS)
+    missed = check_mutants(tried)
+    if not options.names:
+        tried += SPAN_MUTANTS
+        missed += check_spans()
     print('%d mutants, %d missed %s' % (
-        len(options.names or MUTANTS), len(missed), ' '.join(missed)))
+        len(tried), len(missed), ' '.join(missed)))
     return 1 if missed else 0
 
 

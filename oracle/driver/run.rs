@@ -211,10 +211,10 @@ impl Space {
             lent::begin(offer.map(|b| self.block_start(b)), 0);
             self.machine.alloc(h, size, align, offset)
         })?;
-        if address == 0 {
-            return Ok("refused 9".into());
-        }
         let call = lent::call();
+        if address == 0 {
+            return Ok(format!("refused 9 {}", call.swept));
+        }
         let cell_size = call.zeroed.1;
         ok(format_args!("{address} {cell_size} {} {}", call.offer_used as u8, call.swept))
     }

@@ -81,6 +81,16 @@ fn alloc_said(x: AllocAnswer) -> Said
 {
     match x {
         AllocAnswer::Refused(refusal) => refusal_said(refusal),
+        AllocAnswer::Exhausted { swept } => {
+            let number = refusal_number(Refusal::Exhausted);
+            Said {
+                number,
+                first: 0,
+                second: 0,
+                third: 0,
+                fourth: swept,
+            }
+        }
         AllocAnswer::Served {
             address,
             cell_size,

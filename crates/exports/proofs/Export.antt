@@ -20,7 +20,7 @@ use Rattle.model.specs.Memory.{loadBytes, bytesOf, overwrite}
 use Rattle.model.specs.SizeClasses.{noRow, tabulated}
 use Rattle.model.specs.Calls.{refusalNumber, Result, call, setUp, badSetup, checkClasses}
 use Rattle.model.specs.Answers.{saidOf, Outcome, outcome, outcomeOf}
-use Rattle.model.specs.Exports.{wordsFrom, decoded, encoded, LentBytes, lendBytes, decodedLent, Export, gives, answerBytes, shown, exported, rowBytes, rowFrom, rowsOf, paramsOf, flagsOk, rowsOk, called, checkGives, checkCalled}
+use Rattle.model.specs.Exports.{wordsFrom, decoded, encoded, LentBytes, lendBytes, decodedLent, Export, gives, answerBytes, tells, shown, exported, rowBytes, rowFrom, rowsOf, paramsOf, flagsOk, rowsOk, called, checkGives, checkCalled}
 use Rattle.laws.proofs.Below.{test, and-second}
 use Rattle.laws.proofs.Params.{good-bounds}
 use Rattle.laws.proofs.Memory.{Bytes}
@@ -68,21 +68,20 @@ module _ (p : Params) (b : LentBytes) (e : Entry) (n : ℕ) {w w′ words′ st 
   unfolding outcomeOf
   is-lent = let Q = rw is-decoded at P in ap (λ (x : Outcome). x .lent) Q
 
-  pub run-refused : {k : ℕ} → k ≡ s .number → (k ≡ 0 → ⊥) → gives k (lendBytes words′ st m h (b .answer)) ≡ shown (b .answer) R
+  pub run-refused : {k : ℕ} → k ≡ s .number → tells k ≡ false → gives k (lendBytes words′ st m h (b .answer)) ≡ shown (b .answer) R
   unfolding shown
   run-refused {k} g ne =
-      let z : eqb (R .reply .number) 0 ≡ false = ne-eqb _ _ (λ q. ne (g ∙ ap (λ (x : Said). x .number) is-said ∙ q)) in
+      let z : tells (R .reply .number) ≡ false = sym (ap tells (g ∙ ap (λ (x : Said). x .number) is-said)) ∙ ne in
       rw (z, E, g, is-said)
       (λ i. gives (R .reply .number) (lendBytes (encoded (is-lent i .words)) (is-lent i .states) (is-lent i .marks) (is-lent i .heap) (b .answer)))
 
-  pub run-answered : {k : ℕ} {a : List ℕ} → k ≡ s .number → k ≡ 0 → a ≡ answerBytes s
-      → gives 0 (lendBytes words′ st m h a) ≡ shown (b .answer) R
+  pub run-answered : {k : ℕ} {a : List ℕ} → k ≡ s .number → tells k ≡ true → a ≡ answerBytes s
+      → gives k (lendBytes words′ st m h a) ≡ shown (b .answer) R
   unfolding shown
   run-answered {a} g y f =
-      let n : R .reply .number ≡ 0 = sym (g ∙ ap (λ (x : Said). x .number) is-said) ∙ y in
-      let z : eqb (R .reply .number) 0 ≡ true = eq-eqb _ _ n in
-      rw (z, E, f, n, is-said)
-      (λ i. gives 0 (lendBytes (encoded (is-lent i .words)) (is-lent i .states) (is-lent i .marks) (is-lent i .heap) (answerBytes (saidOf (R .reply)))))
+      let z : tells (R .reply .number) ≡ true = sym (ap tells (g ∙ ap (λ (x : Said). x .number) is-said)) ∙ y in
+      rw (z, E, f, g, is-said)
+      (λ i. gives (R .reply .number) (lendBytes (encoded (is-lent i .words)) (is-lent i .states) (is-lent i .marks) (is-lent i .heap) (answerBytes (saidOf (R .reply)))))
 
 -- ---- lengths that are off
 
@@ -200,14 +199,14 @@ module _ (g : Given) (r a : List ℕ) where
   check-answer f o n = rw (f, o, ne-eqb (length a) 32 n)
 
   module _ {s : Said} (f : flagsOk g ≡ true) (o : rowsOk r ≡ true) (n : length a ≡ 32) (h : s ≡ saidOf (checkClasses (paramsOf g r))) where
-    pub check-refused : {k : ℕ} → k ≡ s .number → (k ≡ 0 → ⊥) → checkGives k a ≡ checkCalled g r a
+    pub check-refused : {k : ℕ} → k ≡ s .number → tells k ≡ false → checkGives k a ≡ checkCalled g r a
     unfolding checkCalled
     check-refused {k} e ne =
-        let z : eqb (checkClasses (paramsOf g r) .number) 0 ≡ false = ne-eqb _ _ (λ q. ne (e ∙ ap (λ (x : Said). x .number) h ∙ q)) in
+        let z : tells (checkClasses (paramsOf g r) .number) ≡ false = sym (ap tells (e ∙ ap (λ (x : Said). x .number) h)) ∙ ne in
         rw (f, o, eq-eqb (length a) 32 n, z, e, h)
 
-    pub check-answered : {k : ℕ} {a′ : List ℕ} → k ≡ s .number → k ≡ 0 → a′ ≡ answerBytes s → checkGives 0 a′ ≡ checkCalled g r a
+    pub check-answered : {k : ℕ} {a′ : List ℕ} → k ≡ s .number → tells k ≡ true → a′ ≡ answerBytes s → checkGives k a′ ≡ checkCalled g r a
     unfolding checkCalled
-    check-answered e y w =
-        let m : checkClasses (paramsOf g r) .number ≡ 0 = sym (e ∙ ap (λ (x : Said). x .number) h) ∙ y in
-        rw (f, o, eq-eqb (length a) 32 n, eq-eqb _ _ m, w, h, m)
+    check-answered {k} e y w =
+        let z : tells (checkClasses (paramsOf g r) .number) ≡ true = sym (ap tells (e ∙ ap (λ (x : Said). x .number) h)) ∙ y in
+        rw (f, o, eq-eqb (length a) 32 n, z, w, e, h)

@@ -19,7 +19,7 @@ use Rattle.model.specs.Events.{Event}
 use Rattle.model.specs.Calls.{refusalNumber, Reply, answered, Call, Result, call, setUp}
 use Rattle.model.specs.Answers.{saidOf}
 use Rattle.model.specs.Runs.{written, Turn, State, foundBy, stepOf, resultOf, turned, begun, Seen, seen, seenIn, Demand3}
-use Rattle.model.specs.Exports.{encoded, LentBytes, decodedLent, Export, answerBytes, shown, Inner, asks, lengthsOk, exported, paramsOf, flagsOk, rowsOk, called, HostTurn, foundBytes, hostCall, hostRun, machineRun, AnswersFit, RunThroughExports, HostSees, hostSees, Demand3ThroughExports}
+use Rattle.model.specs.Exports.{encoded, LentBytes, decodedLent, Export, answerBytes, tells, shown, Inner, asks, lengthsOk, exported, paramsOf, flagsOk, rowsOk, called, HostTurn, foundBytes, hostCall, hostRun, machineRun, AnswersFit, RunThroughExports, HostSees, hostSees, Demand3ThroughExports}
 use Rattle.laws.proofs.Base.{if-cases}
 use Rattle.laws.proofs.Below.{test, and-both}
 use Rattle.laws.proofs.Params.{good-bounds}
@@ -140,13 +140,13 @@ run-through-exports g r b us e A =
 -- what a host reads of a call is in what is seen of the machine's
 abbrev readOf : Seen → HostSees
 readOf x =
-    record { number = x .reply .number; answer = if eqb (x .reply .number) 0 then answerBytes (saidOf (x .reply)) else []; words = encoded (x .words); states = x .states; marks = x .marks }
+    record { number = x .reply .number; answer = if tells (x .reply .number) then answerBytes (saidOf (x .reply)) else []; words = encoded (x .words); states = x .states; marks = x .marks }
 
 shown-read : (a : List ℕ) (r : Result) (es : List Event) → hostSees (shown a r) ≡ readOf (seen r es)
 unfolding hostSees shown
 shown-read a r es =
     ap (λ (x : List ℕ). record { number = r .reply .number; answer = x; words = encoded (r .lent .words); states = r .lent .states; marks = r .lent .marks })
-    (twice (eqb (r .reply .number) 0) (answerBytes (saidOf (r .reply))) a)
+    (twice (tells (r .reply .number)) (answerBytes (saidOf (r .reply))) a)
   where
     twice : (c : Bool) (x y : List ℕ) → (if c then (if c then x else y) else []) ≡ (if c then x else [])
     twice true x y = refl

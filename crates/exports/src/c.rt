@@ -19,12 +19,15 @@ ghost use Prim.Native.Nat.{_*_, _<_};
 ghost use lib.ListN.{length};
 ghost use Rattle.model.specs.Calls.{setUp, bind, destroy, alloc, prepare, mark, release, sharedRelease};
 ghost use Rattle.model.specs.Answers.{outcome, outcomeOf};
-ghost use Rattle.model.specs.Exports.{lendBytes, decodedLent, gives, answerBytes, shown, asks, exported, given, rowFrom, rowsOf, paramsOf, flagsOk, rowsOk, called, checkGives, checkCalled, offeredBy};
+ghost use Rattle.model.specs.Exports.{lendBytes, decodedLent, gives, answerBytes, tells, shown, asks, exported, given, rowFrom, rowsOf, paramsOf, flagsOk, rowsOk, called, checkGives, checkCalled, offeredBy};
 ghost use Rattle.model.specs.Promise.{lend};
 ghost use Rattle.exports.specs.Entry.{innerOf};
 
 // BadSetup's number.
 const BAD_SETUP: usize = 1;
+
+// Exhausted's: the one refusal that tells a count.
+const EXHAUSTED: usize = 9;
 
 // A word's bytes, and the answer's.
 const WORD_BYTES: usize = 8;
@@ -70,7 +73,17 @@ fn put_answer(answer: &mut [u8], s: Said)
     bytes::store_word(answer, 24, s.fourth);
 }
 
-// The inner call between a decoding into w and an encoding back. Only an answer is written: a refusal leaves that slice alone.
+// Whether a call that returns this number has numbers for the answer's slice; any other refusal leaves that slice alone.
+fn tells(number: usize) -> bool
+    ensures { λ r. ⌜ r ≡ tells number ⌝ }
+{
+    if number == 0 {
+        return true;
+    }
+    number == EXHAUSTED
+}
+
+// The inner call between a decoding into w and an encoding back.
 fn run(
     p: Params,
     words: &mut [u8],
@@ -88,11 +101,11 @@ fn run(
     let s = enter(p, w, states, marks, heap, inner);
     codec::encode(words, w);
     let number = s.number;
-    if number != 0 {
+    if !tells(number) {
         return number;
     }
     put_answer(answer, s);
-    0
+    number
 }
 
 // Tests the lengths that decoding and the answer need; the inner call tests the others.
@@ -221,12 +234,12 @@ fn check(g: Given, rows: &[u8], answer: &mut [u8]) -> usize
         return BAD_SETUP;
     }
     let said = calls::check_classes(params(g, rows));
-    let refusal = said.number;
-    if refusal != 0 {
-        return refusal;
+    let number = said.number;
+    if !tells(number) {
+        return number;
     }
     put_answer(answer, said);
-    0
+    number
 }
 
 // The offer that a number names.

@@ -15,10 +15,10 @@ use Rattle.model.specs.declared.Offer.{Offer}
 use Rattle.model.specs.Base.{if_then_else_, eachBelow}
 use Rattle.model.specs.Params.{blockAt, listOf, localSets, abandoned, inGc, available, unswept, consumed, bins}
 use Rattle.model.specs.Tables.{Words, Tables, setTls}
-use Rattle.model.specs.BlockList.{Popped, popped, push, pop, remove, append}
+use Rattle.model.specs.BlockList.{popped, push, pop, remove, append}
 use Rattle.model.specs.Block.{Unallocated, Unmarked, sweptWords, clearBlock}
-use Rattle.model.specs.Events.{Event, released}
-use Rattle.model.specs.FreeListAllocator.{findFreeBlockWith, Found, found, sweepOf, followedBy, recycleLocalBlocks, acquireAbandoned, Search, inFound, acquireFresh, findBlock}
+use Rattle.model.specs.Events.{Event, released, spent}
+use Rattle.model.specs.FreeListAllocator.{findFreeBlockWith, Found, found, after, sweepOf, followedBy, recycleLocalBlocks, acquireAbandoned, Search, inFound, acquireFresh, findBlock}
 use Rattle.model.specs.Global.{abandonBin, abandonBlocks, Freed, releaseFrom, releaseBlocks, appendTo, leftUnswept, releaseBin, sweepLaterBin, sweepBlock, sweepAll, recycleFrom, recycleBin, recycleBlocks, sweptEagerly, isLast, eagerly}
 use Rattle.laws.proofs.Base.{if-cases, bool-cases, and-left}
 use Rattle.laws.proofs.Frame.{each-keeps}
@@ -77,7 +77,7 @@ module _ (p : Params) (ms : List ℕ) (h bin : ℕ) (On : List Event → Words �
 
   -- the block at a, taken out of its list, is filed as the holder's
   pub record Files (es : List Event) (a : ℕ) (w : Words) : Type 0 where
-    pub full : getD (w .free) (blockAt p a) 0 ≡ 0 → On es (push p (consumed (localSets h) bin) (blockAt p a) w)
+    pub full : getD (w .free) (blockAt p a) 0 ≡ 0 → On (es ++ (spent (blockAt p a) ∷ [])) (push p (consumed (localSets h) bin) (blockAt p a) w)
     pub has : getD (w .free) (blockAt p a) 0 ≢ 0 → Got es a (push p (available (localSets h) bin) (blockAt p a) w)
 
   -- the steps: a full block of the available list moves, or one with a free cell is found; a block of the unswept list is swept
@@ -85,7 +85,8 @@ module _ (p : Params) (ms : List ℕ) (h bin : ℕ) (On : List Event → Words �
   pub record Steps : Type 0 where
     pub moved : (es : List Event) (w : Words) → On es w → Head (available (localSets h) bin) w ≢ 0
         → getD (w .free) (blockAt p (Head (available (localSets h) bin) w)) 0 ≡ 0
-        → On es (push p (consumed (localSets h) bin) (blockAt p (Head (available (localSets h) bin) w)) (pop p (available (localSets h) bin) w .words))
+        → On (es ++ (spent (blockAt p (Head (available (localSets h) bin) w)) ∷ []))
+        (push p (consumed (localSets h) bin) (blockAt p (Head (available (localSets h) bin) w)) (pop p (available (localSets h) bin) w .words))
     pub seen : (es : List Event) (w : Words) → On es w → Head (available (localSets h) bin) w ≢ 0
         → getD (w .free) (blockAt p (Head (available (localSets h) bin) w)) 0 ≢ 0 → Got es (Head (available (localSets h) bin) w) w
     pub recycled : (es : List Event) (w : Words) → On es w → Head (unswept (localSets h) bin) w ≢ 0
@@ -105,16 +106,6 @@ module _ (p : Params) (ms : List ℕ) (h bin : ℕ) (On : List Event → Words �
   Ended es a w = ((a ≡ 0) × On es w) ⊎ ((a ≢ 0) × Got es a w)
 
   module _ (S : Steps) where
-    skim-ends : (k : ℕ) (es : List Event) (w : Words) → On es w
-        → let g : Popped = findFreeBlockWith k p (available (localSets h) bin) (consumed (localSets h) bin) w in Ended es (g .at) (g .words)
-    unfolding findFreeBlockWith
-    skim-ends zero es w o = inl (refl, o)
-    skim-ends (suc k) es w o =
-        if-cases (λ (g : Popped). Ended es (g .at) (g .words)) (eqb (Head (available (localSets h) bin) w) 0) (λ e. inl (refl, o))
-        (λ e. if-cases (λ (g : Popped). Ended es (g .at) (g .words)) (eqb (getD (w .free) (blockAt p (Head (available (localSets h) bin) w)) 0) 0)
-        (λ f. skim-ends k es _ (S .moved es w o (eqb-false _ _ e) (eqb-true _ _ f)))
-        (λ f. inr (eqb-false _ _ e, S .seen es w o (eqb-false _ _ e) (eqb-false _ _ f))))
-
     -- the end of a part whose events come behind es
     abbrev Behind : List Event → Found → Type 0
     Behind es f = Ended (es ++ f .events) (f .at) (f .words)
@@ -122,15 +113,26 @@ module _ (p : Params) (ms : List ℕ) (h bin : ℕ) (On : List Event → Words �
     none-behind : (es : List Event) (w : Words) → On es w → Behind es (found 0 w)
     none-behind es w o = inl (refl, rw append-nil o)
 
-    filed-behind : (es : List Event) (a : ℕ) (w : Words) (more : Words → Found) → a ≢ 0 → Files es a w → ((v : Words) → On es v → Behind es (more v))
-        → Behind es (if eqb (getD (w .free) (blockAt p a) 0) 0 then more (push p (consumed (localSets h) bin) (blockAt p a) w)
+    after-behind : (es : List Event) (e : Event) (f : Found) → Behind (es ++ (e ∷ [])) f → Behind es (after e f)
+    after-behind es e f b = subst (λ (x : List Event). Ended x (f .at) (f .words)) (append-assoc es (e ∷ []) (f .events)) b
+
+    skim-ends : (k : ℕ) (es : List Event) (w : Words) → On es w
+        → Behind es (findFreeBlockWith k p (available (localSets h) bin) (consumed (localSets h) bin) w)
+    unfolding findFreeBlockWith
+    skim-ends zero es w o = none-behind es w o
+    skim-ends (suc k) es w o =
+        if-cases (Behind es) (eqb (Head (available (localSets h) bin) w) 0) (λ e. none-behind es w o)
+        (λ e. if-cases (Behind es) (eqb (getD (w .free) (blockAt p (Head (available (localSets h) bin) w)) 0) 0)
+        (λ f. after-behind es _ _ (skim-ends k _ _ (S .moved es w o (eqb-false _ _ e) (eqb-true _ _ f))))
+        (λ f. inr (eqb-false _ _ e, rw append-nil (S .seen es w o (eqb-false _ _ e) (eqb-false _ _ f)))))
+
+    filed-behind : (es : List Event) (a : ℕ) (w : Words) (more : Words → Found) → a ≢ 0 → Files es a w
+        → ((v : Words) → On (es ++ (spent (blockAt p a) ∷ [])) v → Behind (es ++ (spent (blockAt p a) ∷ [])) (more v))
+        → Behind es (if eqb (getD (w .free) (blockAt p a) 0) 0 then after (spent (blockAt p a)) (more (push p (consumed (localSets h) bin) (blockAt p a) w))
         else found a (push p (available (localSets h) bin) (blockAt p a) w))
     filed-behind es a w more some F ih =
-        if-cases (Behind es) (eqb (getD (w .free) (blockAt p a) 0) 0) (λ e. ih _ (F .full (eqb-true _ _ e)))
+        if-cases (Behind es) (eqb (getD (w .free) (blockAt p a) 0) 0) (λ e. after-behind es _ _ (ih _ (F .full (eqb-true _ _ e))))
         (λ e. inr (some, rw append-nil (F .has (eqb-false _ _ e))))
-
-    after-behind : (es : List Event) (e : Event) (f : Found) → Behind (es ++ (e ∷ [])) f → Ended (es ++ (e ∷ f .events)) (f .at) (f .words)
-    after-behind es e f b = subst (λ (x : List Event). Ended x (f .at) (f .words)) (append-assoc es (e ∷ []) (f .events)) b
 
     recycle-ends : (k : ℕ) (es : List Event) (w : Words) → On es w → Behind es (recycleLocalBlocks k p ms (localSets h) bin w)
     unfolding recycleLocalBlocks
@@ -152,7 +154,7 @@ module _ (p : Params) (ms : List ℕ) (h bin : ℕ) (On : List Event → Words �
         (after-behind es _ _ (filed-behind _ _ _ (λ u. acquireAbandoned k p ms h bin u) f (S .swept es w o e f) (acquire-ends k _))))
         (zero-or (Head (unswept abandoned bin) w))))
         (λ f. rw (pop-head p (available abandoned bin) w f, ne-eqb _ _ f)
-        (filed-behind es _ _ (λ u. acquireAbandoned k p ms h bin u) f (S .over es w o f) (acquire-ends k es)))
+        (filed-behind es _ _ (λ u. acquireAbandoned k p ms h bin u) f (S .over es w o f) (acquire-ends k _)))
         (zero-or (Head (available abandoned bin) w))
 
 -- what every pop, push, holder stored and sweep keeps of the words
@@ -186,15 +188,15 @@ module _ (p : Params) (h bin : ℕ) (t : Tables) (On : List Event → Words → 
       (λ z. rw (eq-eqb _ _ (z .0)) (none a (z .0) (z .1))) (λ z. rw (ne-eqb _ _ (z .0)) (some a (z .0) (z .1)))
       (acquire-ends p (t .marks) h bin On Got S (p .blocks) (f .events) (f .words) (y .1))))
       (λ y. rw (ne-eqb _ _ (y .0)) (some f (y .0) (y .1)))
-      (recycle-ends p (t .marks) h bin On Got S (p .blocks) [] (g .words) (x .1))))
-      (λ x. rw (ne-eqb _ _ (x .0)) (some (found (g .at) (g .words)) (x .0) (x .1)))
+      (recycle-ends p (t .marks) h bin On Got S (p .blocks) (g .events) (g .words) (x .1))))
+      (λ x. rw (ne-eqb _ _ (x .0)) (some g (x .0) (x .1)))
       (skim-ends p (t .marks) h bin On Got S (p .blocks) [] (t .words) o)
     where
-      g : Popped
+      g : Found
       g = findFreeBlockWith (p .blocks) p (available (localSets h) bin) (consumed (localSets h) bin) (t .words)
 
       f : Found
-      f = recycleLocalBlocks (p .blocks) p (t .marks) (localSets h) bin (g .words)
+      f = followedBy g (recycleLocalBlocks (p .blocks) p (t .marks) (localSets h) bin (g .words))
 
       a : Found
       a = followedBy f (acquireAbandoned (p .blocks) p (t .marks) h bin (f .words))

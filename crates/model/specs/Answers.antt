@@ -24,15 +24,20 @@ use Rattle.model.specs.declared.CellsAnswer.{CellsAnswer}
 use Rattle.model.specs.declared.CellsAnswer.the-variants as Cells
 use Rattle.model.specs.Base.{flag}
 use Rattle.model.specs.Params.{Lent}
-use Rattle.model.specs.Calls.{Reply, answered, refused, Call, bind, destroy, alloc, prepare, mark, release, sharedRelease, Result}
+use Rattle.model.specs.Calls.{Reply, answered, refused, exhausted, Call, bind, destroy, alloc, prepare, mark, release, sharedRelease, Result}
 
 -- set-up, bind, prepare
 unfoldable pub replyOf : Answer → Reply
 replyOf = elim [ Simple.Done ↦ answered [] | Simple.Refused refusal ↦ refused refusal ]
 
--- alloc: address, cell size, whether the offer was used, blocks swept
+-- alloc: address, cell size, whether the offer was used, blocks swept; where no cell was found, the last of these (02, R-12)
 unfoldable pub allocReply : AllocAnswer → Reply
-allocReply = elim [ Alloc.Served a size fresh swept ↦ answered (a .0 ∷ size ∷ flag fresh ∷ swept ∷ []) | Alloc.Refused refusal ↦ refused refusal ]
+allocReply =
+    elim [
+      | Alloc.Served a size fresh swept ↦ answered (a .0 ∷ size ∷ flag fresh ∷ swept ∷ [])
+      | Alloc.Exhausted swept ↦ exhausted swept
+      | Alloc.Refused refusal ↦ refused refusal
+    ]
 
 -- mark: whether it was new
 unfoldable pub markReply : MarkAnswer → Reply

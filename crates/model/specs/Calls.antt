@@ -44,7 +44,7 @@ refusalNumber BadObject = 10
 refusalNumber BadLine = 11
 refusalNumber BadClasses = 12
 
--- What a call says: 0 and its values in order, or a refusal's number. "A refusal returns its number only."
+-- What a call says: 0 and its values in order, or a refusal's number. "A refusal returns its number only.", but for Exhausted
 pub record Reply : Type 0 where
   pub number : ℕ
   pub values : List ℕ
@@ -54,6 +54,11 @@ answered vs = record { number = 0; values = vs }
 
 abbrev pub refused : Refusal → Reply
 refused refusal = record { number = refusalNumber refusal; values = [] }
+
+-- 02, R-12: "Exhausted must report its swept count too (an export writes it in its place, zeros elsewhere), which amends R-2 and 01's rule
+-- that a refusal returns only its number." Its place is the fourth, as in an alloc's answer
+abbrev pub exhausted : ℕ → Reply
+exhausted n = record { number = refusalNumber Exhausted; values = 0 ∷ 0 ∷ 0 ∷ n ∷ [] }
 
 -- ---- calls
 
@@ -177,7 +182,8 @@ callTests p t sharedRelease = sharedTests (t .words)
 -- a search's plan: "Exhausted: no cell found and no offer"
 unfoldable pub takePlan : Params → ℕ → ℕ → Search → Plan
 takePlan p align offset ended =
-    let end : End = if eqb (ended .at) 0 then says (refused Exhausted) else takes (blockAt p (ended .at)) align offset (ended .fresh) in
+    let none : End = says (exhausted (sweeps (ended .events))) in
+    let end : End = if eqb (ended .at) 0 then none else takes (blockAt p (ended .at)) align offset (ended .fresh) in
     record { tables = ended .tables; events = ended .events; end = end }
 
 -- blocks were released, and so a part is done. The answer: blocks released, blocks merged, and (02, R-8) "the number swept as a

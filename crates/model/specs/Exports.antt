@@ -6,7 +6,7 @@
 -- (`Demand3ThroughExports`). crates/exports proves all three.
 use Prim.Native.Nat.{ℕ, zero, suc, _+_, _*_, _/_, _%_, _^_, _<_}
 use mathlib.Core.Path.{_≡_}
-use mathlib.Core.Bool.{Bool, _&&_}
+use mathlib.Core.Bool.{Bool, _&&_, _||_}
 use mathlib.Core.List.{List, [], _∷_, _++_, map}
 use lib.Dec.{eqb, leb}
 use lib.IntN.{ℤ}
@@ -17,7 +17,7 @@ use Rattle.model.specs.declared.Given.{Given}
 use Rattle.model.specs.declared.Said.{Said}
 use Rattle.model.specs.declared.Offer.{Offer}
 use Rattle.model.specs.declared.Offer.the-variants.{Nothing, Fresh}
-use Rattle.model.specs.declared.Refusal.the-variants.{BadSetup}
+use Rattle.model.specs.declared.Refusal.the-variants.{BadSetup, Exhausted}
 use Rattle.model.specs.Base.{if_then_else_, In}
 use Rattle.model.specs.Params.{Lent, maxRows}
 use Rattle.model.specs.Memory.{loadBytes, bytesOf}
@@ -74,9 +74,14 @@ gives n l = record { number = n; bytes = l }
 abbrev pub answerBytes : Said → List ℕ
 answerBytes said = encoded (said .first ∷ said .second ∷ said .third ∷ said .fourth ∷ [])
 
--- the slice for the answer after the call; "a refusal leaves that slice alone"
+-- "a refusal leaves that slice alone", but for Exhausted. 02, R-12: "Exhausted must report its swept count too (an export writes it in its
+-- place, zeros elsewhere), which amends R-2"
+abbrev pub tells : ℕ → Bool
+tells number = eqb number 0 || eqb number (refusalNumber Exhausted)
+
+-- the slice for the answer after the call
 abbrev pub answerAfter : Reply → List ℕ → List ℕ
-answerAfter reply answer = if eqb (reply .number) 0 then answerBytes (saidOf reply) else answer
+answerAfter reply answer = if tells (reply .number) then answerBytes (saidOf reply) else answer
 
 -- a result of the machine, as bytes: "It returns 0 or the refusal's number"
 unfoldable pub shown : List ℕ → Result → Export
@@ -204,7 +209,7 @@ pub record HostSees : Type 0 where
 unfoldable pub hostSees : Export → HostSees
 hostSees x =
     let l : LentBytes = x .bytes in
-    record { number = x .number; answer = if eqb (x .number) 0 then l .answer else []; words = l .words; states = l .states; marks = l .marks }
+    record { number = x .number; answer = if tells (x .number) then l .answer else []; words = l .words; states = l .states; marks = l .marks }
 
 -- Demand 3 of runs through the exports: two hosts that make the same calls read the same, and what is claimed of held cells
 -- (Runs `RunKeeps`) holds of the machine's run, which each is. Premises as in Runs `Demand3`

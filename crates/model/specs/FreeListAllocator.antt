@@ -12,20 +12,9 @@ use Rattle.model.specs.Base.{if_then_else_}
 use Rattle.model.specs.Params.{start, blockAt, localSets, abandoned, available, unswept, consumed}
 use Rattle.model.specs.Tables.{Words, Tables, tablesOf, withWords, setTls}
 use Rattle.model.specs.SizeClasses.{cellBytes}
-use Rattle.model.specs.BlockList.{Popped, popped, push, pop}
+use Rattle.model.specs.BlockList.{Popped, push, pop}
 use Rattle.model.specs.Block.{Unmarked, sweepChain, sweptWords, initChain, initBlock}
-use Rattle.model.specs.Events.{Event, initialised, swept}
-
--- "skim the local available list, moving full blocks to consumed": up to a block with a free cell, which stays at the head.
--- At most k blocks
-unfoldable pub findFreeBlockWith : ℕ → Params → ℕ → ℕ → Words → Popped
-findFreeBlockWith zero p avail full w = popped 0 w
-findFreeBlockWith (suc k) p avail full w =
-    let first : ℕ = getD (w .first) avail 0 in
-    let b : ℕ = blockAt p first in
-    if eqb first 0 then popped 0 w
-    else if eqb (getD (w .free) b 0) 0 then findFreeBlockWith k p avail full (push p full b (pop p avail w .words))
-    else popped first w
+use Rattle.model.specs.Events.{Event, initialised, swept, spent}
 
 -- what a search gives: the start of a block with a free cell, 0 for none; the words after; what happened, in order
 pub record Found : Type 0 where
@@ -43,6 +32,17 @@ after e f = record { at = f .at; words = f .words; events = e ∷ f .events }
 abbrev pub followedBy : Found → Found → Found
 followedBy f f′ = record { at = f′ .at; words = f′ .words; events = f .events ++ f′ .events }
 
+-- "skim the local available list, moving full blocks to consumed": up to a block with a free cell, which stays at the head.
+-- At most k blocks
+unfoldable pub findFreeBlockWith : ℕ → Params → ℕ → ℕ → Words → Found
+findFreeBlockWith zero p avail full w = found 0 w
+findFreeBlockWith (suc k) p avail full w =
+    let first : ℕ = getD (w .first) avail 0 in
+    let b : ℕ = blockAt p first in
+    if eqb first 0 then found 0 w
+    else if eqb (getD (w .free) b 0) 0 then after (spent b) (findFreeBlockWith k p avail full (push p full b (pop p avail w .words)))
+    else found first w
+
 -- the event of a sweep of b by these words
 abbrev pub sweepOf : Params → List ℕ → ℕ → Words → Event
 sweepOf p ms b w = swept b (sweepChain p ms b (getD (w .size) b 0))
@@ -52,7 +52,8 @@ sweepOf p ms b w = swept b (sweepChain p ms b (getD (w .size) b 0))
 abbrev pub filed : Params → ℕ → ℕ → ℕ → Words → (Words → Found) → Found
 filed p owner bin a w more =
     let b : ℕ = blockAt p a in
-    if eqb (getD (w .free) b 0) 0 then more (push p (consumed owner bin) b w) else found a (push p (available owner bin) b w)
+    if eqb (getD (w .free) b 0) 0 then after (spent b) (more (push p (consumed owner bin) b w))
+    else found a (push p (available owner bin) b w)
 
 -- "then local unswept": blocks are popped, swept and filed. At most k blocks
 unfoldable pub recycleLocalBlocks : ℕ → Params → List ℕ → ℕ → ℕ → Words → Found
@@ -104,10 +105,10 @@ acquireFresh p holder bin (Fresh b) f t =
 unfoldable pub findBlock : Params → ℕ → ℕ → Offer → Tables → Search
 findBlock p holder bin offer t =
     let owner : ℕ = localSets holder in
-    let skimmed : Popped = findFreeBlockWith (p .blocks) p (available owner bin) (consumed owner bin) (t .words) in
-    let recycled : Found = recycleLocalBlocks (p .blocks) p (t .marks) owner bin (skimmed .words) in
+    let skimmed : Found = findFreeBlockWith (p .blocks) p (available owner bin) (consumed owner bin) (t .words) in
+    let recycled : Found = followedBy skimmed (recycleLocalBlocks (p .blocks) p (t .marks) owner bin (skimmed .words)) in
     let acquired : Found = followedBy recycled (acquireAbandoned (p .blocks) p (t .marks) holder bin (recycled .words)) in
     if eqb (skimmed .at) 0
     then (if eqb (recycled .at) 0 then (if eqb (acquired .at) 0 then acquireFresh p holder bin offer acquired t else inFound acquired t)
     else inFound recycled t)
-    else inFound (found (skimmed .at) (skimmed .words)) t
+    else inFound skimmed t

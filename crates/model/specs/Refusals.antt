@@ -20,9 +20,10 @@ use Rattle.model.specs.Params.{goodParams, Lent, fits, listWord, localSe
 use Rattle.model.specs.Tables.{Words, view}
 use Rattle.model.specs.SizeClasses.{binOf, raised}
 use Rattle.model.specs.Block.{Unallocated, sweepChain}
+use Rattle.model.specs.Events.{sweeps}
 use Rattle.model.specs.Global.{Running}
 use Rattle.model.specs.Sound.{setNamed, ChainSound, chainOk, soundOn}
-use Rattle.model.specs.Calls.{refusalNumber, answered, Call, bind, destroy, alloc, prepare, mark, release, sharedRelease, Result, tablesIn, call, setUp, badSetup, badClasses}
+use Rattle.model.specs.Calls.{refusalNumber, answered, step, Call, bind, destroy, alloc, prepare, mark, release, sharedRelease, Result, tablesIn, call, setUp, badSetup, badClasses}
 use Rattle.model.specs.Runs.{Turn, begun, HoldersWrite, Seen, seenIn}
 
 -- the block b names the list
@@ -101,7 +102,11 @@ OfAlloc p P sharedRelease = ⊥
 
 pub record Refused (p : Params) (l : Lent) (c : Call) (r : Result) : Type 0 where
   -- "A refusal returns its number only."
-  pub values : r .reply .values ≡ []
+  pub values : r .reply .number ≢ refusalNumber Exhausted → r .reply .values ≡ []
+  -- 02, R-12: "Exhausted must report its swept count too (an export writes it in its place, zeros elsewhere)": the number of block sweeps
+  -- in the call
+  pub told : r .reply .number ≡ refusalNumber Exhausted
+      → r .reply .values ≡ 0 ∷ 0 ∷ 0 ∷ sweeps (step p (tablesIn l) (l .heap) c .events) ∷ []
   -- "on a refusal changes nothing,
   pub nothing : r .reply .number ≢ refusalNumber Exhausted → r .lent ≡ l
   -- save that after BadLink and Exhausted the block moves and sweeps already made stand."

@@ -12,12 +12,13 @@ use lib.Dec.{eqb}
 use lib.ListN.{getD, set}
 use Rattle.model.specs.declared.Params.{Params}
 use Rattle.model.specs.declared.Offer.{Offer}
+use Rattle.model.specs.declared.Refusal.the-variants.{Exhausted}
 use Rattle.model.specs.Base.{if_then_else_, member, filter, any, In, Pairwise}
 use Rattle.model.specs.Params.{Lent, heapEnd, blockAt}
 use Rattle.model.specs.SizeClasses.{alignAllocation}
 use Rattle.model.specs.Block.{keeps}
-use Rattle.model.specs.Events.{Event, initialised, swept, released, taken, sweeps, releases}
-use Rattle.model.specs.Calls.{Reply, answered, Call, bind, destroy, alloc, prepare, mark, release, sharedRelease, Step, step, Result, tablesIn, resultFrom, call, setUp, pages, Question, ask}
+use Rattle.model.specs.Events.{Event, initialised, swept, released, taken, spent, sweeps, releases}
+use Rattle.model.specs.Calls.{refusalNumber, Reply, answered, Call, bind, destroy, alloc, prepare, mark, release, sharedRelease, Step, step, Result, tablesIn, resultFrom, call, setUp, pages, Question, ask}
 
 -- ---- the book. 01: "The book says what is held. [..] It has cells (start, size, holder, old or new) and mark places, and is empty
 -- after set-up. [..] A cell is held by that holder while it stands there, lost when struck out"
@@ -38,6 +39,7 @@ frees p (initialised b chain) cell = false
 frees p (swept b chain) cell = member (cell .start) chain
 frees p (released b) cell = eqb (blockAt p (cell .start)) b
 frees p (taken a size) cell = false
+frees p (spent b) cell = false
 
 -- 01: "A served alloc enters the cell it took, as new; its start is the address before `align_allocation` shifts it." Only a
 -- served alloc has the event `taken` (Calls `takeCell`)
@@ -46,6 +48,7 @@ entered holder (initialised b chain) cells = cells
 entered holder (swept b chain) cells = cells
 entered holder (released b) cells = cells
 entered holder (taken a size) cells = record { start = a; size = size; holder = holder; old = false } ∷ cells
+entered holder (spent b) cells = cells
 
 -- one event of a call by this holder
 unfoldable pub bookEvent : Params → ℕ → Event → Book → Book
@@ -193,11 +196,13 @@ Served c reply es =
 
 -- The counts answered are those of the call's events, which `Seen` has. 01: "The answer: address, cell size, whether the offer was
 -- used, blocks swept (added)." "Each answers how many blocks it released (added)." 02, R-8: "the last release answers the number swept
--- as a further number"
+-- as a further number"; R-12: "Exhausted must report its swept count too"
 unfoldable pub Counted : Call → Reply → List Event → Type 0
 Counted (bind holder) reply es = Unit {0}
 Counted (destroy holder) reply es = Unit {0}
-Counted (alloc holder size align offset offer) reply es = (reply .number ≡ 0 → getD (reply .values) 3 0 ≡ sweeps es)
+Counted (alloc holder size align offset offer) reply es =
+    ((reply .number ≡ 0 → getD (reply .values) 3 0 ≡ sweeps es)
+    × (reply .number ≡ refusalNumber Exhausted → getD (reply .values) 3 0 ≡ sweeps es))
 Counted prepare reply es = Unit {0}
 Counted (mark place b) reply es = Unit {0}
 Counted (release holder) reply es =
@@ -225,6 +230,7 @@ hits p (initialised b chain) cell = false
 hits p (swept b chain) cell = eqb (blockAt p (cell .start)) b
 hits p (released b) cell = eqb (blockAt p (cell .start)) b
 hits p (taken a size) cell = false
+hits p (spent b) cell = false
 
 -- "a cell is lost exactly when its block is swept or made Unallocated while it is unmarked, and only after a prepare since
 -- it was handed out": at each event in order, of each cell held just before it

@@ -188,12 +188,16 @@ pub enum Answer {
     Refused(Refusal),
 }
 
-// The answer of alloc: where the object may start, its cell's size, whether the offer was used, how many blocks were swept.
+// The answer of alloc: where the object may start, its cell's size, whether the offer was used, how many blocks were swept. Where no
+// cell was found and none offered, how many were swept (02, R-12); `Refused` holds the other refusals.
 pub enum AllocAnswer {
     Served {
         address: Address,
         cell_size: usize,
         offer_used: bool,
+        swept: usize,
+    },
+    Exhausted {
         swept: usize,
     },
     Refused(Refusal),

@@ -14,7 +14,7 @@ use Rattle.model.specs.Params.{blockAt, localSets, available, unswept, consumed
 use Rattle.model.specs.Tables.{Words, setTls}
 use Rattle.model.specs.BlockList.{Popped, popped, pop, push}
 use Rattle.model.specs.Block.{sweptWords}
-use Rattle.model.specs.Events.{eventHeap, eventsHeap, isSweep, sweeps}
+use Rattle.model.specs.Events.{spent, eventHeap, eventsHeap, isSweep, sweeps}
 use Rattle.model.specs.FreeListAllocator.{Found, found, after, sweepOf, acquireAbandoned}
 use Rattle.native_ms.specs.Block.{Swept}
 use Rattle.native_ms.specs.Closing.{Filed, reached, closed}
@@ -70,7 +70,7 @@ module _ (p : Params) (ms : List ℕ) (holder bin : ℕ) where
   turn k x =
       let b : ℕ = blockAt p (x .at) in
       let w : Words = ownedWords p ms holder b (x .unswept) (x .words) in
-      let rest : Found = if eqb (getD (w .free) b 0) 0 then acquireAbandoned k p ms holder bin (push p (consumed (localSets holder) bin) b w)
+      let rest : Found = if eqb (getD (w .free) b 0) 0 then after (spent b) (acquireAbandoned k p ms holder bin (push p (consumed (localSets holder) bin) b w))
       else found (x .at) (push p (available (localSets holder) bin) b w) in
       if eqb (x .at) 0 then found 0 (x .words)
       else if x .unswept then after (sweepOf p ms b (setTls b holder (x .words))) rest else rest
@@ -86,7 +86,7 @@ module _ (p : Params) (ms : List ℕ) (holder bin : ℕ) where
       g′ = pop p (unswept 24 bin) (g .words)
 
       rest : ℕ → ℕ → Words → Found
-      rest at b w = if eqb (getD (w .free) b 0) 0 then acquireAbandoned k p ms holder bin (push p (consumed (localSets holder) bin) b w)
+      rest at b w = if eqb (getD (w .free) b 0) 0 then after (spent b) (acquireAbandoned k p ms holder bin (push p (consumed (localSets holder) bin) b w))
           else found at (push p (available (localSets holder) bin) b w)
 
       fromUnswept : Found

@@ -14,10 +14,10 @@ use Rattle.model.specs.Params.{blockAt, listOf, localSets, available, unswept, 
 use Rattle.model.specs.Tables.{Words}
 use Rattle.model.specs.BlockList.{popped, pop, push}
 use Rattle.model.specs.Events.{eventHeap, eventsHeap, isSweep, sweeps}
-use Rattle.model.specs.FreeListAllocator.{findFreeBlockWith, recycleLocalBlocks}
+use Rattle.model.specs.FreeListAllocator.{found, findFreeBlockWith, recycleLocalBlocks}
 use Rattle.native_ms.specs.Block.{Swept}
 use Rattle.native_ms.specs.Space.{ListNumber}
-use Rattle.native_ms.specs.Closing.{Filed, reached, closed}
+use Rattle.native_ms.specs.Closing.{Filed, skimmed, reached, closed}
 
 -- ---- list numbers
 
@@ -41,25 +41,25 @@ sets-low h l e = omega arith
 -- ---- the local available list
 
 module _ (p : Params) (avail full : ℕ) (t : Words) where
-  pub skim-end : (k : ℕ) → k ≤ 0 → popped 0 t ≡ findFreeBlockWith k p avail full t
+  pub skim-end : (k : ℕ) → k ≤ 0 → popped 0 t ≡ skimmed (findFreeBlockWith k p avail full t)
   unfolding findFreeBlockWith
   skim-end zero h = refl
   skim-end (suc k) h = absurd (not-suc-le-zero h)
 
   module _ {f : ℕ} (ef : f ≡ getD (t .first) avail 0) where
-    pub skim-none : (k : ℕ) → f ≡ 0 → popped 0 t ≡ findFreeBlockWith k p avail full t
+    pub skim-none : (k : ℕ) → f ≡ 0 → popped 0 t ≡ skimmed (findFreeBlockWith k p avail full t)
     unfolding findFreeBlockWith
     skim-none zero h = refl
     skim-none (suc k) h = rw (← ef, eq-eqb f 0 h)
 
     module _ {i x : ℕ} (hf : f ≡ 0 → ⊥) (ei : i ≡ blockAt p f) (ex : x ≡ getD (t .free) i 0) where
-      pub skim-found : (k : ℕ) → 0 < k → (x ≡ 0 → ⊥) → popped f t ≡ findFreeBlockWith k p avail full t
+      pub skim-found : (k : ℕ) → 0 < k → (x ≡ 0 → ⊥) → found f t ≡ findFreeBlockWith k p avail full t
       unfolding findFreeBlockWith
       skim-found zero u h = absurd (not-suc-le-zero u)
       skim-found (suc k) u h = rw (← ef, ne-eqb f 0 hf, ← ei, ← ex, ne-eqb x 0 h)
 
       pub skim-step : (k : ℕ) {v : ℕ} {t₁ t₂ : Words} → 0 < k → x ≡ 0 → popped v t₁ ≡ pop p avail t → t₂ ≡ push p full i t₁
-          → findFreeBlockWith (k - 1) p avail full t₂ ≡ findFreeBlockWith k p avail full t
+          → skimmed (findFreeBlockWith (k - 1) p avail full t₂) ≡ skimmed (findFreeBlockWith k p avail full t)
       unfolding findFreeBlockWith
       skim-step zero u h e₁ e₂ = absurd (not-suc-le-zero u)
       skim-step (suc k) u h e₁ e₂ =

@@ -9,7 +9,7 @@ use lib.ListN.{getD}
 use Rattle.model.specs.declared.Params.{Params}
 use Rattle.model.specs.Base.{if_then_else_}
 use Rattle.model.specs.Tables.{Words}
-use Rattle.model.specs.BlockList.{push}
+use Rattle.model.specs.BlockList.{Popped, popped, push}
 use Rattle.model.specs.Events.{eventsHeap, sweeps}
 use Rattle.model.specs.FreeListAllocator.{Found}
 
@@ -17,6 +17,10 @@ use Rattle.model.specs.FreeListAllocator.{Found}
 pub record Filed (p : Params) (avail full b : ℕ) (t : Words) (r : Bool) (t₁ : Words) : Type 0 where
   pub none : eqb (getD (t .free) b 0) 0 ≡ not r
   pub words : t₁ ≡ push p (if r then avail else full) b t
+
+-- the skim, as the code sees its end: it sweeps nothing
+abbrev pub skimmed : Found → Popped
+skimmed f = popped (f .at) (f .words)
 
 -- a search as the code sees its end
 pub record Reached : Type 0 where

@@ -17,7 +17,6 @@ use model::AllocAnswer;
 use model::Block;
 use model::Offer;
 use model::Params;
-use model::Refusal;
 use model::Tested;
 use words::states;
 use words::tables;
@@ -34,7 +33,7 @@ ghost use Rattle.model.specs.BlockList.{popped};
 ghost use Rattle.model.specs.FreeListAllocator.{findFreeBlockWith, recycleLocalBlocks, acquireAbandoned, findBlock};
 ghost use Rattle.model.specs.Calls.{alloc, takeCell};
 ghost use Rattle.model.specs.Answers.{allocReply};
-ghost use Rattle.native_ms.specs.Closing.{Filed, reached, closed, Searched};
+ghost use Rattle.native_ms.specs.Closing.{Filed, skimmed, reached, closed, Searched};
 ghost use Rattle.model.specs.Promise.{lend, Promised};
 ghost use Rattle.native_ms.specs.Abandoned.{nextOf, popAbandoned, TakenOver};
 ghost use Rattle.native_ms.specs.Ending.{ended, closedSearch, acquireGlobal, Freshened, stepped, shown, servedBy, Ready, Shiftable, Does};
@@ -78,7 +77,7 @@ pub(crate) fn find_free_block_with(
     full: usize,
 ) -> Address
     requires { ⌜ (goodParams p ≡ true) × (avail < lists) × (full < lists) ⌝ }
-    ensures { λ r. ⌜ popped (r .0) (view (now (words .exit))) ≡ findFreeBlockWith (p .blocks) p avail full (view (now (words .entry))) ⌝ }
+    ensures { λ r. ⌜ popped (r .0) (view (now (words .exit))) ≡ skimmed (findFreeBlockWith (p .blocks) p avail full (view (now (words .entry)))) ⌝ }
 {
     let mut left = p.blocks;
     while 0 < left {
@@ -372,7 +371,9 @@ fn serve_searched(
     let at = search.at;
     let start = at.0;
     if start == 0 {
-        return AllocAnswer::Refused(Refusal::Exhausted);
+        return AllocAnswer::Exhausted {
+            swept: search.swept,
+        };
     }
     let b = address::block_at(p, at);
     let taken = block::block_alloc(p, words, heap, b);

@@ -46,7 +46,7 @@ module _ (p : Params) (B : Bounds p) (t : Tables) (h : List ℕ) (sh : List (Lis
   own = refl
 
   -- the search starts from sound tables
-  starting : Searching p B (t .states) (t .marks) hd (t .words) h sh bk
+  pub starting : Searching p B (t .states) (t .marks) hd (t .words) h sh bk
   starting =
       record {
         linked = record { lists = λ l. blocksOn p l (t .words); linked = sound-lists p B t good };

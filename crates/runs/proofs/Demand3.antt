@@ -153,7 +153,7 @@ module _ (p : Params) (fine : goodParams p ≡ true) (rows : classesFit p ≡ tr
     pub S : StepOk p bounds g bk (u .call) (step p t g (u .call)) (shadowStep p t sh (u .call))
     S = step-ok p fine rows t g sh bk J (u .call)
 
-    step-of : stepOf p (stateOf t h bk) u ≡ step p t g (u .call)
+    pub step-of : stepOf p (stateOf t h bk) u ≡ step p t g (u .call)
     unfolding stepOf foundBy
     step-of = ap (λ (x : Tables). step p x g (u .call)) (lent-tables (p .blocks) t h (I .sized))
 

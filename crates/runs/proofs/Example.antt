@@ -7,7 +7,10 @@
 --
 -- A third run, with the same turns up to the mark and the choice of eager sweeping on, meets the premises of demand 3: the last release
 -- sweeps the block. The first cell is kept; the second is lost in that release.
-use Prim.Native.Nat.{ℕ}
+--
+-- A fourth run meets those of `SweepsBound` and `PassOnce`, and reaches both: a block of one cell, which is marked, waits at the end of the
+-- collection. The alloc after it sweeps the block, frees nothing, moves it to consumed and is Exhausted.
+use Prim.Native.Nat.{ℕ, _≤_}
 use native.Mathlib.Omega.{arith}
 use mathlib.Core.Path.{_≡_, refl, sym, ap, _∙_, subst}
 use mathlib.Core.Logic.{_≢_, inl, inr, ⊎-elim}
@@ -26,18 +29,19 @@ use Rattle.model.specs.SizeClasses.{fours, classWords, classBytes, wordsIn, hig
 use Rattle.model.specs.Classes.{classesFit}
 use Rattle.model.specs.BlockList.{push, popHead, pop, removeBetween, remove, relabel, link, append, walk, blocksOn, appended}
 use Rattle.model.specs.Block.{cellCount, isCell, cellsDown, linkAll, initChain, initBlock, simple, keeps, sweepChain, sweptWords, clearBlock, chainFrom, freeChain}
-use Rattle.model.specs.Events.{Event, swept, released, taken, eventHeap, eventsHeap, isSweep, isRelease, sweeps, releases}
+use Rattle.model.specs.Events.{Event, swept, released, taken, spent, eventHeap, eventsHeap, isSweep, isRelease, sweeps, releases, spends, timesSpent}
 use Rattle.model.specs.FreeListAllocator.{findFreeBlockWith, recycleLocalBlocks, acquireAbandoned, acquireFresh, findBlock}
 use Rattle.model.specs.Global.{freshWords, freshTables, isHolder, isBound, bindHolder, abandonBin, abandonBlocks, abandonedBin, abandonedBelow, abandonedBlocks, destroyHolder, unmarkedState, prepared, markPlace, releaseFrom, releaseBlocks, appendTo, leftUnswept, releaseBin, releaseHolder, sweepLaterBin, sweepLater, hasReleased, allReleased, isLast, sweepBlock, sweepAll, recycleFrom, recycleBin, recycleBlocks, sweptEagerly, eagerly, partReleased, merged}
 use Rattle.model.specs.Sound.{stateOf, stateKnown, blockClear, listNamed, binNamed, setNamed, onListNamed, sizeOk, linkOk, tlsOk, blockSound, linkedFrom, linked, ownerEmpty, unboundEmpty, inGcEmpty, phaseKnown, flagsKnown, releasedFew, releasedSome, releasedEmpty, sound, chainCounts, chainOk, onUnswept, releasedBefore, eagerBlock, eagerOk, chained}
-use Rattle.model.specs.Calls.{answered, Call, bind, destroy, alloc, prepare, mark, release, sharedRelease, refusalNumber, goodRequest, tooBig, goodOffer, goodObject, mayLeave, mayRelease, andThen, phaseTest, bindTests, leaveTests, boundTests, requestTests, markTests, releaseTests, sharedTests, callTests, takePlan, releasePlan, planPassed, ifPassed, planSound, plan, takeCell, finish, step, tablesIn, lentOf, call, setUp}
+use Rattle.model.specs.Calls.{answered, exhausted, Call, bind, destroy, alloc, prepare, mark, release, sharedRelease, refusalNumber, goodRequest, tooBig, goodOffer, goodObject, mayLeave, mayRelease, andThen, phaseTest, bindTests, leaveTests, boundTests, requestTests, markTests, releaseTests, sharedTests, callTests, takePlan, releasePlan, planPassed, ifPassed, planSound, plan, takeCell, finish, step, tablesIn, lentOf, call, setUp}
 use Rattle.model.specs.Census.{censusParams, letter, awaitsSweep, printedChain}
 use Rattle.model.specs.Runs.{Cell, frees, entered, bookEvent, bookEvents, bookAnswer, takerOf, bookAfter, Write, written, Turn, State, foundBy, stepOf, resultOf, bookOf, turned, begun, covers, Holds, HoldersWrite, unmarked, staysHeld, byteAt, RunKeeps, Demand3}
-use Rattle.model.specs.Spans.{afterTurns, phaseIn, isPrepare, NoPrepare, NotLost, MarkedStays}
+use Rattle.model.specs.Spans.{afterTurns, phaseIn, isPrepare, NoPrepare, NotLost, MarkedStays, Span, sweptCount, allocSweeps, awaits, waiting, SweepsBound, EagerSweepsNone, passes, PassOnce}
 use Rattle.model.specs.Port.{PortRun, turnsOf, portBegun, PortKeeps, ran, Demand3OfThePort}
 use Rattle.soundness.proofs.Printed.{printed-is-built}
 use Rattle.runs.proofs.Demand3.{demand3}
 use Rattle.runs.proofs.SpanLaws.{marked-stays}
+use Rattle.runs.proofs.Ceiling.{sweeps-bound, eager-sweeps-none, pass-once}
 use Rattle.runs.proofs.Port.{ran-chain, ran-turns, demand3-of-the-port}
 
 -- ---- the run
@@ -102,6 +106,17 @@ unfoldable pub eagerTurns : List Turn
 eagerTurns =
     quiet (bind 1) ∷ quiet (ask (Fresh (record { 0 = 2 }))) ∷ quiet (ask Nothing)
     ∷ record { writes = writing ∷ []; call = prepare } ∷ quiet (mark 27648 2) ∷ quiet (release 1) ∷ quiet sharedRelease ∷ []
+
+-- the fourth, up to the end of its last release, and from there
+abbrev wide : Offer → Call
+wide offer = alloc 1 4096 8 0 offer
+
+unfoldable pub untilReleased : List Turn
+untilReleased =
+    quiet (bind 1) ∷ quiet (wide (Fresh (record { 0 = 2 }))) ∷ quiet prepare ∷ quiet (mark 24576 2) ∷ quiet (release 1) ∷ quiet sharedRelease ∷ []
+
+unfoldable pub afterReleased : List Turn
+afterReleased = quiet (wide Nothing) ∷ []
 
 -- ---- what stands between its turns
 
@@ -222,10 +237,45 @@ eager₆ = stands (standing 1347 2 one 25600 2) (states 254) oneMark heap₄ (se
 pub eager₇ : State
 eager₇ = stands (standing 1200 0 none 26624 3) (states 254) oneMark heap₇ (first true ∷ []) (27648 ∷ [])
 
+-- of the fourth run, from its second turn on: block 2 has one cell of 4,096 bytes. List 32 is holder 1's available list of this class, 130 its
+-- consumed one, 1404 in-gc unswept, 1257 abandoned unswept
+heapWide : List ℕ
+heapWide = zeroed p (linkAll p (24576 ∷ []) heap₀) 24576 4096
+
+abbrev only : Bool → Cell
+only old = record { start = 24576; size = 4096; holder = 1; old = old }
+
+-- the words while the block is on the list l; its cell is handed out
+standingWide : ℕ → ℕ → List ℕ → Words
+standingWide l phase parts = setSize 2 4096 (standing l phase parts 0 0)
+
+-- the mark at 24576
+wideMark : List ℕ
+wideMark = set noMarks 128 1
+
+wide₂ : State
+wide₂ = stands (standingWide 32 0 none) (states 255) noMarks heapWide (only false ∷ []) []
+
+wide₃ : State
+wide₃ = stands (standingWide 32 1 none) (states 255) noMarks heapWide (only true ∷ []) []
+
+wide₄ : State
+wide₄ = stands (standingWide 32 1 none) (states 254) wideMark heapWide (only true ∷ []) (24576 ∷ [])
+
+wide₅ : State
+wide₅ = stands (standingWide 1404 2 one) (states 254) wideMark heapWide (only true ∷ []) (24576 ∷ [])
+
+-- the end of the last release
+pub wide₆ : State
+wide₆ = stands (standingWide 1257 0 none) (states 254) wideMark heapWide (only true ∷ []) (24576 ∷ [])
+
+pub wide₇ : State
+wide₇ = stands (standingWide 130 0 none) (states 254) wideMark heapWide (only true ∷ []) (24576 ∷ [])
+
 -- ---- each turn, computed. Who opens `machine` opens all that its line names
 
 machine : Params
-unfolding begun turned foundBy stepOf resultOf bookOf written takerOf bookAfter bookAnswer bookEvents bookEvent entered frees leadingZeros allBelow anyBelow member filter sumBelow eachBelow flag powerOfTwo lowerOk biased plusLower minusLower heapBytes heapEnd goodParams wordCount fits start blockAt inHeap isStart listOf listWord localSets available unswept consumed loadBytes bytesOf overwrite load store zeroed bitOf setBit markIndex marked setMark cleared view flat setFirst setLast setBound setReleased setNext setPrev setFree setSize setList setTls setCells setPhase withReleased fours classWords classBytes wordsIn highestBit binInOctave miBin binOf cellBytes classesFit raised shift alignAllocation push pop popHead removeBetween remove relabel link append walk blocksOn cellCount isCell cellsDown headD linkAll initChain initBlock simple keeps sweepChain sweptWords clearBlock eventHeap eventsHeap isSweep isRelease sweeps releases findFreeBlockWith recycleLocalBlocks acquireAbandoned acquireFresh findBlock freshWords freshTables isHolder isBound bindHolder abandonBin abandonBlocks destroyHolder unmarkedState prepared markPlace releaseFrom releaseBlocks appendTo leftUnswept releaseBin releaseHolder sweepLaterBin sweepLater hasReleased allReleased partReleased isLast sweepBlock sweepAll recycleFrom recycleBin recycleBlocks sweptEagerly eagerly stateOf stateKnown blockClear listNamed binNamed setNamed onListNamed sizeOk linkOk tlsOk blockSound linkedFrom linked ownerEmpty unboundEmpty inGcEmpty phaseKnown flagsKnown releasedFew releasedSome releasedEmpty sound chainCounts chainOk chained onUnswept releasedBefore eagerBlock eagerOk refusalNumber goodRequest tooBig goodOffer goodObject mayRelease andThen phaseTest bindTests boundTests requestTests markTests releaseTests sharedTests callTests takePlan releasePlan planPassed ifPassed planSound plan takeCell finish step call setUp censusParams after₀ after₁ after₂ after₃ after₄ after₅ after₆ after₇ after₈ standing states none one noMarks oneMark heap₀ heap₂ heap₃ heap₄ heap₈ lent chainFrom freeChain letter awaitsSweep printedChain appended abandonedBin abandonedBelow abandonedBlocks merged mayLeave leaveTests left₆ left₇ left₈ left₉ heap₇ eager₆ eager₇
+unfolding begun turned foundBy stepOf resultOf bookOf written takerOf bookAfter bookAnswer bookEvents bookEvent entered frees leadingZeros allBelow anyBelow member filter sumBelow eachBelow flag powerOfTwo lowerOk biased plusLower minusLower heapBytes heapEnd goodParams wordCount fits start blockAt inHeap isStart listOf listWord localSets available unswept consumed loadBytes bytesOf overwrite load store zeroed bitOf setBit markIndex marked setMark cleared view flat setFirst setLast setBound setReleased setNext setPrev setFree setSize setList setTls setCells setPhase withReleased fours classWords classBytes wordsIn highestBit binInOctave miBin binOf cellBytes classesFit raised shift alignAllocation push pop popHead removeBetween remove relabel link append walk blocksOn cellCount isCell cellsDown headD linkAll initChain initBlock simple keeps sweepChain sweptWords clearBlock eventHeap eventsHeap isSweep isRelease sweeps releases findFreeBlockWith recycleLocalBlocks acquireAbandoned acquireFresh findBlock freshWords freshTables isHolder isBound bindHolder abandonBin abandonBlocks destroyHolder unmarkedState prepared markPlace releaseFrom releaseBlocks appendTo leftUnswept releaseBin releaseHolder sweepLaterBin sweepLater hasReleased allReleased partReleased isLast sweepBlock sweepAll recycleFrom recycleBin recycleBlocks sweptEagerly eagerly stateOf stateKnown blockClear listNamed binNamed setNamed onListNamed sizeOk linkOk tlsOk blockSound linkedFrom linked ownerEmpty unboundEmpty inGcEmpty phaseKnown flagsKnown releasedFew releasedSome releasedEmpty sound chainCounts chainOk chained onUnswept releasedBefore eagerBlock eagerOk refusalNumber goodRequest tooBig goodOffer goodObject mayRelease andThen phaseTest bindTests boundTests requestTests markTests releaseTests sharedTests callTests takePlan releasePlan planPassed ifPassed planSound plan takeCell finish step call setUp censusParams after₀ after₁ after₂ after₃ after₄ after₅ after₆ after₇ after₈ standing states none one noMarks oneMark heap₀ heap₂ heap₃ heap₄ heap₈ lent chainFrom freeChain letter awaitsSweep printedChain appended abandonedBin abandonedBelow abandonedBlocks merged mayLeave leaveTests left₆ left₇ left₈ left₉ heap₇ eager₆ eager₇ standingWide wideMark heapWide wide₂ wide₃ wide₄ wide₅ wide₆ wide₇
 machine = censusParams
 
 set-up : begun p lent ≡ after₀
@@ -551,3 +601,136 @@ eager-kept = rw eager-events
 pub eager-lost : staysHeld p′ lastRelease (second true) ≡ false
 unfolding staysHeld any frees member
 eager-lost = rw eager-events
+
+-- ---- R-12: after the third run an alloc finds the block swept. It is a span with the choice on
+
+pub afterEager : List Turn
+afterEager = quiet (ask Nothing) ∷ []
+
+eager-turn₈ : turned p′ eager₇ (quiet (ask Nothing)) ≡ after₈
+unfolding machine
+eager-turn₈ = refl
+
+stands-eager : afterTurns p′ (begun p′ lent) eagerTurns ≡ eager₇
+unfolding eagerTurns
+stands-eager =
+    ap (λ (x : State). afterTurns p′ x eagerTurns) eager-set-up
+    ∙ next p′ _ _ _ _ _ eager-turn₁ (next p′ _ _ _ _ _ eager-turn₂ (next p′ _ _ _ _ _ eager-turn₃ (next p′ _ _ _ _ _ eager-turn₄ (next p′ _ _ _ _ _ eager-turn₅
+    (next p′ _ _ _ _ _ eager-turn₆ (next p′ _ _ _ _ _ eager-turn₇ (done p′ eager₇)))))))
+
+eager-more : HoldersWrite p′ (begun p′ lent) (eagerTurns ++ afterEager)
+unfolding eagerTurns afterEager
+eager-more =
+    subst (λ (x : State). HoldersWrite p′ x (eagerTurns ++ afterEager)) (sym eager-set-up)
+    (quiet-turn p′ _ _ _ _ eager-turn₁ (quiet-turn p′ _ _ _ _ eager-turn₂ (quiet-turn p′ _ _ _ _ eager-turn₃
+    (writing-turn p′ _ _ _ _ _ held eager-turn₄ (quiet-turn p′ _ _ _ _ eager-turn₅ (quiet-turn p′ _ _ _ _ eager-turn₆
+    (quiet-turn p′ _ _ _ _ eager-turn₇ (quiet-turn p′ _ _ _ _ eager-turn₈ (nothing-left p′ after₈)))))))))
+
+eager-phase : phaseIn eager₇ ≡ 0
+unfolding machine
+eager-phase = refl
+
+pub eager-span : Span p′ lent eagerTurns afterEager
+unfolding afterEager isPrepare
+eager-span =
+    record {
+      setUps = eager-answers;
+      holders = eager-more;
+      starts = subst (λ (x : State). phaseIn x ≡ 0) (sym stands-eager) eager-phase;
+      prepares = subst (λ (x : State). NoPrepare p′ x afterEager) (sym stands-eager) (no-prepare p′ _ _ _ _ refl eager-turn₈ (none-prepares p′ after₈));
+    }
+
+pub eager-ceiling : allocSweeps p′ (afterTurns p′ (begun p′ lent) eagerTurns) afterEager ≡ 0
+unfolding EagerSweepsNone
+eager-ceiling = eager-sweeps-none p′ lent eagerTurns afterEager eager-span refl
+
+pub eager-served : resultOf p′ eager₇ (quiet (ask Nothing)) .reply ≡ answered (26624 ∷ 1024 ∷ 0 ∷ 0 ∷ [])
+unfolding machine
+eager-served = refl
+
+-- ---- R-12: the fourth run
+
+went₂ : turned p after₁ (quiet (wide (Fresh (record { 0 = 2 })))) ≡ wide₂
+unfolding machine
+went₂ = refl
+
+went₃ : turned p wide₂ (quiet prepare) ≡ wide₃
+unfolding machine
+went₃ = refl
+
+went₄ : turned p wide₃ (quiet (mark 24576 2)) ≡ wide₄
+unfolding machine
+went₄ = refl
+
+went₅ : turned p wide₄ (quiet (release 1)) ≡ wide₅
+unfolding machine
+went₅ = refl
+
+went₆ : turned p wide₅ (quiet sharedRelease) ≡ wide₆
+unfolding machine
+went₆ = refl
+
+went₇ : turned p wide₆ (quiet (wide Nothing)) ≡ wide₇
+unfolding machine
+went₇ = refl
+
+pub stands-released : afterTurns p (begun p lent) untilReleased ≡ wide₆
+unfolding untilReleased
+stands-released =
+    ap (λ (x : State). afterTurns p x untilReleased) set-up
+    ∙ next p _ _ _ _ _ turn₁ (next p _ _ _ _ _ went₂ (next p _ _ _ _ _ went₃ (next p _ _ _ _ _ went₄ (next p _ _ _ _ _ went₅
+    (next p _ _ _ _ _ went₆ (done p wide₆))))))
+
+released-writes : HoldersWrite p (begun p lent) (untilReleased ++ afterReleased)
+unfolding untilReleased afterReleased
+released-writes =
+    subst (λ (x : State). HoldersWrite p x (untilReleased ++ afterReleased)) (sym set-up)
+    (quiet-turn p _ _ _ _ turn₁ (quiet-turn p _ _ _ _ went₂ (quiet-turn p _ _ _ _ went₃ (quiet-turn p _ _ _ _ went₄
+    (quiet-turn p _ _ _ _ went₅ (quiet-turn p _ _ _ _ went₆ (quiet-turn p _ _ _ _ went₇ (nothing-left p wide₇))))))))
+
+released-phase : phaseIn wide₆ ≡ 0
+unfolding machine
+released-phase = refl
+
+no-prepare-after : NoPrepare p wide₆ afterReleased
+unfolding afterReleased isPrepare
+no-prepare-after = no-prepare p _ _ _ _ refl went₇ (none-prepares p wide₇)
+
+pub span : Span p lent untilReleased afterReleased
+span =
+    record {
+      setUps = set-up-answers;
+      holders = released-writes;
+      starts = subst (λ (x : State). phaseIn x ≡ 0) (sym stands-released) released-phase;
+      prepares = subst (λ (x : State). NoPrepare p x afterReleased) (sym stands-released) no-prepare-after;
+    }
+
+-- so the theorems speak of it
+pub ceiling : allocSweeps p (afterTurns p (begun p lent) untilReleased) afterReleased ≤ waiting p (tablesIn (afterTurns p (begun p lent) untilReleased .lent))
+unfolding SweepsBound
+ceiling = sweeps-bound p lent untilReleased afterReleased span
+
+pub passes-once : passes p 2 (afterTurns p (begun p lent) untilReleased) afterReleased ≤ 1
+unfolding PassOnce
+passes-once = pass-once p lent untilReleased afterReleased 2 span
+
+-- and it reaches both: the alloc sweeps the block, spends it and is Exhausted
+pub first-told : resultOf p wide₆ (quiet (wide Nothing)) .reply ≡ exhausted 1
+unfolding machine
+first-told = refl
+
+pub first-events : stepOf p wide₆ (quiet (wide Nothing)) .events ≡ swept 2 [] ∷ spent 2 ∷ []
+unfolding machine
+first-events = refl
+
+pub one-waits : waiting p (tablesIn (wide₆ .lent)) ≡ 1
+unfolding machine waiting awaits
+one-waits = refl
+
+pub one-swept : allocSweeps p wide₆ afterReleased ≡ 1
+unfolding allocSweeps sweptCount afterReleased sweeps filter isSweep
+one-swept = rw first-events
+
+pub one-pass : passes p 2 wide₆ afterReleased ≡ 1
+unfolding passes timesSpent afterReleased filter spends
+one-pass = rw first-events

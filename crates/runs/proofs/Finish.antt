@@ -2,7 +2,7 @@
 -- so the reply, the tables and the events are those of a step that sees the shadow and no heap.
 use mathlib.Core.Path.{_≡_, refl, sym, ap, _∙_, subst}
 use mathlib.Core.Logic.{_≢_, inl, inr, ⊎-elim}
-use mathlib.Core.Bool.{Bool, true, false, not}
+use mathlib.Core.Bool.{Bool, true, false}
 use mathlib.Core.List.{List, [], _∷_, _++_, append-nil, headD}
 use Prim.Native.Nat.{ℕ, _+_, _-_, _%_, _≤_, _<_}
 use native.Mathlib.Omega.{arith}
@@ -10,12 +10,12 @@ use lib.ListN.{getD, set}
 use borrow.Author.Tests.{eq-eqb}
 use Rattle.model.specs.declared.Params.{Params}
 use Rattle.model.specs.declared.Offer.{Offer}
-use Rattle.model.specs.Base.{In, Pairwise, filter, flag}
+use Rattle.model.specs.Base.{In, Pairwise, flag}
 use Rattle.model.specs.Params.{start, blockAt, heapBytes, heapEnd}
 use Rattle.model.specs.Memory.{load, zeroed}
 use Rattle.model.specs.Tables.{Tables, withWords, setFree, setCells}
 use Rattle.model.specs.SizeClasses.{alignAllocation}
-use Rattle.model.specs.Events.{Event, initialised, swept, released, taken, eventHeap, eventsHeap, sweeps}
+use Rattle.model.specs.Events.{Event, initialised, swept, released, taken, spent, eventHeap, eventsHeap, sweeps}
 use Rattle.model.specs.Calls.{Reply, answered, Call, bind, destroy, alloc, prepare, mark, release, sharedRelease, End, says, takes, Step, takeCell, finish}
 use Rattle.model.specs.Runs.{Cell, Book, frees, entered, bookEvent, bookEvents, bookAnswer, bookAfter, takerOf, covers, Apart, Zeroed, Served, Unchanged, LostExactly, byteAt, hits}
 use Rattle.laws.proofs.Base.{not-both, in-append, in-append-right}
@@ -25,7 +25,7 @@ use Rattle.laws.proofs.Memory as Mem
 use Rattle.laws.proofs.Cells.{Whole, whole-from, whole-to, whole-apart, whole-blockAt}
 use Rattle.runs.proofs.Inv.{Held, Core, whole-eight, top-whole, take-bytes, take-core}
 use Rattle.soundness.proofs.Chains.{shadowEvents, first-head, first-link}
-use Rattle.runs.proofs.Steps.{EventsOk, none-taken, events-lost, events-unchanged, book-append, same-bytes}
+use Rattle.runs.proofs.Steps.{filter-all, EventsOk, none-taken, events-lost, events-unchanged, book-append, same-bytes}
 use Rattle.runs.proofs.Search.{Settled}
 use Rattle.runs.proofs.Plans.{bookFor, Serves, Inv}
 
@@ -62,18 +62,14 @@ cellStart (initialised b chain) = 0
 cellStart (swept b chain) = 0
 cellStart (released b) = 0
 cellStart (taken a s) = a
+cellStart (spent b) = 0
 
 cellSize : Event → ℕ
 cellSize (initialised b chain) = 0
 cellSize (swept b chain) = 0
 cellSize (released b) = 0
 cellSize (taken a s) = s
-
--- nothing is dropped where nothing is tested
-filter-all : (cs : List Cell) → filter (λ (c : Cell). not false) cs ≡ cs
-unfolding filter
-filter-all [] = refl
-filter-all (c ∷ cs) = ap (λ (x : List Cell). c ∷ x) (filter-all cs)
+cellSize (spent b) = 0
 
 -- `Served`, call by call
 servedBy : Call → Step → Type 0

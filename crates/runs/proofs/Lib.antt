@@ -4,6 +4,7 @@ pub mod Steps
 pub mod Search
 pub mod Plans
 pub mod AllocPlan
+pub mod Work
 pub mod Finish
 pub mod Calls
 pub mod Counts
@@ -11,5 +12,6 @@ pub mod Demand3
 pub mod Never
 pub mod Port
 pub mod SpanLaws
+pub mod Ceiling
 pub mod Example
 pub mod Listings

@@ -475,7 +475,7 @@ module _ (p : Params) (B : Bounds p) where
     pub idle : Idle w′
 
   -- one list of an owner, none of them unswept, goes behind another
-  append-leaving : (w w′ : Words) (l o : ℕ) → Settled (listWord l) → Settled (listWord o) → Leaving w w′ → Leaving w (append p l o w′)
+  pub append-leaving : (w w′ : Words) (l o : ℕ) → Settled (listWord l) → Settled (listWord o) → Leaving w w′ → Leaving w (append p l o w′)
   unfolding Steady FirstsBut
   append-leaving w w′ l o sl so L =
       record {

@@ -17,7 +17,7 @@ use Rattle.model.specs.Tables.{Words, Tables, setFree, setTls, setCells}
 use Rattle.model.specs.SizeClasses.{cellBytes}
 use Rattle.model.specs.BlockList.{Popped, push, pop}
 use Rattle.model.specs.Block.{linkAll, sweepChain, sweptWords}
-use Rattle.model.specs.Events.{Event, eventHeap, eventsHeap}
+use Rattle.model.specs.Events.{Event, spent, eventHeap, eventsHeap}
 use Rattle.model.specs.FreeListAllocator.{sweepOf}
 use Rattle.model.specs.Sound.{stateOf, sound, sizeOk, binNamed, listNamed}
 use Rattle.model.specs.Runs.{Cell, Book, bookEvent, bookEvents, frees, entered, hits, unmarked}
@@ -33,7 +33,7 @@ use Rattle.soundness.proofs.SoundLists.{sound-parts, block-parts}
 use Rattle.runs.proofs.Links.{Occupied, Linked, Loose, linked-same, loose-same, Pop, pop-cases, Pushed, push-pushed}
 use Rattle.runs.proofs.Inv.{Core, was-held, sweep-core, sweep-bytes, sweep-frees}
 use Rattle.soundness.proofs.Chains.{shadowEvent, shadowEvents}
-use Rattle.runs.proofs.Steps.{isTaken, EventOk, EventsOk, events-behind, behind, same-bytes}
+use Rattle.runs.proofs.Steps.{isTaken, EventOk, EventsOk, spent-book, spent-ok, events-behind, behind, same-bytes}
 
 -- ---- list words
 
@@ -267,13 +267,24 @@ module _ (p : Params) (B : Bounds p) (st ms : List ℕ) (hd : ℕ) where
       co-bin : wordBin (listWord (consumed (localSets hd) bin)) ≡ bin
       co-bin = rw own (consumed-bin j bin (omega arith) low)
 
+      -- a block that goes to a consumed list is an event
+      spent-going : (es : List Event) (w : Words) (b : ℕ) → Going es w → Going (es ++ (spent b ∷ [])) w
+      unfolding isTaken eventHeap shadowEvent
+      spent-going es w b G =
+          record {
+            events = events-behind p B hd es (spent b) h bk (G .events) refl (spent-ok p B hd b _ _);
+            searching = behind p B hd (Searching w) es (spent b) h sh bk (rw (spent-book p B hd b (bookEvents p hd es bk)) (G .searching));
+          }
+
       -- a block that is no link's goes to the holder: to available if it has a free cell, else to consumed
       files : (es : List Event) (w : Words) (b : ℕ) → Going es w → Occupied p st b → Loose p st w b → getD (w .size) b 0 ≡ cellBytes p bin
           → Files p ms hd bin Going (Gone bin) es (start p b) w
       files es w b G ob loose cell =
           let S = G .searching in
           record {
-            full = λ q. rw is (record { events = G .events; searching = pushed-searching w _ _ _ S b _ ob loose co-low co-settled bin cell co-bin });
+            full = λ q.
+                rw is (spent-going es (push p (consumed (localSets hd) bin) b w) b
+                (record { events = G .events; searching = pushed-searching w _ _ _ S b _ ob loose co-low co-settled bin cell co-bin }));
             has = λ f. rw is (record {
               going = record { events = G .events; searching = pushed-searching w _ _ _ S b _ ob loose av-low av-settled bin cell av-bin };
               ready = pushed-ready w _ _ _ S b _ ob loose av-low av-settled bin cell av-bin (rw is at f);
@@ -315,13 +326,15 @@ module _ (p : Params) (B : Bounds p) (st ms : List ℕ) (hd : ℕ) where
           is-head = ap (blockAt p) (P .first) ∙ blockAt-start p B b (P .popping .occupied .0)
 
           move-full : wordBin (listWord l) ≡ bin
-              → Going es (push p (consumed (localSets hd) bin) (blockAt p (getD (w .first) l 0)) (pop p l w .words))
+              → Going (es ++ (spent (blockAt p (getD (w .first) l 0)) ∷ []))
+              (push p (consumed (localSets hd) bin) (blockAt p (getD (w .first) l 0)) (pop p l w .words))
           move-full e =
-              rw (is-head, P .is) (record {
+              rw (is-head, P .is) (spent-going es (push p (consumed (localSets hd) bin) b (P .words)) b
+              (record {
                 events = G .events;
                 searching = pushed-searching (P .words) _ _ _ (popped-searching w _ _ _ S l b P) b _ (P .popping .occupied) (P .popping .loose) co-low co-settled bin
                     (popped-size w _ _ _ S l b bin P e) co-bin;
-              })
+              }))
 
           see : wordBin (listWord l) ≡ bin → Settled (listWord l) → getD (w .free) (blockAt p (getD (w .first) l 0)) 0 ≢ 0 → Gone bin es (getD (w .first) l 0) w
           see e s f =

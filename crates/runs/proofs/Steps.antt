@@ -7,8 +7,8 @@ use Prim.Native.Nat.{ℕ, _-_}
 use native.Mathlib.Omega.{arith}
 use borrow.Author.Tests.{not-true}
 use Rattle.model.specs.declared.Params.{Params}
-use Rattle.model.specs.Base.{In, any}
-use Rattle.model.specs.Events.{Event, initialised, swept, released, taken, eventHeap, eventsHeap}
+use Rattle.model.specs.Base.{In, any, filter}
+use Rattle.model.specs.Events.{Event, initialised, swept, released, taken, spent, eventHeap, eventsHeap}
 use Rattle.model.specs.Runs.{Cell, Book, frees, entered, bookEvent, bookEvents, unmarked, covers, staysHeld, Unchanged, byteAt, hits, LostExactly}
 use Rattle.laws.proofs.Base.{filter-in, or-none-left, or-none-right, not-both}
 use Rattle.laws.proofs.Params.{Bounds}
@@ -22,6 +22,13 @@ isTaken (initialised b chain) = false
 isTaken (swept b chain) = false
 isTaken (released b) = false
 isTaken (taken a s) = true
+isTaken (spent b) = false
+
+-- nothing is dropped where nothing is tested
+pub filter-all : (cs : List Cell) → filter (λ (c : Cell). not false) cs ≡ cs
+unfolding filter
+filter-all [] = refl
+filter-all (c ∷ cs) = ap (λ (x : List Cell). c ∷ x) (filter-all cs)
 
 -- ---- one event
 
@@ -44,10 +51,20 @@ module _ (p : Params) (B : Bounds p) (hd : ℕ) where
   enters (swept b chain) c cs m = m
   enters (released b) c cs m = m
   enters (taken a s) c cs m = inr m
+  enters (spent b) c cs m = m
 
   pub stays : (e : Event) (bk : Book) (c : Cell) → In c (bk .cells) → frees p e c ≡ false → In c (bookEvent p hd e bk .cells)
   unfolding bookEvent
   stays e bk c m s = enters e c _ (filter-in (λ (x : Cell). not (frees p e x)) c (bk .cells) m (ap not s))
+
+  -- a block that goes to a consumed list: nothing happens to cells
+  pub spent-book : (b : ℕ) (bk : Book) → bookEvent p hd (spent b) bk ≡ bk
+  unfolding bookEvent entered frees
+  spent-book b bk = ap (λ (cs : List Cell). record { cells = cs; places = bk .places }) (filter-all (bk .cells))
+
+  pub spent-ok : (b : ℕ) (h : List ℕ) (bk : Book) → EventOk (spent b) h bk
+  unfolding frees hits eventHeap
+  spent-ok b h bk = record { lost = λ c m. (refl, λ s. absurd (not-both true refl (sym s))); bytes = λ c m out k v. refl }
 
   -- ---- events in order: those of a plan, which take no cell
 

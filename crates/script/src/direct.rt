@@ -65,6 +65,7 @@ fn alloc(
     };
     match free_list_allocator::alloc(p, w, st, marks, heap, v[0], request) {
         AllocAnswer::Refused(r) => Reply::Refused(r),
+        AllocAnswer::Exhausted { swept } => Reply::Exhausted(swept),
         AllocAnswer::Served {
             address,
             cell_size,

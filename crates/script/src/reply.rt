@@ -35,6 +35,7 @@ pub(crate) enum Reply {
     Count(usize),
     Row(usize),
     Refused(Refusal),
+    Exhausted(usize),
     Export(Sent),
 }
 
@@ -134,6 +135,11 @@ fn words(o: &mut [u8; out::OUT], n: usize, r: Reply) -> usize {
         Reply::Refused(why) => {
             let m = out::text(o, n, b"refused");
             out::word(o, m, refusal_number(why))
+        }
+        Reply::Exhausted(swept) => {
+            let m = out::text(o, n, b"refused");
+            let k = out::word(o, m, refusal_number(Refusal::Exhausted));
+            out::word(o, k, swept)
         }
         Reply::Export(s) => sent_line(o, n, s),
     }

@@ -17,12 +17,12 @@ use Rattle.model.specs.declared.Params.{Params}
 use Rattle.model.specs.declared.Offer.{Offer}
 use Rattle.model.specs.declared.Offer.the-variants.{Nothing, Fresh}
 use Rattle.model.specs.Base.{In, eachBelow}
-use Rattle.model.specs.Params.{start, blockAt, localSets, abandoned, inGc, available, unswept, bins}
+use Rattle.model.specs.Params.{start, blockAt, localSets, abandoned, inGc, available, unswept, consumed, bins}
 use Rattle.model.specs.Tables.{Words, Tables, setFree, setSize, setTls, setCells, setNext, setPrev, setList, setPhase, setReleased, withReleased}
 use Rattle.model.specs.SizeClasses.{cellBytes}
 use Rattle.model.specs.BlockList.{push, pop, remove}
 use Rattle.model.specs.Block.{cellCount, cellsDown, sweepChain, sweptWords, initChain, initBlock, clearBlock, chainStands}
-use Rattle.model.specs.Events.{Event, initialised, eventHeap, eventsHeap}
+use Rattle.model.specs.Events.{Event, initialised, spent, eventHeap, eventsHeap}
 use Rattle.model.specs.FreeListAllocator.{sweepOf, Found, Search, acquireFresh, findBlock}
 use Rattle.model.specs.Global.{Freed, freed, appendTo, releaseBlocks, releaseBin, releaseHolder, sweepLater, partReleased, allReleased, isLast, sweepBlock, sweepAll, recycleBlocks, sweptEagerly, eagerly}
 use Rattle.model.specs.Calls.{goodOffer, End, says, takes, takePlan}
@@ -34,7 +34,7 @@ use Rattle.laws.proofs.Walks.{available-numbered, unswept-numbered, Files, Step
 use Rattle.soundness.proofs.Owners.{abandon-links, framed-refl}
 use Rattle.soundness.proofs.Lists.{AllOn}
 use Rattle.soundness.proofs.GoodTables.{GoodTables}
-use Rattle.soundness.proofs.Chains.{set-cases, shadowEvent, shadowEvents, heap-behind, shadow-behind, Chains, sweep-chains, init-chains, release-chains}
+use Rattle.soundness.proofs.Chains.{set-cases, shadowEvent, shadowEvents, heap-behind, shadow-behind, heap-spent, shadow-spent, Chains, sweep-chains, init-chains, release-chains}
 use Rattle.soundness.proofs.Alloc.{my-available, my-unswept, SearchedSoFar, steps}
 use Rattle.soundness.proofs.Searches.{Head, head-of}
 
@@ -77,6 +77,9 @@ module _ (p : Params) (B : Bounds p) (h : List ℕ) (sh : List (List ℕ)) where
   swept-after ms es w b lb wide C =
       behind es (sweepOf p ms b w) (sweptWords p ms b w)
       (sweep-chains p B (w .free) (w .size) (w .cells) (eventsHeap p es h) (shadowEvents es sh) C b lb ms (sweepChain p ms b (getD (w .size) b 0)) wide refl)
+
+  spent-after : (es : List Event) (b : ℕ) (w : Words) → After es w → After (es ++ (spent b ∷ [])) w
+  spent-after es b w C = rw (heap-spent p es b h, shadow-spent es b sh) C
 
   -- a chain from an address that is not 0 has a first cell
   first-cell : (g : List ℕ) (a : ℕ) (l : List ℕ) → chainStands p g a l → a ≢ 0 → (x : ℕ) × (r : List ℕ) × (l ≡ x ∷ r)
@@ -121,7 +124,10 @@ module _ (p : Params) (B : Bounds p) (h : List ℕ) (sh : List (List ℕ)) where
         → Files p ms hd bin On Got es a w
     files es a w lb F C =
         record {
-          full = λ e. (F .full e, links-after es (push-links p _ _ w (links-refl w)) C);
+          full = λ e. (
+            F .full e,
+            spent-after es (blockAt p a) (push p (consumed (localSets hd) bin) (blockAt p a) w) (links-after es (push-links p _ _ w (links-refl w)) C),
+          );
           has = λ e.
               let L = push-links p (available (localSets hd) bin) (blockAt p a) w (links-refl w) in
               let D = links-after es L C in
@@ -156,7 +162,11 @@ module _ (p : Params) (B : Bounds p) (h : List ℕ) (sh : List (List ℕ)) where
     chain-steps =
         record {
           moved = λ es w o some e.
-              (S .moved es w (o .0) some e, links-after es (push-links p _ _ _ (pop-links p (available (localSets hd) bin) w (links-refl w))) (o .1));
+              let l = available (localSets hd) bin in
+              let b = blockAt p (getD (w .first) l 0) in (
+                S .moved es w (o .0) some e,
+                spent-after es b (push p (consumed (localSets hd) bin) b (pop p l w .words)) (links-after es (push-links p _ _ _ (pop-links p l w (links-refl w))) (o .1)),
+              );
           seen = λ es w o some e.
               let X = front (available (localSets hd) bin) w av-low (o .0) some in
               (S .seen es w (o .0) some e, o .1, has-top es w _ (X .inside) (o .1) e);

@@ -14,7 +14,7 @@ use Rattle.model.specs.Base.{In, Pairwise}
 use Rattle.model.specs.Params.{start, blockAt, heapBytes}
 use Rattle.model.specs.Memory.{load, zeroed, marked}
 use Rattle.model.specs.Block.{linkAll, keeps, cellCount, sweepChain, initChain, chainStands}
-use Rattle.model.specs.Events.{Event, initialised, swept, released, taken, eventHeap, eventsHeap}
+use Rattle.model.specs.Events.{Event, initialised, swept, released, taken, spent, eventHeap, eventsHeap}
 use Rattle.laws.proofs.Base.{pairwise-more}
 use Rattle.laws.proofs.Params.{Bounds}
 use Rattle.laws.proofs.Memory as Mem
@@ -38,6 +38,7 @@ shadowEvent (initialised b chain) sh = set sh b chain
 shadowEvent (swept b chain) sh = set sh b chain
 shadowEvent (released b) sh = set sh b []
 shadowEvent (taken a s) sh = sh
+shadowEvent (spent b) sh = sh
 
 unfoldable pub shadowEvents : List Event → List (List ℕ) → List (List ℕ)
 shadowEvents [] sh = sh
@@ -53,6 +54,15 @@ pub shadow-behind : (es : List Event) (e : Event) (sh : List (List ℕ)) → sha
 unfolding shadowEvents
 shadow-behind [] e sh = refl
 shadow-behind (x ∷ es) e sh = shadow-behind es e (shadowEvent x sh)
+
+-- a block that goes to a consumed list changes neither
+pub heap-spent : (p : Params) (es : List Event) (b : ℕ) (h : List ℕ) → eventsHeap p (es ++ (spent b ∷ [])) h ≡ eventsHeap p es h
+unfolding eventHeap
+heap-spent p es b h = heap-behind p es (spent b) h
+
+pub shadow-spent : (es : List Event) (b : ℕ) (sh : List (List ℕ)) → shadowEvents (es ++ (spent b ∷ [])) sh ≡ shadowEvents es sh
+unfolding shadowEvent
+shadow-spent es b sh = shadow-behind es (spent b) sh
 
 -- no element is repeated
 abbrev pub Distinct : List ℕ → Type 0

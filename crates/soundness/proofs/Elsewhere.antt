@@ -12,9 +12,9 @@ use Rattle.model.specs.Base.{if_then_else_, allBelow, sumBelow, eachBelow, memb
 use Rattle.model.specs.Params.{start, blockAt, inHeap, isStart, heapBytes, heapEnd, plusLower, minusLower, listWord, localSets, available, unswept, consumed, abandoned, inGc, bins}
 use Rattle.model.specs.Memory.{load, store, zeroed, markIndex, marked, setMark}
 use Rattle.model.specs.Tables.{Words, Tables, tablesOf, withWords, setFirst, setLast, setNext, setPrev, setList, setTls, setReleased, setPhase, withReleased, setBound}
-use Rattle.model.specs.BlockList.{Popped, popped, push, popHead, pop, removeBetween, remove, relabel, link, append, walk, blocksOn, appended, ends, pagesUsed, pagesEnd}
+use Rattle.model.specs.BlockList.{Popped, push, popHead, pop, removeBetween, remove, relabel, link, append, walk, blocksOn, appended, ends, pagesUsed, pagesEnd}
 use Rattle.model.specs.Block.{Unallocated, Unmarked, cellCount, isCell, linkAll, initChain, initBlock, simple, keeps, sweepChain, sweptWords, clearBlock}
-use Rattle.model.specs.Events.{Event, initialised, swept, released, taken, eventHeap, eventsHeap}
+use Rattle.model.specs.Events.{Event, initialised, swept, released, taken, spent, eventHeap, eventsHeap}
 use Rattle.model.specs.FreeListAllocator.{findFreeBlockWith, Found, found, after, sweepOf, filed, recycleLocalBlocks, acquireAbandoned}
 use Rattle.model.specs.Global.{Running, Releasing, abandonBin, abandonBlocks, abandonedBin, abandonedBelow, abandonedBlocks, Freed, freed, afterRelease, releaseFrom, releaseBlocks, appendTo, leftUnswept, releaseBin, releaseHolder, sweepLaterBin, sweepLater, sweepBlock, sweepAll, recycleFrom, recycleBin, recycleBlocks, sweptEagerly, isLast, eagerly, allReleased, partReleased, merged}
 use Rattle.model.specs.Sound.{stateOf, linkedFrom, eagerOk, chainCounts, chainOk, chained}
@@ -81,6 +81,7 @@ module _ (p : Params) (rows : List Row) (count : ℕ) where
   eventHeap-same (swept b l) = λ i h. linkAll-same l i h
   eventHeap-same (released b) = refl
   eventHeap-same (taken a s) = refl
+  eventHeap-same (spent b) = refl
 
   pub eventsHeap-same : (es : List Event) (h : List ℕ) → eventsHeap q es h ≡ eventsHeap p es h
   unfolding eventsHeap
@@ -95,9 +96,9 @@ module _ (p : Params) (rows : List Row) (count : ℕ) where
   findFree-same (suc k) = λ i avail full t.
       let first : ℕ = getD (t .first) avail 0 in
       let b : ℕ = blockAt p first in
-      if eqb first 0 then popped 0 t
-      else if eqb (getD (t .free) b 0) 0 then findFree-same k i avail full (push p full b (pop p avail t .words))
-      else popped first t
+      if eqb first 0 then found 0 t
+      else if eqb (getD (t .free) b 0) 0 then after (spent b) (findFree-same k i avail full (push p full b (pop p avail t .words)))
+      else found first t
 
   pub recycle-same : (k : ℕ) → recycleLocalBlocks k q ≡ recycleLocalBlocks k p
   unfolding recycleLocalBlocks push pop popHead start blockAt sweptWords sweepChain keeps simple marked markIndex inHeap heapEnd heapBytes plusLower cellCount

@@ -11,7 +11,7 @@ use lib.Count.{leadingZeros}
 use borrow.Author.Tests.{leb-true}
 use lib.ListN.{getD, set, replicate}
 use Rattle.model.specs.declared.Params.{Params}
-use Rattle.model.specs.declared.Refusal.the-variants.{BadTables, WrongPhase, Exhausted}
+use Rattle.model.specs.declared.Refusal.the-variants.{BadTables, WrongPhase}
 use Rattle.model.specs.declared.Offer.the-variants.{Nothing, Fresh}
 use Rattle.model.specs.Base.{allBelow, anyBelow, member, filter, sumBelow, eachBelow, flag}
 use Rattle.model.specs.Params.{Lent, powerOfTwo, lowerOk, biased, plusLower, minusLower, heapBytes, heapEnd, goodParams, wordCount, fits, start, blockAt, inHeap, isStart, listOf, listWord, localSets, available, unswept, consumed}
@@ -25,7 +25,7 @@ use Rattle.model.specs.Events.{eventHeap, eventsHeap, isSweep, isRelease, sweep
 use Rattle.model.specs.FreeListAllocator.{findFreeBlockWith, recycleLocalBlocks, acquireAbandoned, acquireFresh, findBlock}
 use Rattle.model.specs.Global.{freshWords, freshTables, isHolder, isBound, bindHolder, abandonBin, abandonBlocks, abandonedBin, abandonedBelow, abandonedBlocks, destroyHolder, unmarkedState, prepared, markPlace, releaseFrom, releaseBlocks, appendTo, leftUnswept, releaseBin, releaseHolder, sweepLaterBin, sweepLater, hasReleased, allReleased, isLast, sweepBlock, sweepAll, recycleFrom, recycleBin, recycleBlocks, sweptEagerly, eagerly, partReleased, merged}
 use Rattle.model.specs.Sound.{stateOf, stateKnown, blockClear, listNamed, binNamed, setNamed, onListNamed, sizeOk, linkOk, tlsOk, blockSound, linkedFrom, linked, ownerEmpty, unboundEmpty, inGcEmpty, phaseKnown, flagsKnown, releasedFew, releasedSome, releasedEmpty, sound, chainCounts, chainOk, onUnswept, releasedBefore, eagerBlock, eagerOk, chained}
-use Rattle.model.specs.Calls.{Reply, Call, alloc, mark, release, Result, refusalNumber, goodRequest, tooBig, goodOffer, goodObject, mayRelease, andThen, phaseTest, bindTests, boundTests, requestTests, markTests, releaseTests, sharedTests, callTests, takePlan, releasePlan, planPassed, ifPassed, planSound, plan, takeCell, finish, step, refused, answered, call, setUp, destroy, sharedRelease, mayLeave, leaveTests, freeCells, cellsOf, ask}
+use Rattle.model.specs.Calls.{Reply, exhausted, tablesIn, Call, alloc, mark, release, Result, refusalNumber, goodRequest, tooBig, goodOffer, goodObject, mayRelease, andThen, phaseTest, bindTests, boundTests, requestTests, markTests, releaseTests, sharedTests, callTests, takePlan, releasePlan, planPassed, ifPassed, planSound, plan, takeCell, finish, step, refused, answered, call, setUp, destroy, sharedRelease, mayLeave, leaveTests, freeCells, cellsOf, ask}
 use Rattle.model.specs.OwnRows.{withOwnRows, LowBins, OwnRows}
 use Rattle.model.specs.Census.{censusParams}
 use Rattle.model.specs.Eager.{LeftSwept, EndsSwept, EagerSwept}
@@ -106,20 +106,26 @@ mark-changes-nothing =
     refusal-keeps p idle (mark 27648 2) (λ z. omega (arith, sym n ∙ z)) .nothing (λ z. omega (arith, sym n ∙ z))
 
 -- ---- Exhausted: block 2 is abandoned and unswept (1249), all its cells are marked. It is swept, and moved to the consumed list
--- (269) of holder 2
+-- (269) of holder 2. One sweep is told (02, R-12)
 
 abbrev full : Lent
 full = lent (standing 1249 0 27648 1 1) 254 allMarked
 
-pub exhausted : call p full wants ≡ record { reply = refused Exhausted; lent = lent (standing 269 0 0 0 2) 254 allMarked }
+pub none-left : call p full wants ≡ record { reply = exhausted 1; lent = lent (standing 269 0 0 0 2) 254 allMarked }
 unfolding machine
-exhausted = refl
+none-left = refl
 
 pub exhausted-keeps : KeptExhausted p 2 (binOf p (raised p 1024 8)) full (call p full wants .lent)
 unfolding RefusalKeeps OfAlloc refusalNumber
 exhausted-keeps =
-    let n : call p full wants .reply .number ≡ 9 = ap (λ (r : Result). r .reply .number) exhausted in
+    let n : call p full wants .reply .number ≡ 9 = ap (λ (r : Result). r .reply .number) none-left in
     refusal-keeps p full wants (λ z. omega (arith, sym n ∙ z)) .exhausted n
+
+pub one-told : (0 ∷ 0 ∷ 0 ∷ 1 ∷ []) ≡ 0 ∷ 0 ∷ 0 ∷ sweeps (step p (tablesIn full) (full .heap) wants .events) ∷ []
+unfolding RefusalKeeps refusalNumber
+one-told =
+    let n : call p full wants .reply .number ≡ 9 = ap (λ (r : Result). r .reply .number) none-left in
+    sym (ap (λ (r : Result). r .reply .values) none-left) ∙ refusal-keeps p full wants (λ z. omega (arith, sym n ∙ z)) .told n
 
 -- ---- R-7. A bad link is BadTables, and nothing changes: block 2 is available to holder 2 (171), and its chain is a ring
 

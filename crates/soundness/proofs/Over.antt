@@ -114,16 +114,26 @@ module _ (p : Params) (B : Bounds p) (ms : List ℕ) where
       on-owner p K l b (P .low) (on-l b (in-append-right b (L l) (L o) x)) ∙ P .owner,
     )
 
-    pub appended-out : (b : ℕ) → b < p .blocks → getD st b 0 ≢ 0 → (In b (L o) → ⊥) → ownerOf (append p l o w) b ≡ ownerOf w b
+    pub named-in : (b : ℕ) → In b (L o) → (getD (w .list) b 0 ≡ listWord o) × (getD (append p l o w .list) b 0 ≡ listWord l)
+    named-in b x = (
+      on-list p (H .good .lists) o b (Q .low) x .names,
+      on-list p K l b (P .low) (on-l b (in-append-right b (L l) (L o) x)) .names,
+    )
+
+    -- a block that is not on the other list names the list it named
+    pub named-out : (b : ℕ) → b < p .blocks → getD st b 0 ≢ 0 → (In b (L o) → ⊥) → getD (append p l o w .list) b 0 ≡ getD (w .list) b 0
     unfolding AllOn
-    appended-out b low occ out =
+    named-out b low occ out =
         let m = H .good .on b low occ in
         let f : m .0 ≢ o = λ e. out (subst (λ (x : ℕ). In b (L x)) e (m .2)) in
-        on-owner p K (m .0) b (m .1) (stays (m .0) (m .2) f (ℕ-discrete (m .0) l)) ∙ sym (on-owner p (H .good .lists) (m .0) b (m .1) (m .2))
+        on-list p K (m .0) b (m .1) (stays (m .0) (m .2) f (ℕ-discrete (m .0) l)) .names ∙ sym (on-list p (H .good .lists) (m .0) b (m .1) (m .2) .names)
       where
         stays : (m : ℕ) → In b (L m) → m ≢ o → Dec (m ≡ l) → In b (M m)
         stays m x f (yes e) = subst (λ (k : ℕ). In b (M k)) (sym e) (on-l b (in-append-left b (L l) (L o) (subst (λ (k : ℕ). In b (L k)) e x)))
         stays m x f (no g) = rw (put-other o [] (put l (L l ++ L o) L) m f, put-other l (L l ++ L o) L m g) x
+
+    pub appended-out : (b : ℕ) → b < p .blocks → getD st b 0 ≢ 0 → (In b (L o) → ⊥) → ownerOf (append p l o w) b ≡ ownerOf w b
+    appended-out b low occ out = same-owner w (append p l o w) b (named-out b low occ out)
 
     -- as many as are counted
     pub append-count : i ≢ j → count (p .blocks) j w st ≡ appended p o w + count (p .blocks) j (append p l o w) st

@@ -26,10 +26,10 @@ use Rattle.model.specs.Tables.{Words, Tables, tablesOf, withWords, view, setFre
 use Rattle.model.specs.SizeClasses.{miBin, binOf, cellBytes, raised, alignAllocation, tabulated}
 use Rattle.model.specs.Classes.{classesFit}
 use Rattle.model.specs.OwnRows.{ownRow, withOwnRows, LowBins, OwnRows}
-use Rattle.model.specs.BlockList.{Popped, push, pagesUsed, pagesEnd}
+use Rattle.model.specs.BlockList.{push, pagesUsed, pagesEnd}
 use Rattle.model.specs.Block.{Unallocated, Unmarked, cellCount, isCell, initChain, initBlock}
 use Rattle.model.specs.Events.{Event, initialised, taken, eventHeap, eventsHeap, sweeps, releases}
-use Rattle.model.specs.FreeListAllocator.{Found, found, followedBy, Search, inFound, acquireFresh, findBlock}
+use Rattle.model.specs.FreeListAllocator.{Found, followedBy, Search, inFound, acquireFresh, findBlock}
 use Rattle.model.specs.Global.{freshWords, freshTables, bindHolder, abandonBlocks, abandonedBlocks, destroyHolder, prepared, markPlace, Freed, releaseHolder, sweepLater, partReleased, merged}
 use Rattle.model.specs.Sound.{stateOf, stateKnown, blockClear, binNamed, listNamed, onListNamed, sizeOk, linkOk, tlsOk, blockSound, linked, unboundEmpty, inGcEmpty, phaseKnown, flagsKnown, releasedFew, releasedSome, releasedEmpty, sound, soundOn}
 use Rattle.model.specs.Calls.{Reply, answered, refused, Call, bind, destroy, alloc, prepare, mark, release, sharedRelease, End, says, takes, Plan, refuses, goodRequest, tooBig, goodOffer, goodObject, callTests, requestTests, markTests, takePlan, releasePlan, planPassed, ifPassed, planSound, plan, Step, takeCell, finish, carried, step, Result, tablesIn, lentOf, resultFrom, badSetup, badClasses, call, setUp, pages, Question, freeCells, cellsOf, ask}
@@ -136,13 +136,13 @@ module _ (p : Params) where
       unfolding findBlock withOwnRows
       find-same h bin offer t e = λ i.
           let owner : ℕ = localSets h in
-          let g : Popped = findFree-same p rs n (p .blocks) i (available owner bin) (consumed owner bin) (t .words) in
-          let f : Found = recycle-same p rs n (p .blocks) i (t .marks) owner bin (g .words) in
+          let g : Found = findFree-same p rs n (p .blocks) i (available owner bin) (consumed owner bin) (t .words) in
+          let f : Found = followedBy g (recycle-same p rs n (p .blocks) i (t .marks) owner bin (g .words)) in
           let a : Found = followedBy f (abandoned-same p rs n (p .blocks) i (t .marks) h bin (f .words)) in
           if eqb (g .at) 0
           then (if eqb (f .at) 0 then (if eqb (a .at) 0 then fresh-same h bin offer e i a t else inFound a t)
           else inFound f t)
-          else inFound (found (g .at) (g .words)) t
+          else inFound g t
 
       -- ---- tests and plans
 

@@ -13,7 +13,7 @@ use Rattle.model.specs.Tables.{Words, Tables, setFree, setTls, setCells}
 use Rattle.model.specs.SizeClasses.{binOf, raised}
 use Rattle.model.specs.BlockList.{push, pop}
 use Rattle.model.specs.Block.{sweepChain, sweptWords}
-use Rattle.model.specs.Events.{Event, initialised, swept, released, taken}
+use Rattle.model.specs.Events.{Event, initialised, swept, released, taken, spent}
 use Rattle.model.specs.FreeListAllocator.{sweepOf, Found, Search, acquireFresh, findBlock}
 use Rattle.model.specs.Sound.{soundOn}
 use Rattle.model.specs.Calls.{alloc, Plan, takePlan, planPassed, plan, End, says, takes, takeCell, finish, step}
@@ -30,6 +30,7 @@ module _ (p : Params) (ms sz : List ℕ) where
   Built (swept b l) = l ≡ sweepChain p ms b (getD sz b 0)
   Built (released b) = Unit {0}
   Built (taken a s) = Unit {0}
+  Built (spent b) = Unit {0}
 
   abbrev pub AllBuilt : List Event → Type 0
   AllBuilt es = (e : Event) → In e es → Built e
@@ -63,14 +64,19 @@ module _ (p : Params) (ms sz : List ℕ) where
   sweep b {es} {w} o =
       record { size = o .size; built = one-more es _ (o .built) (ap (λ (z : List ℕ). sweepChain p ms b (getD z b 0)) (o .size)) }
 
+  -- a block goes to a consumed list
+  full : (l b : ℕ) {es : List Event} {w : Words} → So es w → So (es ++ (spent b ∷ [])) (push p l b w)
+  unfolding Built
+  full l b {es} o = record { size = onto l b o .size; built = one-more es _ (o .built) tt }
+
   module _ (h bin : ℕ) where
     file : {es : List Event} {a : ℕ} {w : Words} → So es w → Files p ms h bin (λ es w. So es w) (λ es a w. So es w) es a w
-    file o = record { full = λ e. onto _ _ o; has = λ e. onto _ _ o }
+    file o = record { full = λ e. full _ _ o; has = λ e. onto _ _ o }
 
     steps : Steps p ms h bin (λ es w. So es w) (λ es a w. So es w)
     steps =
         record {
-          moved = λ es w o f e. onto _ _ (out _ o);
+          moved = λ es w o f e. full _ _ (out _ o);
           seen = λ es w o f e. o;
           recycled = λ es w o f. file (sweep _ (out _ o));
           over = λ es w o f. file (mine _ h (out _ o));

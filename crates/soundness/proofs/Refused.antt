@@ -26,7 +26,7 @@ use Rattle.model.specs.Events.{Event, eventsHeap}
 use Rattle.model.specs.FreeListAllocator.{Found, Search, inFound, acquireFresh, findBlock}
 use Rattle.model.specs.Sound.{sound, eagerOk, chained, soundOn}
 use Rattle.model.specs.Calls.{refusalNumber, Call, bind, destroy, alloc, prepare, mark, release, sharedRelease, Plan, refuses, changes, goodOffer, takePlan, releasePlan, callTests, planPassed, planSound, plan, takeCell, finish, step, Result, tablesIn, lentOf, resultFrom, badSetup, badClasses, call, setUp}
-use Rattle.model.specs.Refusals.{PassedOver, SearchKeeps, KeptExhausted, OfAlloc, Refused, RefusalKeeps, SetUpKeeps}
+use Rattle.model.specs.Refusals.{PassedOver, SearchKeeps, KeptExhausted, OfAlloc, RefusalKeeps, SetUpKeeps}
 use Rattle.laws.proofs.Base.{if-cases, and-left, and-right}
 use Rattle.laws.proofs.Params.{Bounds, good-bounds, some-start}
 use Rattle.laws.proofs.Tables.{Sized, sized-view, flat-view, view-flat, by-lt}
@@ -35,6 +35,7 @@ use Rattle.laws.proofs.Classes.{chosen, fits-raised}
 use Rattle.laws.proofs.Cells.{Whole, whole-nonzero}
 use Rattle.laws.proofs.Walks.{find-keeps}
 use Rattle.laws.proofs.Tests.{alloc-passed, plan-cases}
+use Rattle.soundness.proofs.Replies.{exhausted-tells}
 use Rattle.soundness.proofs.SoundLists.{sound-good}
 use Rattle.soundness.proofs.Owners.{Framed, framed-refl}
 use Rattle.soundness.proofs.GoodTables.{GoodTables}
@@ -78,12 +79,18 @@ module _ (p : Params) (h bin : ℕ) (l : Lent) (w : Words) (heap : List ℕ) (Z 
 
 -- ---- calls on buffers that fit
 
+-- what is said of a refused call, but for the count that Exhausted tells (Replies.antt)
+record Leaves (p : Params) (l : Lent) (c : Call) (r : Result) : Type 0 where
+  values : r .reply .number ≢ 9 → r .reply .values ≡ []
+  nothing : r .reply .number ≢ 9 → r .lent ≡ l
+  exhausted : r .reply .number ≡ 9 → OfAlloc p (λ holder bin. KeptExhausted p holder bin l (r .lent)) c
+
 module _ (p : Params) (l : Lent) where
   abbrev t : Tables
   t = tablesIn l
 
   abbrev Ok : Call → Result → Type 0
-  Ok c r = r .reply .number ≢ 0 → Refused p l c r
+  Ok c r = r .reply .number ≢ 0 → Leaves p l c r
 
   abbrev Fine : Call → Plan → Type 0
   Fine c q = Ok c (resultFrom (finish p (q .tables) (q .events) (eventsHeap p (q .events) (l .heap)) (q .end)))
@@ -96,7 +103,7 @@ module _ (p : Params) (l : Lent) where
 
     plain : (c : Call) (r : Refusal) → refusalNumber r ≢ 9 → Fine c (refuses t r)
     unfolding finish refusalNumber eventsHeap
-    plain c r g z = record { values = refl; nothing = λ b. back; exhausted = λ q. absurd (g q) }
+    plain c r g z = record { values = λ b. refl; nothing = λ b. back; exhausted = λ q. absurd (g q) }
 
   done : (c : Call) (u : Tables) (vs : List ℕ) → Fine c (changes u vs)
   unfolding finish
@@ -124,7 +131,7 @@ module _ (p : Params) (l : Lent) (B : Bounds p) (H : GoodTables p (l .marks) (vi
   none-found g e G =
       rw (eq-eqb _ _ e)
       (λ z. record {
-        values = refl;
+        values = λ b. absurd (b refl);
         nothing = λ b. absurd (b refl);
         exhausted = λ q.
             exhausted-lent p h bin l (g .words) (eventsHeap p (g .events) (l .heap)) (G .good .good .sized) (G .idle)
@@ -211,15 +218,21 @@ module _ (p : Params) (l : Lent) (f : fits p l ≡ true) where
     plan-fine c =
         plan-cases (Fine p l c) p (tablesIn l) c (λ r b. plain p l (parts .words) c r (b .no-search)) (λ e. passed-fine c e)
 
-pub refusal-keeps : RefusalKeeps
-unfolding RefusalKeeps call step plan refusalNumber
-refusal-keeps p l c =
+leaves : (p : Params) (l : Lent) (c : Call) → Ok p l c (call p l c)
+unfolding call step plan refusalNumber
+leaves p l c =
     if-cases (Ok p l c) (fits p l)
     (λ f. if-cases (Ok p l c) (classesFit p)
     (λ k. if-cases (Fine p l c) (soundOn p (tablesIn l) (l .heap)) (λ s. plan-fine p l f k s c)
     (λ s. plain p l (parts p l f .words) c BadTables (λ q. omega (arith, q))))
-    (λ k z. record { values = refl; nothing = λ b. refl; exhausted = λ q. absurd (omega (arith, q)) }))
-    (λ f z. record { values = refl; nothing = λ b. refl; exhausted = λ q. absurd (omega (arith, q)) })
+    (λ k z. record { values = λ b. refl; nothing = λ b. refl; exhausted = λ q. absurd (omega (arith, q)) }))
+    (λ f z. record { values = λ b. refl; nothing = λ b. refl; exhausted = λ q. absurd (omega (arith, q)) })
+
+pub refusal-keeps : RefusalKeeps
+unfolding RefusalKeeps refusalNumber
+refusal-keeps p l c z =
+    let k : Leaves p l c (call p l c) = leaves p l c z in
+    record { values = k .values; told = exhausted-tells p l c; nothing = k .nothing; exhausted = k .exhausted }
 
 pub set-up-keeps : SetUpKeeps
 unfolding SetUpKeeps setUp

@@ -18,7 +18,7 @@ use Rattle.model.specs.Params.{start, blockAt, listOf, listWord, localSets, aba
 use Rattle.model.specs.Tables.{Words, tablesOf, setFirst, setLast, setNext, setPrev, setFree, setList, setTls, setCells}
 use Rattle.model.specs.BlockList.{push, pop, popHead, Popped}
 use Rattle.model.specs.Block.{cellCount, cellsDown, linkAll, keeps, sweepChain, sweptWords}
-use Rattle.model.specs.Events.{Event, eventHeap, eventsHeap}
+use Rattle.model.specs.Events.{Event, spent, eventHeap, eventsHeap}
 use Rattle.model.specs.FreeListAllocator.{sweepOf}
 use Rattle.model.specs.Refusals.{OnList, searches, HadNone, Unmoved, PassedOver}
 use Rattle.laws.proofs.Base.{if-cases, not-both, or-left, or-right}
@@ -31,7 +31,7 @@ use Rattle.laws.proofs.Frame.{LinksOnly, links-refl, push-links, pop-links, pus
 use Rattle.soundness.proofs.Lists.{Lists, On, Same, put, Links, on-list, lists-same, first-none, first-some}
 use Rattle.soundness.proofs.Moves.{push-stays, pop-words, pop-stays, pop-lists}
 use Rattle.soundness.proofs.GoodTables.{GoodTables}
-use Rattle.soundness.proofs.Chains.{heap-behind}
+use Rattle.soundness.proofs.Chains.{heap-behind, heap-spent}
 use Rattle.soundness.proofs.SoundLists.{Fit}
 use Rattle.soundness.proofs.Alloc.{Tweaked, tweak-free, tweak-tls, my-available, my-unswept, my-consumed, SearchedSoFar, steps}
 
@@ -309,12 +309,13 @@ module _ (p : Params) (B : Bounds p) (st ms : List ℕ) (h bin : ℕ) (lo : 1 �
     -- where its words are v, it has no cell, and it goes to consumed
     goes-full : (v : Words) → Tweaked y u₁ v → lengths v ≡ lengths u₁ → v .size ≡ w .size → (es′ : List Event)
         → Good (push p (consumed (localSets h) bin) y v) → eventsHeap p es′ heap ≡ heap → HadNone p ms h bin w₀ y
-        → getD (v .free) y 0 ≡ 0 → getD (v .tls) y 0 ≡ h → getD (v .cells) y 0 ≡ 0 → Going es′ (push p (consumed (localSets h) bin) y v)
+        → getD (v .free) y 0 ≡ 0 → getD (v .tls) y 0 ≡ h → getD (v .cells) y 0 ≡ 0
+        → Going (es′ ++ (spent y ∷ [])) (push p (consumed (localSets h) bin) y v)
     goes-full v T e z es′ S i n ef et ec =
         record {
           good = S;
           quiet = quiet-moved h bin w₀ l c y w (push p c y v) (G .quiet) (R .listed) (searches-consumed h bin) (P .size ∙ z) M;
-          idle = i;
+          idle = heap-spent p es′ y heap ∙ i;
           blocks = λ b. at b (ℕ-discrete b y);
         }
       where

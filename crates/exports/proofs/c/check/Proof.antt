@@ -33,20 +33,23 @@ params-requires c κs = search needs
 check-classes-requires : tie.Need-check-classes-requires
 check-classes-requires c κs = search needs
 
---@ returns-4 c = check-refused (@args .g) (@args .rows .now) (@args .answer .now) (sym (@flags-ok .ensures) ∙ not-false _ (@if1 .left)) (sym (@rows-ok .ensures) ∙ not-false _ (@if2 .left)) (@if3 .left) (@check-classes .ensures ∙ ap (λ (p : Params). saidOf (checkClasses p)) (@params .ensures)) refl (@if4 .taken)
+tells-requires : tie.Need-tells-requires
+tells-requires c κs = search needs
+
+--@ returns-4 c = check-refused (@args .g) (@args .rows .now) (@args .answer .now) (sym (@flags-ok .ensures) ∙ not-false _ (@if1 .left)) (sym (@rows-ok .ensures) ∙ not-false _ (@if2 .left)) (@if3 .left) (@check-classes .ensures ∙ ap (λ (p : Params). saidOf (checkClasses p)) (@params .ensures)) refl (sym (@tells .ensures) ∙ not-true _ (@if4 .taken))
 returns-4 : tie.Need-returns-4
-returns-4 c = check-refused (c .before .before .before .before .before .before .before .before .before .before .args .g) (c .before .before .before .before .before .before .before .before .before .before .args .rows .now) (c .before .before .before .before .before .before .before .before .before .before .args .answer .now) (sym (c .before .before .before .before .before .before .before .flags-ok .ensures) ∙ not-false _ (c .before .before .before .before .before .before .if1 .left)) (sym (c .before .before .before .before .before .rows-ok .ensures) ∙ not-false _ (c .before .before .before .before .if2 .left)) (c .before .before .before .if3 .left) (c .before .check-classes .ensures ∙ ap (λ (p : Params). saidOf (checkClasses p)) (c .before .before .params .ensures)) refl (c .if4 .taken)
+returns-4 c = check-refused (c .before .before .before .before .before .before .before .before .before .before .before .args .g) (c .before .before .before .before .before .before .before .before .before .before .before .args .rows .now) (c .before .before .before .before .before .before .before .before .before .before .before .args .answer .now) (sym (c .before .before .before .before .before .before .before .before .flags-ok .ensures) ∙ not-false _ (c .before .before .before .before .before .before .before .if1 .left)) (sym (c .before .before .before .before .before .before .rows-ok .ensures) ∙ not-false _ (c .before .before .before .before .before .if2 .left)) (c .before .before .before .before .if3 .left) (c .before .before .check-classes .ensures ∙ ap (λ (p : Params). saidOf (checkClasses p)) (c .before .before .before .params .ensures)) refl (sym (c .before .tells .ensures) ∙ not-true _ (c .if4 .taken))
 
 --@ put-answer-requires c κs = @if3 .left
 put-answer-requires : tie.Need-put-answer-requires
-put-answer-requires c κs = c .before .before .before .before .if3 .left
+put-answer-requires c κs = c .before .before .before .before .before .if3 .left
 
 same-length : tie.Need-same-length
 same-length c = search needs
 
---@ returns-5 c = check-answered (@args .g) (@args .rows .now) (@args .answer .now) (sym (@flags-ok .ensures) ∙ not-false _ (@if1 .left)) (sym (@rows-ok .ensures) ∙ not-false _ (@if2 .left)) (@if3 .left) (@check-classes .ensures ∙ ap (λ (p : Params). saidOf (checkClasses p)) (@params .ensures)) refl (@if4 .left) (@put-answer .ensures)
+--@ returns-5 c = check-answered (@args .g) (@args .rows .now) (@args .answer .now) (sym (@flags-ok .ensures) ∙ not-false _ (@if1 .left)) (sym (@rows-ok .ensures) ∙ not-false _ (@if2 .left)) (@if3 .left) (@check-classes .ensures ∙ ap (λ (p : Params). saidOf (checkClasses p)) (@params .ensures)) refl (sym (@tells .ensures) ∙ not-false _ (@if4 .left)) (@put-answer .ensures)
 returns-5 : tie.Need-returns-5
-returns-5 c = check-answered (c .before .before .before .before .before .before .before .before .before .before .before .before .before .before .args .g) (c .before .before .before .before .before .before .before .before .before .before .before .before .before .before .args .rows .now) (c .before .before .before .before .before .before .before .before .before .before .before .before .before .before .args .answer .now) (sym (c .before .before .before .before .before .before .before .before .before .before .before .flags-ok .ensures) ∙ not-false _ (c .before .before .before .before .before .before .before .before .before .before .if1 .left)) (sym (c .before .before .before .before .before .before .before .before .before .rows-ok .ensures) ∙ not-false _ (c .before .before .before .before .before .before .before .before .if2 .left)) (c .before .before .before .before .before .before .before .if3 .left) (c .before .before .before .before .before .check-classes .ensures ∙ ap (λ (p : Params). saidOf (checkClasses p)) (c .before .before .before .before .before .before .params .ensures)) refl (c .before .before .before .before .if4 .left) (c .before .before .put-answer .ensures)
+returns-5 c = check-answered (c .before .before .before .before .before .before .before .before .before .before .before .before .before .before .before .args .g) (c .before .before .before .before .before .before .before .before .before .before .before .before .before .before .before .args .rows .now) (c .before .before .before .before .before .before .before .before .before .before .before .before .before .before .before .args .answer .now) (sym (c .before .before .before .before .before .before .before .before .before .before .before .before .flags-ok .ensures) ∙ not-false _ (c .before .before .before .before .before .before .before .before .before .before .before .if1 .left)) (sym (c .before .before .before .before .before .before .before .before .before .before .rows-ok .ensures) ∙ not-false _ (c .before .before .before .before .before .before .before .before .before .if2 .left)) (c .before .before .before .before .before .before .before .before .if3 .left) (c .before .before .before .before .before .before .check-classes .ensures ∙ ap (λ (p : Params). saidOf (checkClasses p)) (c .before .before .before .before .before .before .before .params .ensures)) refl (sym (c .before .before .before .before .before .tells .ensures) ∙ not-false _ (c .before .before .before .before .if4 .left)) (c .before .before .put-answer .ensures)
 
 pub check-spec : {M : Type 1} → statement M
 check-spec =
@@ -59,6 +62,7 @@ check-spec =
     returns-3
     params-requires
     check-classes-requires
+    tells-requires
     returns-4
     put-answer-requires
     same-length

@@ -1,17 +1,18 @@
 -- `free_list_allocator::find_free_block_with` skims as `findFreeBlockWith` does. The invariant: what remains from here is the whole.
 -- The measure is the count of blocks left.
-use mathlib.Core.Path.{_≡_, refl, _∙_}
+use mathlib.Core.Path.{_≡_, refl, ap, _∙_}
 use lib.ListN.{length}
 use borrow.Author.Count.{falls-down}
 use Rattle.model.specs.Tables.{view}
 use Rattle.model.specs.FreeListAllocator.{findFreeBlockWith}
+use Rattle.native_ms.specs.Closing.{skimmed}
 use Rattle.native_ms.proofs.Search.{skim-end, skim-none, skim-found, skim-step}
 use borrow.Author.Needs.{needs}
 use Rattle.native_ms.proofs.free_list_allocator.find_free_block_with.Statement.{statement}
 use Rattle.native_ms.proofs.free_list_allocator.find_free_block_with.Tie as tie
 
 abbrev Inv-loop : tie.InvT-loop
-Inv-loop p w₀ avail full k₀ w k = (length w ≡ length w₀) × (findFreeBlockWith k p avail full (view w) ≡ findFreeBlockWith k₀ p avail full (view w₀))
+Inv-loop p w₀ avail full k₀ w k = (length w ≡ length w₀) × (skimmed (findFreeBlockWith k p avail full (view w)) ≡ skimmed (findFreeBlockWith k₀ p avail full (view w₀)))
 
 abbrev μ-loop : tie.MeasureT-loop
 μ-loop p w₀ avail full k₀ w k = k
@@ -41,9 +42,9 @@ free-requires c κs = tt
 same-length-2 : tie.Need-same-length-2 Inv-loop μ-loop
 same-length-2 c = c .before .before .before .before .before .before .before .before .loop .inv .0
 
---@ returns-2 c = skim-found _ _ _ _ (@first .ensures) (@if1 .left) (@block-at .ensures) (@free .ensures) _ (@loop-test .taken) (@if2 .taken) ∙ @loop .inv .1
+--@ returns-2 c = ap skimmed (skim-found _ _ _ _ (@first .ensures) (@if1 .left) (@block-at .ensures) (@free .ensures) _ (@loop-test .taken) (@if2 .taken)) ∙ @loop .inv .1
 returns-2 : tie.Need-returns-2 Inv-loop μ-loop
-returns-2 c = skim-found _ _ _ _ (c .before .before .before .before .before .first .ensures) (c .before .before .before .before .if1 .left) (c .before .before .before .block-at .ensures) (c .before .free .ensures) _ (c .before .before .before .before .before .before .before .loop-test .taken) (c .if2 .taken) ∙ c .before .before .before .before .before .before .before .before .loop .inv .1
+returns-2 c = ap skimmed (skim-found _ _ _ _ (c .before .before .before .before .before .first .ensures) (c .before .before .before .before .if1 .left) (c .before .before .before .block-at .ensures) (c .before .free .ensures) _ (c .before .before .before .before .before .before .before .loop-test .taken) (c .if2 .taken)) ∙ c .before .before .before .before .before .before .before .before .loop .inv .1
 
 --@ pop-requires c κs = (@pre .0, @pre .1)
 pop-requires : tie.Need-pop-requires Inv-loop μ-loop
