@@ -1071,17 +1071,15 @@ def mutant_driver(mutant):
     def run(lines):
         signal.signal(signal.SIGVTALRM, no_end)
         signal.setitimer(signal.ITIMER_VIRTUAL, SECONDS)
-        driver, answers, trouble = ref.Driver(mutant), [], None
+        driver, told, trouble = ref.Driver(mutant), [], None
         try:
             for line in lines:
-                answer = driver.answer(line)
-                answers.append(answer if compare.is_answered(line) else '')
+                told.append(driver.answer(line))
         except Exception as error:
-            answers += [None] * (len(lines) - len(answers))
             trouble = repr(error)
         finally:
             signal.setitimer(signal.ITIMER_VIRTUAL, 0)
-        return compare.Run(answers, '', trouble)
+        return compare.Run(compare.by_line(lines, told), '', trouble)
     return run
 
 

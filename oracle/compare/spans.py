@@ -42,6 +42,11 @@ class Span:
         self.passed = set()
         self.twice = None           # a block that the reading saw pass twice
 
+    def part(self, lines, answers):
+        """Its lines, each with its answer."""
+        return list(zip(lines[self.start:self.end],
+                        answers[self.start:self.end]))
+
 
 class Spans:
     """The spans of one script, noted while the reading answers it."""
@@ -76,9 +81,8 @@ class Spans:
         """What breaks R-12 in these answers, or None."""
         for span in self.spans:
             end = len(lines) if span.end is None else span.end
-            part = list(zip(lines[span.start:end],
-                            answers[span.start:end]))
-            swept = sum(swept_of(line, answer) for line, answer in part)
+            part = span.part(lines, answers)
+            swept = sweeps_of(part)
             twice = passed_twice(part)
             if span.twice is not None:
                 twice = span.twice
@@ -91,11 +95,15 @@ class Spans:
                     span.start + 1, end, twice))
         return None
 
-    def count(self, counts):
+    def count(self, counts, lines, answers):
         """Numbers for the summary."""
         for span in self.spans:
+            swept = sweeps_of(span.part(lines, answers))
             counts['spans', 'eager' if span.eager else 'lazy'] += 1
             counts['spans', 'blocks that waited'] += span.waiting
+            counts['spans', 'sweeps'] += swept
+            counts['spans', 'sums at their ceiling'] += (
+                0 < swept == span.waiting)
             counts['spans', 'blocks that passed'] += len(span.passed)
 
 
@@ -103,8 +111,8 @@ def told(counts):
     """The numbers of `count`, taken out, as a line."""
     return 'spans between collections: ' + ', '.join(
         '%d %s' % (counts.pop(('spans', word), 0), word)
-        for word in ('lazy', 'eager', 'blocks that waited',
-                     'blocks that passed'))
+        for word in ('lazy', 'eager', 'blocks that waited', 'sweeps',
+                     'sums at their ceiling', 'blocks that passed'))
 
 
 def waiting(space):
@@ -124,6 +132,10 @@ def swept_of(line, answer):
     if words[:2] == ['refused', '9'] and len(words) == 3:
         return int(words[2])
     return 0
+
+
+def sweeps_of(part):
+    return sum(swept_of(line, answer) for line, answer in part)
 
 
 def passed_twice(part):
