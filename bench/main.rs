@@ -312,6 +312,42 @@ fn release(bench: &mut Bench, what: &str, f: Call) {
     line(what, "", bench.pair(&marked, what, 1, &|w| *w = marked(), port, rust));
 }
 
+/// A run of calls of one kind, beside as many calls of the Rust: what one takes. `before` makes anew what a run uses up.
+fn run_of(bench: &mut Bench, what: &str, goal: &str, f: Run, space: &dyn Fn() -> World, before: &dyn Fn(&mut World), calls: &[[usize; 6]], rust: Piece) {
+    let words = calls.concat();
+    let answers = std::cell::RefCell::new(vec![0; 5 * calls.len()]);
+    let port: Piece = &|w: &mut World, _| w.port.run(f, &words, &mut answers.borrow_mut());
+    let whole: Piece = &|w: &mut World, _| rust(w, calls.len());
+    let p = bench.pair(space, what, 1, before, port, whole);
+    line(what, goal, Pair(p.0 / calls.len() as f64, p.1 / calls.len() as f64));
+}
+
+/// Runs of allocs and of marks: beyond the check, and whole. In a whole one the check is made once, for all of them.
+fn runs(bench: &mut Bench) {
+    table(&["one call of a run", "goal", "ratio", "port", "Rust"]);
+    for blocks in [64, 1024] {
+        for (f, part) in [(bare_run as Run, "beyond the check"), (port_run as Run, "whole")] {
+            for cell in [8, 64] {
+                let count = 65536 / cell.max(16);
+                let calls = vec![[3, 1, cell, 8, 0, NOTHING]; count];
+                let rust: Piece = times!(|w, _| w.rust.alloc_fast(cell, 8, 0));
+                let what = format!("of {} allocs of {cell}, {} blocks, {part}", commas(count), commas(blocks));
+                run_of(bench, &what, "1.3", f, &|| used(16, blocks, cell), &|w| w.init(blocks - 1, cell), &calls, rust);
+            }
+            let place = |k: usize| lent::BASE + ((blocks - 1) << 16) + 8 * k;
+            let calls: Vec<[usize; 6]> = (0..2048).map(|k| [5, place(k), blocks - 1, 0, 0, 0]).collect();
+            let rust: Piece = times!(|w, k| w.rust.mark(place(k)));
+            let space = || {
+                let mut w = used(16, blocks, 8);
+                w.prepare();
+                w
+            };
+            let what = format!("of 2,048 marks, {} blocks, {part}", commas(blocks));
+            run_of(bench, &what, "0.5", f, &space, &|w| w.unmark(), &calls, rust);
+        }
+    }
+}
+
 /// 64 blocks full of cells of one size, one in so many of them marked, about to be released.
 fn full(cell: usize, every: usize, eager: bool) -> World {
     let mut w = World::sweeping(12, 64, true, 0, eager);
@@ -374,4 +410,5 @@ fn main() {
         collection(bench, cell, eager);
     }
     bins(bench);
+    runs(bench);
 }

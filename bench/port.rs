@@ -35,6 +35,7 @@ type B = *mut u8;
 type N = usize;
 pub type Reading = unsafe extern "C" fn(P, B, N, N, N) -> bool;
 pub type Call = unsafe extern "C" fn(P, W, N, B, N, B, N, B, N, N, N, N) -> N;
+pub type Run = unsafe extern "C" fn(P, W, N, B, N, B, N, B, N, *const usize, N, W, N) -> N;
 
 // A slice is its place and its length.
 extern "C" {
@@ -47,6 +48,8 @@ extern "C" {
     pub fn port_any_marked(p: P, m: B, mn: N, cell: N, s: N) -> bool;
     pub fn port_single_bits(p: P, m: B, mn: N, cell: N, s: N) -> bool;
     pub fn port_bin(size: N) -> N;
+    pub fn port_run(p: P, w: W, wn: N, st: B, stn: N, m: B, mn: N, h: B, hn: N, calls: *const usize, cn: N, answers: W, an: N) -> N;
+    pub fn bare_run(p: P, w: W, wn: N, st: B, stn: N, m: B, mn: N, h: B, hn: N, calls: *const usize, cn: N, answers: W, an: N) -> N;
 }
 
 macro_rules! calls {
@@ -89,5 +92,11 @@ impl Port {
     /// A public call, with its numbers.
     pub fn call(&mut self, f: Call, x: usize, y: usize, z: usize) -> usize {
         call!(self, f, (words states marks heap) x, y, z)
+    }
+    /// A run of calls; the sum of their first values.
+    pub fn run(&mut self, f: Run, calls: &[usize], answers: &mut [usize]) -> usize {
+        let done = call!(self, f, (words states marks heap) calls.as_ptr(), calls.len(), answers.as_mut_ptr(), answers.len());
+        assert_eq!(done, 1, "run");
+        answers.chunks_exact(5).fold(0, |sum, answer| sum.wrapping_add(answer[1]))
     }
 }

@@ -1,5 +1,5 @@
-/* A host to start from: an arena, two holders, a collection, and a listing of what is free; the same with eager sweeping; then an
- * office's class table.
+/* A host to start from: an arena, two holders, a collection, and a listing of what is free; then a run of calls, a collection with
+ * eager sweeping, and an office's class table.
  * Build and run: c/build.sh */
 #include <stdio.h>
 #include <stdlib.h>
@@ -127,6 +127,22 @@ static void list_free(struct native_ms_space *s)
     }
 }
 
+/* Five calls after one check: a call that is refused ends nothing. */
+static void run(struct native_ms_space *s)
+{
+    enum { COUNT = 5 };
+    uint8_t calls[NATIVE_MS_CALLS_LEN(COUNT)], answers[NATIVE_MS_ANSWERS_LEN(COUNT)];
+    native_ms_put_call(calls, 0, NATIVE_MS_RUN_BIND, 3, 0, 0, 0, 0);
+    native_ms_put_call(calls, 1, NATIVE_MS_RUN_ALLOC, 3, 64, 8, 0, NATIVE_MS_NO_OFFER);
+    native_ms_put_call(calls, 2, NATIVE_MS_RUN_ALLOC, 3, 64, 8, 0, some_block(s));
+    native_ms_put_call(calls, 3, 8, 0, 0, 0, 0, 0);
+    native_ms_put_call(calls, 4, NATIVE_MS_RUN_ALLOC, 3, 64, 8, 0, NATIVE_MS_NO_OFFER);
+    must("run", native_ms_run(NATIVE_MS_LENT_TO_RUN(s, answers, COUNT), calls, sizeof calls));
+    for (size_t i = 0; i < COUNT; i++)
+        printf("call %zu of the run: %s, %llu\n", i, native_ms_refusal(native_ms_run_number(answers, i)),
+               (unsigned long long)native_ms_run_word(answers, i, NATIVE_MS_ALLOC_ADDRESS));
+}
+
 /* Checks the rows of a space. */
 static void check(struct native_ms_space *s, const char *which)
 {
@@ -218,6 +234,7 @@ int main(void)
     uint64_t third = take(s, 2, 1000, 8);
     printf("holder 2 took over: block %llu\n", (unsigned long long)((third - s->base) / s->bytes));
     list_free(s);
+    run(s);
     close_space(s);
     eager();
     office();

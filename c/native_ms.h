@@ -1,4 +1,5 @@
-/* The native mark-sweep space for a C host: eight calls on numbers and lent byte slices, and a check of class tables.
+/* The native mark-sweep space for a C host: eight calls on numbers and lent byte slices, a run of many of them, and a check of class
+ * tables.
  *
  * Build target/staticlib/libexports.a by c/build.sh and link it. docs/HOST.md has the same in more words; c/example.c is a host
  * to start from. What each call does is proved of it for all inputs, as long as the host keeps to the duties below, which no
@@ -32,7 +33,7 @@ extern "C" {
 #endif
 
 /* This interface. It changes whenever a signature, a length or an answer does. */
-#define NATIVE_MS_VERSION 6
+#define NATIVE_MS_VERSION 7
 
 #if SIZE_MAX != UINT64_MAX
 #error "size_t must have 64 bits"
@@ -47,6 +48,9 @@ extern "C" {
 #define NATIVE_MS_ROWS_LEN(count) ((size_t)24 * (size_t)(count)) /* of 0 to NATIVE_MS_MOST_ROWS rows */
 #define NATIVE_MS_ANSWER_LEN ((size_t)32)
 #define NATIVE_MS_STACK ((size_t)131072)
+#define NATIVE_MS_CALLS_LEN(count) ((size_t)48 * (size_t)(count)) /* of a run of 0 to NATIVE_MS_MOST_CALLS calls */
+#define NATIVE_MS_ANSWERS_LEN(count) ((size_t)40 * (size_t)(count))
+#define NATIVE_MS_RUN_STACK ((size_t)262144)                      /* in place of NATIVE_MS_STACK, for a run */
 
 /* ---- parameters: base, a nonzero multiple of bytes, base + heap at most 2^47; bytes of a block, a power of two, 4096 to 65536;
  * blocks, 1 to 1024; min 4 or 8; max a power of two, min to 64; offsets and unified 0 or 1; lower (L), a multiple of 8, -64 to
@@ -82,6 +86,24 @@ size_t native_ms_shared_release(NATIVE_MS_PARAMS, NATIVE_MS_SLICES);            
  * least count of words that no row or more than one covers; or 2 and the first row that is unfit, counted from 1. */
 size_t native_ms_check_classes(NATIVE_MS_PARAMS, NATIVE_MS_ROWS, uint8_t *answer, size_t answer_len);
 
+/* A run: many calls, one after the other, after one check of all that is lent and one decoding of the tables. `calls` has six words
+ * for each: its kind, and its numbers in the order of the calls above; words that a kind doesn't need are not read. The answer slice has
+ * five words for each: 0 or its refusal's number, and the words of its answer, zeros after (9 has its swept count as the last). A
+ * refused call ends nothing, and an unknown kind is answered 11. What it leaves is what the single calls would. It returns 0; or 1 with
+ * nothing written, where a parameter's flag, the rows or a length is off: calls no whole calls or too many, the answer slice of another
+ * length than they ask for, more words than the largest space has. What else is off is told by each answer, as the single calls would
+ * tell it. */
+#define NATIVE_MS_MOST_CALLS 1024
+size_t native_ms_run(NATIVE_MS_PARAMS, NATIVE_MS_SLICES, const uint8_t *calls, size_t calls_len);
+
+#define NATIVE_MS_RUN_BIND 1    /* holder */
+#define NATIVE_MS_RUN_DESTROY 2 /* holder */
+#define NATIVE_MS_RUN_ALLOC 3   /* holder, size, align, offset, offer */
+#define NATIVE_MS_RUN_PREPARE 4
+#define NATIVE_MS_RUN_MARK 5    /* place, block */
+#define NATIVE_MS_RUN_RELEASE 6 /* holder */
+#define NATIVE_MS_RUN_SHARED_RELEASE 7
+
 /* alloc: an offer of this number offers no block */
 #define NATIVE_MS_NO_OFFER UINT64_MAX
 
@@ -113,12 +135,13 @@ size_t native_ms_check_classes(NATIVE_MS_PARAMS, NATIVE_MS_ROWS, uint8_t *answer
 #define NATIVE_MS_BAD_LINK 8    /* never occurs: a bad link is 2 since version 4 */
 #define NATIVE_MS_EXHAUSTED 9   /* no cell found and no offer */
 #define NATIVE_MS_BAD_OBJECT 10 /* no place of the heap, or not in that block */
+#define NATIVE_MS_BAD_LINE 11   /* in a run: a kind that there isn't */
 #define NATIVE_MS_BAD_CLASSES 12 /* rows that the check does not accept */
 
 static inline const char *native_ms_refusal(size_t number)
 {
     static const char *const words[] = {"Done",    "BadSetup", "BadTables", "WrongPhase", "BadHolder", "BadRequest", "TooBig",
-                                        "BadOffer", "BadLink", "Exhausted", "BadObject",  "?",         "BadClasses"};
+                                        "BadOffer", "BadLink", "Exhausted", "BadObject",  "BadLine",   "BadClasses"};
     return number <= 12 ? words[number] : "?";
 }
 
@@ -145,6 +168,26 @@ static inline void native_ms_put_row(uint8_t *rows, size_t number, uint64_t from
     native_ms_put_word(rows, 3 * (number - 1), from);
     native_ms_put_word(rows, 3 * (number - 1) + 1, to);
     native_ms_put_word(rows, 3 * (number - 1) + 2, cell);
+}
+
+/* The call with this index of a run. */
+static inline void native_ms_put_call(uint8_t *calls, size_t index, uint64_t kind, uint64_t a, uint64_t b, uint64_t c, uint64_t d,
+                                      uint64_t e)
+{
+    const uint64_t words[6] = {kind, a, b, c, d, e};
+    for (size_t i = 0; i < 6; i++)
+        native_ms_put_word(calls, 6 * index + i, words[i]);
+}
+
+/* Of the answer with this index of a run: its number (0 or a refusal), and a word of it. */
+static inline uint64_t native_ms_run_number(const uint8_t *answers, size_t index)
+{
+    return native_ms_word(answers, 5 * index);
+}
+
+static inline uint64_t native_ms_run_word(const uint8_t *answers, size_t index, size_t word)
+{
+    return native_ms_word(answers, 5 * index + 1 + word);
 }
 
 static inline uint8_t *native_ms_pointer(uint8_t *heap, uint64_t base, uint64_t address)
@@ -204,12 +247,16 @@ struct native_ms_space {
 /* Where no rows are given: no pointer may be null. */
 static const uint8_t native_ms_no_rows[1] = {0};
 
-#define NATIVE_MS_LENT(s) \
+#define NATIVE_MS_LENT(s) NATIVE_MS_LENT_BUT_ANSWER(s), (s)->answer, NATIVE_MS_ANSWER_LEN
+
+/* The same with another answer slice, which a run wants. */
+#define NATIVE_MS_LENT_TO_RUN(s, answers, count) NATIVE_MS_LENT_BUT_ANSWER(s), (answers), NATIVE_MS_ANSWERS_LEN(count)
+
+#define NATIVE_MS_LENT_BUT_ANSWER(s) \
     (s)->base, (s)->bytes, (s)->blocks, (s)->min, (s)->max, (s)->offsets, (s)->unified, (s)->lower, (s)->eager, \
     (s)->words, NATIVE_MS_WORDS_LEN((s)->blocks), (s)->states, NATIVE_MS_STATES_LEN((s)->blocks), \
     (s)->marks, NATIVE_MS_MARKS_LEN((s)->bytes, (s)->blocks), (s)->heap, NATIVE_MS_HEAP_LEN((s)->bytes, (s)->blocks), \
-    (s)->row_count == 0 ? native_ms_no_rows : (s)->rows, NATIVE_MS_ROWS_LEN((s)->row_count), \
-    (s)->answer, NATIVE_MS_ANSWER_LEN
+    (s)->row_count == 0 ? native_ms_no_rows : (s)->rows, NATIVE_MS_ROWS_LEN((s)->row_count)
 
 #ifdef __cplusplus
 }

@@ -5,7 +5,8 @@
 
 Hand-made scripts that the Rust can be asked, and random ones: the answers are the Rust's. Hand-made scripts with refusals or rows
 that the Rust does not know: the answers are those of the hand; where one is cut short by a `*`, the reference completes it. Random
-scripts with rows (02, R-5), and eager ones with damaged tables (02, R-8): the reference answers.
+scripts with rows (02, R-5), and eager ones with damaged tables (02, R-8): the reference answers. Some are told again with rows of calls
+behind `z` lines, in sections of calls alone.
 The oracle is target/oracle/oracle, or what ORACLE names.
 """
 import os
@@ -20,12 +21,14 @@ sys.path.insert(0, str(TOP / 'oracle/compare'))
 import generate  # noqa: E402
 import reference  # noqa: E402
 from check_hand import SCRIPTS, agrees  # noqa: E402
+from through_run import Rows  # noqa: E402
 
 # both sweeps, MIN 4 and 8, small and large blocks, L below and above 0, destroys in Marking, free cells asked in each phase
 SEEDS = (1, 7, 22, 27, 33, 36, 44, 51)
 # eager (02, R-8): both sweeps, holder and shared part last, several blocks recycled, on abandoned and in in-gc
 EAGER_SEEDS = (3, 8, 24)
 DAMAGED_SEEDS = (8,)    # eager, tables that R-8 alone calls bad, in each phase
+RUN_SEEDS = (2, 5)      # calls alone, in long rows behind `z` lines; the Rust, and the reference with refused calls
 CALLS = 60
 ARENA = 1 << 16         # small heaps, since each dump prints every mark byte
 LAST = 'no_newline'     # its last line has no newline, so it stands last
@@ -87,10 +90,10 @@ def without_rows(heading, lines, answers):
     return heading, lines, answers
 
 
-def drawn(seed, mode, rows, eager):
+def drawn(seed, mode, rows, eager, plain=0, calls=CALLS):
     """The lines of a random script, without one that is bad."""
-    maker = generate.Maker(seed, mode, ARENA, rows=rows, eager=eager).script(CALLS)
-    return [x for x, answer in zip(maker.lines, maker.answers) if answer != 'bad']
+    maker = generate.Maker(seed, mode, ARENA, rows=rows, eager=eager, plain=plain).script(calls)
+    return [x for x, answer in zip(maker.lines, maker.answers) if answer not in ('bad', None)]
 
 
 def rows_part(seed):
@@ -106,6 +109,13 @@ def damaged_part(seed):
 def random_part(seed, eager=0):
     lines = drawn(seed, 'rust', 0, eager)
     return '# the Rust: random%s, seed %d' % (' and eager' if eager else '', seed), lines, of_rust(lines)
+
+
+def run_parts(seed):
+    rust = Rows(drawn(seed, 'rust', 0, 0.5, 1, 4 * CALLS)).sent
+    refused = Rows(drawn(seed, 'all', 0, 0.5, 1, 4 * CALLS)).sent
+    return [('# the Rust: random calls in rows, seed %d' % seed, rust, of_rust(rust)),
+            ('# document 01: random calls in rows, refused ones too, seed %d' % seed, refused, of_document(refused))]
 
 
 def as_export(line, answer):
@@ -147,6 +157,7 @@ def main():
     hand = [part for part in map(hand_made, paths) if part]
     drawn_parts = [random_part(seed) for seed in SEEDS] + [random_part(seed, 1) for seed in EAGER_SEEDS]
     drawn_parts += [damaged_part(seed) for seed in DAMAGED_SEEDS] + [rows_part(seed) for seed in ROW_SEEDS]
+    drawn_parts += [part for seed in RUN_SEEDS for part in run_parts(seed)]
     parts = hand[:-1] + drawn_parts + through_parts() + hand[-1:]
     given, answers = [HEAD.rstrip('\n')], []
     for heading, lines, out in parts:

@@ -834,6 +834,22 @@ def bad_unless(fine):
         raise Bad
 
 
+# The lines of a `z`: how many words follow the letter.
+CALLS = {'b': 1, 'd': 1, 'a': 5, 'p': 0, 'm': 2, 'r': 1, 's': 0}
+MOST_CALLS = 64
+NO_OFFER = str(LIMIT - 1)   # of an alloc in a `z`, as in an export
+
+
+def is_call(line):
+    """Whether the line is one of the seven calls, of good form."""
+    kind, *words = line.split(' ')
+    if CALLS.get(kind) != len(words):
+        return False
+    if kind == 'a' and words[-1] == '-':
+        words.pop()
+    return all(NUMBER.match(w) and int(w) < LIMIT for w in words)
+
+
 class Driver:
     """Answers the lines of a script one by one."""
 
@@ -843,6 +859,8 @@ class Driver:
         self.classes = self.make_classes()
         self.space = None
         self.ended = False
+        self.due = 0            # how many lines a `z` still waits for
+        self.calls = []         # those that it has
         self.lines = {
             'b': (1, self.do_bind), 'd': (1, self.do_destroy),
             'p': (0, self.do_prepare), 'm': (2, self.do_mark),
@@ -854,20 +872,58 @@ class Driver:
             'w': (2, self.do_write),
             'F': (3, self.do_list_words), 'G': (3, self.do_phase_words),
             'D': (0, self.do_dump), 'H': (0, self.do_heap),
+            'z': (1, self.do_many),
         }
 
     def answer(self, line):
-        """The answer to a line: None if it is skipped or the run ended."""
-        if self.ended or line == '' or line.startswith('#'):
+        """The answer to a line: None if it is skipped, if the run ended, or
+        where a `z` waits for more lines; its last gives all its answers."""
+        if self.ended:
             return None
+        if self.due:
+            return self.gather(line)
+        if line == '' or line.startswith('#'):
+            return None
+        return self.answer_one(line)
+
+    def answer_one(self, line):
         try:
             return self.run(line.split(' '))
         except Refused as refusal:
             return ' '.join(map(str, ['refused', refusal.number,
                                       *refusal.counts]))
         except Bad:
-            self.ended = True
-            return 'bad'
+            return self.end()
+
+    def end(self):
+        self.ended = True
+        return 'bad'
+
+    def finish(self):
+        """The answer to the end of the input: None, or bad in a `z`."""
+        return self.end() if self.due and not self.ended else None
+
+    # `run`: many calls by one, each answered as the single call would be
+
+    def do_many(self, count):
+        bad_unless(1 <= count <= MOST_CALLS)
+        self.due, self.calls = count, []
+
+    def gather(self, line):
+        if not is_call(line):
+            return self.end()
+        self.calls.append(line)
+        self.due -= 1
+        return None if self.due else '\n'.join(['ok'] + self.make_calls())
+
+    def make_calls(self):
+        return [self.answer_one(self.as_single(line)) for line in self.calls]
+
+    def as_single(self, line):
+        kind, *words = line.split(' ')
+        if kind == 'a' and words[-1] == NO_OFFER:
+            words[-1] = '-'
+        return ' '.join([kind] + words)
 
     def run(self, words):
         kind, rest = words[0], words[1:]
@@ -1050,6 +1106,9 @@ def main(make_space=Space):
         answer = driver.answer(line)
         if answer is not None:
             sys.stdout.write(answer + '\n')
+    answer = driver.finish()
+    if answer is not None:
+        sys.stdout.write(answer + '\n')
 
 
 if __name__ == '__main__':

@@ -16,6 +16,7 @@ import compare
 import generate
 import reference as ref
 import spans
+import through_run
 
 HERE = Path(__file__).resolve()
 SEEDS = 40          # scripts tried for each mutant
@@ -798,6 +799,48 @@ SPAN_MUTANTS = {'sweeps-available': SweepsAvailable,
                 'sweeps-eagerly': SweepsEagerly}
 
 
+# ---- Drivers with a bent `run`: many calls by one
+
+class StopsAtRefusal(ref.Driver):
+    """Makes no call after one that is refused."""
+
+    def make_calls(self):
+        answers, stopped = [], None
+        for line in self.calls:
+            answers.append(stopped or self.answer_one(self.as_single(line)))
+            if answers[-1].startswith('refused'):
+                stopped = answers[-1]
+        return answers
+
+
+class LastNotMade(ref.Driver):
+    """Leaves the last call out, and answers as if it were the one before."""
+
+    def make_calls(self):
+        last = self.calls[:-1] and self.calls.pop()
+        answers = super().make_calls()
+        return answers + answers[-1:] if last else answers
+
+
+class Backwards(ref.Driver):
+    """Answers in the other order."""
+
+    def make_calls(self):
+        return super().make_calls()[::-1]
+
+
+class OfferTaken(ref.Driver):
+    """Takes 2^64 - 1 for a block."""
+
+    def as_single(self, line):
+        return line
+
+
+RUN_MUTANTS = {'stops-at-refusal': StopsAtRefusal,
+               'last-not-made': LastNotMade, 'backwards': Backwards,
+               'offer-taken': OfferTaken}
+
+
 # ---- Mutants of R-5 of document 02: rows
 
 def with_classes(bent):
@@ -1075,6 +1118,7 @@ def mutant_driver(mutant):
         try:
             for line in lines:
                 told.append(driver.answer(line))
+            told.append(driver.finish())
         except Exception as error:
             trouble = repr(error)
         finally:
@@ -1137,6 +1181,31 @@ def check_spans():
     return missed
 
 
+def differs_in_rows(maker, make_driver):
+    """Whether the driver, sent the script in rows of calls, shows."""
+    rows = through_run.Rows(maker.lines)
+    driver = make_driver()
+    told = [driver.answer(line) for line in rows.sent] + [driver.finish()]
+    out = '\n'.join(a for a in told if a is not None).split('\n')
+    answers, rest = compare.split_answers(maker.lines,
+                                          '\n'.join(rows.told(out)) + '\n')
+    runs = [compare.Run(maker.answers), compare.Run(answers, rest)]
+    return compare.first_difference(runs, maker.lines, 'all') is not None
+
+
+def check_runs():
+    """A bent `run`; and the true one, which does not differ."""
+    missed = list(RUN_MUTANTS)
+    for seed in range(1, 6):
+        maker = generate.Maker(seed, 'all', ARENA, plain=0.8)
+        maker.script(CALLS)
+        assert not differs_in_rows(maker, ref.Driver), seed
+        missed = [name for name in missed
+                  if not differs_in_rows(maker, RUN_MUTANTS[name])]
+    print('run: %d bent, %d missed' % (len(RUN_MUTANTS), len(missed)))
+    return missed
+
+
 def check_crash():
     """A driver that stops early is a difference."""
     lines = generate.Maker(1, 'rust').script(50).lines
@@ -1167,8 +1236,8 @@ def main():
     tried = list(options.names or MUTANTS)
     missed = check_mutants(tried)
     if not options.names:
-        tried += SPAN_MUTANTS
-        missed += check_spans()
+        tried += [*SPAN_MUTANTS, *RUN_MUTANTS]
+        missed += check_spans() + check_runs()
     print('%d mutants, %d missed %s' % (
         len(tried), len(missed), ' '.join(missed)))
     return 1 if missed else 0

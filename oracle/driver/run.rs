@@ -21,6 +21,7 @@ const BINS: usize = 49;
 const ABANDONED: usize = 24;
 const HOLDER_BITS: u64 = 0x1fe;
 const MOST_OFFSET: u64 = 65536;
+const MOST_CALLS: u64 = 64;
 
 /// The free counts of document 02's R-7, which the Rust does not keep. After a call each is the
 /// length of its block's chain, counted in the Rust's memory; a `T` line may put any number there.
@@ -44,6 +45,8 @@ struct Space {
 pub struct Run {
     options: Options,
     space: Option<Space>,
+    /// A `z` line that waits for calls: how many it takes, and those that it has.
+    group: Option<(u64, Vec<Line>)>,
 }
 
 /// `Err` is a panic of the Rust.
@@ -57,13 +60,30 @@ fn try_rust<R>(f: impl FnOnce() -> R) -> Result<R, ()> {
     catch_unwind(AssertUnwindSafe(f)).map_err(drop)
 }
 
+/// `None` is `bad`, and ends the run: false.
+fn tell(answer: Option<Answer>, out: &mut impl Write) -> io::Result<bool> {
+    match answer {
+        None => writeln!(out, "bad")?,
+        Some(ref answer) => writeln!(out, "{}", answer.as_deref().unwrap_or("panic"))?,
+    }
+    Ok(answer.is_some())
+}
+
 impl Run {
     pub fn new(options: Options) -> Run {
-        Run { options, space: None }
+        Run { options, space: None, group: None }
+    }
+
+    /// Whether the next line belongs to a `z`, whatever it is.
+    pub fn gathers(&self) -> bool {
+        self.group.is_some()
     }
 
     /// Answer one line; false ends the run.
     pub fn line(&mut self, line: &[u8], out: &mut impl Write) -> io::Result<bool> {
+        if let Some(group) = self.group.take() {
+            return self.gather(group, parse(line), out);
+        }
         let answer = match parse(line) {
             None => None,
             Some(Line::OffSetup) => {
@@ -71,21 +91,45 @@ impl Run {
                 Some(Ok("refused 1".into()))
             }
             Some(Line::Setup(params, seed)) => Some(self.setup(params, seed)),
+            Some(Line::Many(count)) if self.space.is_some() && (1..=MOST_CALLS).contains(&count) => {
+                self.group = Some((count, Vec::new()));
+                return Ok(true);
+            }
             Some(line) => match &mut self.space {
                 None => None,
                 Some(space) => space.answer(line, self.options),
             },
         };
-        match answer {
-            None => {
-                writeln!(out, "bad")?;
-                Ok(false)
-            }
-            Some(answer) => {
-                writeln!(out, "{}", answer.as_deref().unwrap_or("panic"))?;
-                Ok(true)
-            }
+        tell(answer, out)
+    }
+
+    /// A line of a `z`. With its last one all are made and answered, as single calls.
+    fn gather(
+        &mut self,
+        (count, mut calls): (u64, Vec<Line>),
+        line: Option<Line>,
+        out: &mut impl Write,
+    ) -> io::Result<bool> {
+        let Some(call) = line.and_then(Line::as_call) else { return tell(None, out) };
+        calls.push(call);
+        if (calls.len() as u64) < count {
+            self.group = Some((count, calls));
+            return Ok(true);
         }
+        writeln!(out, "ok")?;
+        let space = self.space.as_mut().expect("a `z` line is bad without one");
+        for call in calls {
+            tell(space.answer(call, self.options), out)?;
+        }
+        Ok(true)
+    }
+
+    /// The input ended: `bad` if a `z` still waits.
+    pub fn end(&mut self, out: &mut impl Write) -> io::Result<()> {
+        if self.group.take().is_some() {
+            tell(None, out)?;
+        }
+        Ok(())
     }
 
     fn setup(&mut self, params: Params, seed: u64) -> Answer {

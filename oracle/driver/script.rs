@@ -26,6 +26,23 @@ pub enum Line {
     Marks(Vec<u8>),
     Dump,
     Heap,
+    /// A `z` line: so many calls follow.
+    Many(u64),
+}
+
+impl Line {
+    /// The line as one of a `z`: a call, in which 2^64 - 1 offers none; else `None`.
+    pub fn as_call(self) -> Option<Line> {
+        match self {
+            Line::Alloc { holder, size, align, offset, offer } => {
+                let offer = offer.filter(|block| *block != u64::MAX);
+                Some(Line::Alloc { holder, size, align, offset, offer })
+            }
+            Line::Bind(_) | Line::Destroy(_) | Line::Prepare | Line::Mark(..) => Some(self),
+            Line::Release(_) | Line::Shared => Some(self),
+            _ => None,
+        }
+    }
 }
 
 /// The line's form, without regard to what is set up; `None` is `bad`.
@@ -69,6 +86,7 @@ fn plain(name: &str, n: &[u64]) -> Option<Line> {
         ("G", [phase, bound, released]) => Line::Phase(*phase, *bound, *released),
         ("D", []) => Line::Dump,
         ("H", []) => Line::Heap,
+        ("z", [count]) => Line::Many(*count),
         _ => return None,
     })
 }

@@ -2,3 +2,4 @@ pub mod Coding
 pub mod Export
 pub mod Small
 pub mod Run
+pub mod RowLaws

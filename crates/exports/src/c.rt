@@ -4,15 +4,14 @@ use crate::Entry;
 use crate::codec;
 use model::Ask;
 use model::BLOCK_TABLES;
-use model::Block;
 use model::Given;
 use model::HEAD_WORDS;
-use model::Offer;
 use model::Params;
 use model::ROWS;
 use model::Row;
 use model::Said;
 use native_ms::classes;
+use native_ms::run::offered;
 use words::bytes;
 ghost use mathlib.Core.Path.{_≡_};
 ghost use Prim.Native.Nat.{_*_, _<_};
@@ -24,26 +23,23 @@ ghost use Rattle.model.specs.Promise.{lend};
 ghost use Rattle.exports.specs.Entry.{innerOf};
 
 // BadSetup's number.
-const BAD_SETUP: usize = 1;
+pub(crate) const BAD_SETUP: usize = 1;
 
 // Exhausted's: the one refusal that tells a count.
 const EXHAUSTED: usize = 9;
 
 // A word's bytes, and the answer's.
-const WORD_BYTES: usize = 8;
+pub(crate) const WORD_BYTES: usize = 8;
 
 const ANSWER_BYTES: usize = 32;
 
 // A row: three words.
 const ROW_BYTES: usize = 24;
 
-// 2^64 − 1 offers none.
-const NO_OFFER: usize = 18446744073709551615;
-
 // The words of the largest tables: those of lists, phase and holders, and those of each block.
 const MOST_BLOCKS: usize = 1024;
 
-const MOST_WORDS: usize = HEAD_WORDS + BLOCK_TABLES * MOST_BLOCKS;
+pub(crate) const MOST_WORDS: usize = HEAD_WORDS + BLOCK_TABLES * MOST_BLOCKS;
 
 // Makes the inner call.
 fn enter(
@@ -136,7 +132,7 @@ fn run_whole(
     run(p, words, states, marks, heap, answer, &mut w[..n], inner)
 }
 
-fn flags_ok(g: Given) -> bool
+pub(crate) fn flags_ok(g: Given) -> bool
     ensures { λ r. ⌜ r ≡ flagsOk g ⌝ }
 {
     if 1 < g.offsets {
@@ -148,7 +144,7 @@ fn flags_ok(g: Given) -> bool
     g.eager <= 1
 }
 
-fn rows_ok(rows: &[u8]) -> bool
+pub(crate) fn rows_ok(rows: &[u8]) -> bool
     ensures { λ r. ⌜ r ≡ rowsOk (now (rows .entry)) ⌝ }
 {
     rows.len() % ROW_BYTES == 0
@@ -177,7 +173,7 @@ fn rows_of(rows: &[u8]) -> [Row; ROWS]
     table
 }
 
-fn params(g: Given, rows: &[u8]) -> Params
+pub(crate) fn params(g: Given, rows: &[u8]) -> Params
     ensures { λ r. ⌜ r ≡ paramsOf g (now (rows .entry)) ⌝ }
 {
     Params {
@@ -240,16 +236,6 @@ fn check(g: Given, rows: &[u8], answer: &mut [u8]) -> usize
     }
     put_answer(answer, said);
     number
-}
-
-// The offer that a number names.
-fn offered(n: usize) -> Offer
-    ensures { λ r. ⌜ r ≡ offeredBy n ⌝ }
-{
-    if n == NO_OFFER {
-        return Offer::Nothing;
-    }
-    Offer::Fresh(Block(n))
 }
 
 // Set-up. The answer: no numbers.

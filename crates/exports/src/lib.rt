@@ -4,6 +4,7 @@ use model::Ask;
 
 pub mod c;
 mod codec;
+pub mod row;
 
 // What an export enters: set-up, or any other call.
 pub(crate) enum Entry {

@@ -3,7 +3,7 @@ use Prim.Native.Nat.{ℕ, suc, _+_, _-_, _*_, _/_, _%_, _^_, _<_, _≤_}
 use mathlib.Core.Path.{_≡_, refl, sym, _∙_}
 use mathlib.Core.Bool.{Bool, true, false, _&&_}
 use mathlib.Core.Logic.{_⊎_, ⊎-elim}
-use native.Mathlib.Nat.{mul-comm, mod-lt, pow-le-pow-right, lt-of-lt-of-le}
+use native.Mathlib.Nat.{mul-comm, pow-le-pow-right, lt-of-lt-of-le}
 use native.Mathlib.Omega.{arith}
 use lib.Bits.{bitAnd, and-mask}
 use lib.Count.{leadingZeros, leading-top}
@@ -11,7 +11,7 @@ use lib.Dec.{ltb, leb, lit<}
 use borrow.Author.Tests.{ltb-true, ltb-false, leb-true, leb-false, eq-eqb, ne-eqb, lt-ltb, le-ltb, le-leb, lt-leb}
 use Rattle.model.specs.declared.Params.{Params}
 use Rattle.model.specs.Params.{powerOfTwo}
-use Rattle.model.specs.SizeClasses.{wordsIn, highestBit, binInOctave, miBin, raised, shift, alignAllocation}
+use Rattle.model.specs.SizeClasses.{wordsIn, highestBit, binInOctave, miBin, raised}
 use Rattle.model.specs.Calls.{goodRequest, tooBig}
 use Rattle.laws.proofs.Below.{test}
 
@@ -128,16 +128,3 @@ module _ (p : Params) (size align offset : ℕ) where
 
         pub request-align : {r : Bool} → r ≡ (powerOfTwo align && leb (p .min) align && leb align (p .max)) → r ≡ goodRequest p size align offset
         request-align q = q ∙ sym rest
-
--- ---- shifts
-
-module _ (region align offset : ℕ) (pos : 0 < align) where
-  pub rest-within : (region + offset) % align ≤ align
-  rest-within = omega (arith, mod-lt (region + offset) pos)
-
-  pub shift-within : (align - (region + offset) % align) % align < align
-  shift-within = mod-lt (align - (region + offset) % align) pos
-
-  pub shifted : region + (align - (region + offset) % align) % align ≡ alignAllocation region align offset
-  unfolding alignAllocation shift
-  shifted = refl

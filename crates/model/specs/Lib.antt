@@ -73,5 +73,7 @@ pub mod Census
 pub mod Text
 -- the calls as a C host sees them
 pub mod Exports
+-- a run of many calls after one check
+pub mod RunCalls
 -- 01's worked examples, as a table that computes
 pub mod Cases

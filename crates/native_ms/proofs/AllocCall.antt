@@ -1,6 +1,6 @@
 -- The tests of an alloc and its whole call: one law for each way out. Plain values alone stand here. Assumes nothing.
 use Prim.Native.Nat.{ℕ, _<_, _≤_}
-use mathlib.Core.Path.{_≡_, refl, sym, ap, _∙_}
+use mathlib.Core.Path.{_≡_, refl, sym, ap, _∙_, subst}
 use mathlib.Core.Bool.{Bool, true, false}
 use mathlib.Core.List.{List}
 use native.Mathlib.Omega.{arith}
@@ -9,6 +9,7 @@ use lib.ListN.{length, getD}
 use borrow.Author.Tests.{lt-ltb, le-ltb, ltb-true}
 use Rattle.model.specs.declared.Params.{Params}
 use Rattle.model.specs.declared.Block.{Block}
+use Rattle.model.specs.declared.AllocAnswer.{AllocAnswer}
 use Rattle.model.specs.declared.Offer.{Offer}
 use Rattle.model.specs.declared.Offer.the-variants.{Nothing, Fresh}
 use Rattle.model.specs.declared.Refusal.{Refusal}
@@ -21,6 +22,7 @@ use Rattle.model.specs.SizeClasses.{binOf, raised}
 use Rattle.model.specs.FreeListAllocator.{findBlock}
 use Rattle.model.specs.Sound.{stateOf}
 use Rattle.model.specs.Calls.{Reply, refused, goodRequest, tooBig, goodOffer, takePlan, andThen, requestTests, callTests, planPassed, carried, Call, alloc}
+use Rattle.model.specs.Answers.{allocReply}
 use Rattle.model.specs.Promise.{lend}
 use Rattle.laws.proofs.Params.{good-bounds}
 use Rattle.laws.proofs.Below.{and-left}
@@ -32,7 +34,9 @@ use Rattle.native_ms.specs.declared.allocator.Raised.the-variants as Rai
 use Rattle.native_ms.specs.declared.checks.Checked.{Checked}
 use Rattle.native_ms.specs.declared.checks.Checked.the-variants.{Bin, Refused}
 use Rattle.native_ms.specs.Raised.{raisedTo}
-use Rattle.native_ms.specs.Checked.{lentTests, binAfter}
+use Rattle.native_ms.specs.declared.free_list_allocator.Short.the-variants.{Ends, Searches}
+use Rattle.native_ms.specs.Checked.{lentTests, binAfter, Serves}
+use Rattle.native_ms.specs.ShortWay.{Shortly}
 use Rattle.native_ms.specs.Ending.{stepped, shown, Does, servedBy, Ready}
 use Rattle.native_ms.specs.Places.{Known, Offered}
 use Rattle.native_ms.proofs.Tests.{opened, open-known, step-refused, step-passed}
@@ -185,3 +189,53 @@ module _ (p : Params) (w st ms h : List ℕ) (holder size align offset : ℕ) (o
     call-served e =
         e ∙ ap (λ (n : ℕ). shown (carried p h (takePlan p align offset (findBlock p holder n offer T)))) (passing .1)
         ∙ step-passed p T h C (sym (passing .0)) refl
+
+-- ---- the short way
+
+ends-same : {a b : AllocAnswer} → Ends a ≡ Ends b → a ≡ b
+ends-same e = cc
+
+ends-not : {a : AllocAnswer} {bin : ℕ} → Ends a ≡ Searches bin → ⊥
+ends-not e = let z : _≡_ {A = ℕ} 0 1 = cc in absurd (omega arith)
+
+searches-same : {a b : ℕ} → Searches a ≡ Searches b → a ≡ b
+searches-same e = cc
+
+searches-not : {a : AllocAnswer} {bin : ℕ} → Searches bin ≡ Ends a → ⊥
+searches-not e = let z : _≡_ {A = ℕ} 0 1 = cc in absurd (omega arith)
+
+module _ (p : Params) (w st h : List ℕ) (c : Call) (n : ℕ) where
+  pub short-ended : {answer : AllocAnswer} {w₁ h₁ : List ℕ}
+      → ((ms : List ℕ) → Does p (tablesOf (view w) st ms) h c (allocReply answer) (tablesOf (view w₁) st ms) h₁)
+      → Shortly p w st h c n (Ends answer) w₁ h₁
+  short-ended {answer} {w₁} {h₁} d =
+      record {
+        ends =
+            λ a e ms.
+            subst (λ (x : AllocAnswer). Does p (tablesOf (view w) st ms) h c (allocReply x) (tablesOf (view w₁) st ms) h₁) (ends-same e) (d ms);
+        searches = λ bin e. absurd (ends-not e);
+        words = λ bin e. absurd (ends-not e);
+        heap = λ bin e. absurd (ends-not e);
+      }
+
+  pub short-searches : {bin : ℕ} → Serves p (view w) st c n bin → Shortly p w st h c n (Searches bin) w h
+  short-searches s =
+      record {
+        ends = λ a e. absurd (searches-not e);
+        searches = λ bin e. subst (λ (x : ℕ). Serves p (view w) st c n x) (searches-same e) s;
+        words = λ bin e. refl;
+        heap = λ bin e. refl;
+      }
+
+-- what the short way left is still what was lent
+pub short-passed : (p : Params) (st ms : List ℕ) {w w₁ h h₁ : List ℕ} → w₁ ≡ w → h₁ ≡ h → lentTests p (lend w st ms h) ≡ Test.Passed
+    → lentTests p (lend w₁ st ms h₁) ≡ Test.Passed
+short-passed p st ms ew eh e = rw (ew, eh) e
+
+pub short-serves : (p : Params) (st : List ℕ) (c : Call) (n bin : ℕ) {w w₁ : List ℕ} → w₁ ≡ w → Serves p (view w) st c n bin
+    → Serves p (view w₁) st c n bin
+short-serves p st c n bin ew s = subst (λ (x : List ℕ). Serves p (view x) st c n bin) (sym ew) s
+
+pub short-then : (p : Params) (st ms : List ℕ) (c : Call) {w w₁ h h₁ : List ℕ} {r : Reply} {t : Tables} {h₂ : List ℕ} → w₁ ≡ w → h₁ ≡ h
+    → Does p (tablesOf (view w₁) st ms) h₁ c r t h₂ → Does p (tablesOf (view w) st ms) h c r t h₂
+short-then p st ms c ew eh d = rw (← ew, ← eh) d

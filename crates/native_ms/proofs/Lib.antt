@@ -29,3 +29,4 @@ pub mod SpaceCalls
 pub mod AllocCall
 pub mod SoundLent
 pub mod FreeCountLaws
+pub mod RunLaws

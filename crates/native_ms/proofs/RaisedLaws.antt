@@ -1,15 +1,16 @@
 -- The raised size as the code answers it: what it is where a block holds it, and else that it is too big. And the shifted
 -- address: what it is in the ranges of a request, and else that it is off.
-use Prim.Native.Nat.{ℕ, _%_, _^_, _<_, _≤_}
+use Prim.Native.Nat.{ℕ, _+_, _-_, _%_, _^_, _<_, _≤_}
 use mathlib.Core.Path.{_≡_, refl, sym, _∙_}
 use mathlib.Core.Bool.{Bool, true, false}
 use mathlib.Core.Logic.{_⊎_, inl, inr}
+use native.Mathlib.Nat.{mod-lt, mod-self, mod-eq-of-lt}
 use native.Mathlib.Omega.{arith}
 use lib.Dec.{eqb}
 use borrow.Author.Tests.{le-leb, lt-leb, lt-ltb, le-ltb, eq-eqb, ne-eqb, eqb-true}
 use Rattle.model.specs.declared.Address.{Address}
 use Rattle.model.specs.declared.Params.{Params}
-use Rattle.model.specs.SizeClasses.{raised, alignAllocation}
+use Rattle.model.specs.SizeClasses.{raised, shift, alignAllocation}
 use Rattle.model.specs.Calls.{tooBig}
 use Rattle.laws.proofs.Requests.{not-too-big}
 use Rattle.native_ms.specs.declared.allocator.Raised.the-variants.{Fits, TooBig}
@@ -72,3 +73,24 @@ divides-no {y = y} e n z =
 
 pub divides-yes : {q : Bool} {y : ℕ} → q ≡ eqb y 0 → q ≡ true → y ≡ 0
 divides-yes {y = y} e t = eqb-true y 0 (sym e ∙ t)
+
+-- ---- the shift of an address: none where the align leaves no rest, else what the rest lacks
+
+module _ (region align offset : ℕ) (pos : 0 < align) {rest : ℕ} (e : rest ≡ (region + offset) % align) where
+  low : rest < align
+  low = omega (arith, e, mod-lt (region + offset) pos)
+
+  pub rest-within : rest ≤ align
+  rest-within = omega (arith, low)
+
+  pub shift-none : rest ≡ 0 → region ≡ alignAllocation region align offset
+  unfolding alignAllocation shift
+  shift-none z =
+      let whole : align - rest ≡ align = omega (arith, z) in
+      rw (← e, whole, mod-self align) (omega arith)
+
+  pub shift-up : (rest ≡ 0 → ⊥) → region + (align - rest) ≡ alignAllocation region align offset
+  unfolding alignAllocation shift
+  shift-up some =
+      let part : align - rest < align = omega (arith, some, pos, low) in
+      rw (← e, mod-eq-of-lt part)

@@ -11,8 +11,10 @@ pub mod SoundWalk
 pub mod Closing
 pub mod Ending
 pub mod Checked
+pub mod ShortWay
 pub mod Abandoned
 pub mod Released
 pub mod Eager
 pub mod SoundLent
 pub mod FewCells
+pub mod RunLoop

@@ -43,14 +43,40 @@ pub fn get_maximum_aligned_size(p: Params, size: usize, align: usize) -> Raised
     Raised::Fits(size + (align - min))
 }
 
+// What is left of a number by an align. Those of requests are powers of two, of which each has its own line: no division is made.
+fn rest_of(number: usize, align: usize) -> usize
+    requires { ⌜ 0 < align ⌝ }
+    ensures { λ r. ⌜ r ≡ number % align ⌝ }
+{
+    if align == 8 {
+        return number % 8;
+    }
+    if align == 16 {
+        return number % 16;
+    }
+    if align == 4 {
+        return number % 4;
+    }
+    if align == 32 {
+        return number % 32;
+    }
+    if align == 64 {
+        return number % 64;
+    }
+    number % align
+}
+
 // The least address from region on that is a multiple of align once offset is added.
 pub(crate) fn align_allocation(region: Address, align: usize, offset: usize) -> Address
     requires { ⌜ (0 < align) × (align ≤ 64) × (region .0 < 2 ^ 47) × (offset ≤ 65536) ⌝ }
     ensures { λ r. ⌜ r .0 ≡ alignAllocation (region .0) align offset ⌝ }
 {
     let from = region.0;
-    let shifted = from + (align - (from + offset) % align) % align;
-    Address(shifted)
+    let rest = rest_of(from + offset, align);
+    if rest == 0 {
+        return region;
+    }
+    Address(from + (align - rest))
 }
 
 // An address that `align_allocation` shifts, on any numbers: off where a request can't be so.

@@ -30,6 +30,7 @@ ghost use Rattle.model.specs.Params.{goodParams, wordCount, bins, lists, holder
 ghost use Rattle.model.specs.declared.Tested.the-variants.{Passed};
 ghost use Rattle.model.specs.Tables.{view, tablesOf};
 ghost use Rattle.model.specs.BlockList.{popped};
+ghost use Rattle.model.specs.SizeClasses.{binOf, raised};
 ghost use Rattle.model.specs.FreeListAllocator.{findFreeBlockWith, recycleLocalBlocks, acquireAbandoned, findBlock};
 ghost use Rattle.model.specs.Calls.{alloc, takeCell};
 ghost use Rattle.model.specs.Answers.{allocReply};
@@ -37,7 +38,8 @@ ghost use Rattle.native_ms.specs.Closing.{Filed, skimmed, reached, close
 ghost use Rattle.model.specs.Promise.{lend, Promised};
 ghost use Rattle.native_ms.specs.Abandoned.{nextOf, popAbandoned, TakenOver};
 ghost use Rattle.native_ms.specs.Ending.{ended, closedSearch, acquireGlobal, Freshened, stepped, shown, servedBy, Ready, Shiftable, Does};
-ghost use Rattle.native_ms.specs.Checked.{lentTests};
+ghost use Rattle.native_ms.specs.Checked.{lentTests, Serves};
+ghost use Rattle.native_ms.specs.ShortWay.{Passes, Shortly};
 ghost use Rattle.native_ms.specs.Places.{Known, Standing, Classed, Offered, HasFree, Takeable};
 
 // What a search gives: the start of a block with a free cell, 0 for none, and how many blocks were swept.
@@ -434,25 +436,61 @@ fn serve_head(
     }
 }
 
-// A cell of the block at the head of the holder's available list, where it has one: most allocs end here, and nothing is
-// searched. Else the whole search.
-fn serve(
+// What the short way of an alloc gives: the answer, or the bin of which a block is to be searched for.
+pub(crate) enum Short {
+    Ends(AllocAnswer),
+    Searches(usize),
+}
+
+// The tests of an alloc, and a cell of the block at the head of the holder's available list, where it has one: most allocs end
+// here. It stands apart from the search, so that it hands the parameters on to nothing that is called, and copies none of them.
+pub(crate) fn alloc_short(
+    p: Params,
+    words: &mut [usize],
+    states: &[u8],
+    heap: &mut [u8],
+    holder: usize,
+    request: Request,
+) -> Short
+    requires { ⌜ Passes p (now words) (now states) (now heap) ⌝ }
+    ensures { λ r. ⌜ Shortly p (now (words .entry)) (now (states .entry)) (now (heap .entry)) (alloc holder (request .size) (request .align) (request .offset) (request .offer)) (binOf p (raised p (request .size) (request .align))) r (now (words .exit)) (now (heap .exit)) ⌝ }
+{
+    match checks::check_alloc(p, words, states, holder, request) {
+        Checked::Refused(r) => Short::Ends(AllocAnswer::Refused(r)),
+        Checked::Bin(bin) => {
+            let owner = address::local_sets(holder);
+            let list = address::available(owner, bin);
+            let b = free_head(p, words, list);
+            if b.0 < p.blocks {
+                return Short::Ends(serve_head(p, words, heap, b, request.align, request.offset));
+            }
+            Short::Searches(bin)
+        }
+    }
+}
+
+// The rest of an alloc that the short way did not end: the search for a block of the bin.
+pub(crate) fn alloc_searched(
     p: Params,
     words: &mut [usize],
     states: &mut [u8],
     marks: &[u8],
     heap: &mut [u8],
-    wanted: Wanted,
+    holder: usize,
+    request: Request,
+    bin: usize,
 ) -> AllocAnswer
-    requires { ⌜ (Ready p (view (now words)) (wanted .holder) (wanted .bin) (wanted .align) (wanted .offset)) × (Known p (length (now words)) (length (now marks)) (length (now heap))) × Offered p (wanted .bin) (wanted .offer) ⌝ }
-    ensures { λ r. ⌜ stepped (allocReply r) (tablesOf (view (now (words .exit))) (now (states .exit)) (now (marks .entry))) (now (heap .exit)) ≡ servedBy p (wanted .align) (wanted .offset) (now (heap .entry)) (findBlock p (wanted .holder) (wanted .bin) (wanted .offer) (tablesOf (view (now (words .entry))) (now (states .entry)) (now (marks .entry)))) ⌝ }
+    requires { ⌜ (lentTests p (lend (now words) (now states) (now marks) (now heap)) ≡ Passed) × Serves p (view (now words)) (now states) (alloc holder (request .size) (request .align) (request .offset) (request .offer)) (binOf p (raised p (request .size) (request .align))) bin ⌝ }
+    ensures { λ r. ⌜ Does p (tablesOf (view (now (words .entry))) (now (states .entry)) (now (marks .entry))) (now (heap .entry)) (alloc holder (request .size) (request .align) (request .offset) (request .offer)) (allocReply r) (tablesOf (view (now (words .exit))) (now (states .exit)) (now (marks .entry))) (now (heap .exit)) ⌝ }
 {
-    let owner = address::local_sets(wanted.holder);
-    let list = address::available(owner, wanted.bin);
-    let b = free_head(p, words, list);
-    if b.0 < p.blocks {
-        return serve_head(p, words, heap, b, wanted.align, wanted.offset);
-    }
+    let offer = request.offer;
+    let wanted = Wanted {
+        holder,
+        bin,
+        align: request.align,
+        offset: request.offset,
+        offer,
+    };
     serve_searched(p, words, states, marks, heap, wanted)
 }
 
@@ -469,19 +507,9 @@ pub(crate) fn do_alloc(
     requires { ⌜ lentTests p (lend (now words) (now states) (now marks) (now heap)) ≡ Passed ⌝ }
     ensures { λ r. ⌜ Does p (tablesOf (view (now (words .entry))) (now (states .entry)) (now (marks .entry))) (now (heap .entry)) (alloc holder (request .size) (request .align) (request .offset) (request .offer)) (allocReply r) (tablesOf (view (now (words .exit))) (now (states .exit)) (now (marks .entry))) (now (heap .exit)) ⌝ }
 {
-    match checks::check_alloc(p, words, states, holder, request) {
-        Checked::Refused(r) => AllocAnswer::Refused(r),
-        Checked::Bin(bin) => {
-            let offer = request.offer;
-            let wanted = Wanted {
-                holder,
-                bin,
-                align: request.align,
-                offset: request.offset,
-                offer,
-            };
-            serve(p, words, states, marks, heap, wanted)
-        }
+    match alloc_short(p, words, states, heap, holder, request) {
+        Short::Ends(answer) => answer,
+        Short::Searches(bin) => alloc_searched(p, words, states, marks, heap, holder, request, bin),
     }
 }
 

@@ -15,5 +15,7 @@ pub mod free_list_allocator;
 pub mod global;
 mod memory;
 mod params;
+pub mod run;
+pub mod said;
 pub mod size_class;
 mod sound;

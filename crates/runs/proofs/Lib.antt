@@ -15,3 +15,4 @@ pub mod SpanLaws
 pub mod Ceiling
 pub mod Example
 pub mod Listings
+pub mod Rows

@@ -11,6 +11,7 @@ mod out;
 mod records;
 mod reply;
 mod rows;
+mod run_lines;
 mod setup;
 mod through;
 
@@ -462,6 +463,114 @@ fn after(h: Heard, l: Line) -> Run {
     }
 }
 
+// Runs calls on the parts of the arrays that the set-up gave.
+fn lent_run(
+    s: Space,
+    o: &mut [u8; out::OUT],
+    n: usize,
+    calls: &[usize],
+    answers: &mut [usize],
+    count: usize,
+    w: &mut [usize],
+    st: &mut [u8],
+    marks: &mut [u8],
+    heap: &mut [u8],
+) -> Told {
+    let p = s.p;
+    let k = setup::least(setup::word_count(p.blocks), w.len());
+    let b = setup::least(p.blocks, st.len());
+    let m = setup::least(s.heap / 64, marks.len());
+    let h = setup::least(s.heap, heap.len());
+    if run_lines::MOST_CALLS < count {
+        return tell(Reply::Bad, o, n);
+    }
+    let row = run_lines::CALL_WORDS * count;
+    let room = run_lines::ANSWER_WORDS * count;
+    if calls.len() < row {
+        return tell(Reply::Bad, o, n);
+    }
+    if answers.len() < room {
+        return tell(Reply::Bad, o, n);
+    }
+    let made = run_lines::make(
+        p,
+        &calls[..row],
+        &mut answers[..room],
+        &mut w[..k],
+        &mut st[..b],
+        &mut marks[..m],
+        &mut heap[..h],
+    );
+    if !made {
+        return tell(Reply::Bad, o, n);
+    }
+    Told {
+        on: true,
+        written: run_lines::tell_all(o, n, calls, answers, count),
+    }
+}
+
+// The same, on the arrays.
+fn run_row(
+    s: Space,
+    o: &mut [u8; out::OUT],
+    n: usize,
+    calls: &[usize; run_lines::ROW],
+    count: usize,
+    w: &mut [usize; setup::TABLES],
+    st: &mut [u8; setup::BLOCKS],
+    marks: &mut [u8; setup::MARKS],
+    heap: &mut [u8; setup::HEAP],
+) -> Told {
+    let mut answers = [0usize; run_lines::ROOM];
+    lent_run(s, o, n, calls, &mut answers, count, w, st, marks, heap)
+}
+
+// Whether a run may be asked for: a set-up stands, and calls aren't made through the exports.
+fn may_run(s: Space) -> bool {
+    if s.via != DIRECT {
+        return false;
+    }
+    s.stands
+}
+
+// The end of a script at a line of another form.
+fn ended_bad(r: Run, l: Line, o: &mut [u8; out::OUT]) -> Run {
+    let space = r.space;
+    let told = tell(Reply::Bad, o, r.written);
+    after(Heard { told, space }, l)
+}
+
+// `z n`: the next n lines are read, and then made by one call.
+fn run_turn(
+    r: Run,
+    l: Line,
+    input: &mut [u8; lines::INPUT_BYTES],
+    line: &mut [u8; lines::LINE_BYTES],
+    o: &mut [u8; out::OUT],
+    w: &mut [usize; setup::TABLES],
+    st: &mut [u8; setup::BLOCKS],
+    marks: &mut [u8; setup::MARKS],
+    heap: &mut [u8; setup::HEAP],
+) -> Run {
+    let count = run_lines::asked(line, l.len);
+    if count == 0 {
+        return ended_bad(r, l, o);
+    }
+    let space = r.space;
+    if !may_run(space) {
+        return ended_bad(r, l, o);
+    }
+    let mut calls = [0usize; run_lines::ROW];
+    let row = run_lines::read_calls(input, line, l, &mut calls, count);
+    let last = row.line;
+    if !row.ok {
+        return ended_bad(r, last, o);
+    }
+    let told = run_row(space, o, r.written, &calls, count, w, st, marks, heap);
+    after(Heard { told, space }, last)
+}
+
 fn turn(
     r: Run,
     input: &mut [u8; lines::INPUT_BYTES],
@@ -473,6 +582,9 @@ fn turn(
     heap: &mut [u8; setup::HEAP],
 ) -> Run {
     let l = lines::read(input, line, r.next);
+    if run_lines::is_run(line, l.len) {
+        return run_turn(r, l, input, line, o, w, st, marks, heap);
+    }
     let h = hear(r.space, line, l.len, o, r.written, w, st, marks, heap);
     after(h, l)
 }

@@ -1,11 +1,11 @@
 // Answer lines.
 use crate::out;
 use crate::setup;
-use calls::refusal_number;
 use model::Answer;
 use model::DestroyAnswer;
 use model::Refusal;
 use model::ReleaseAnswer;
+use native_ms::said::refusal_number;
 use words::bytes;
 
 // The longest slice that an export is lent for its answer.

@@ -4,6 +4,7 @@ use crate::NextLine;
 use crate::lines;
 use listing::space;
 use model::Refusal;
+use native_ms::said;
 ghost use mathlib.Core.Path.{_≡_};
 ghost use Prim.Native.Nat.{_≤_, _<_};
 ghost use lib.ListN.{length, take};
@@ -24,7 +25,7 @@ fn run_line(
     ensures { λ r. ⌜ LineRan (lend (now (words .entry)) (now (states .entry)) (now (marks .entry)) (now (heap .entry))) (lineFor line) r (lend (now (words .exit)) (now (states .exit)) (now (marks .exit)) (now (heap .exit))) ⌝ }
 {
     let Line::Asks(ask) = line else {
-        return calls::refusal_number(Refusal::BadLine);
+        return said::refusal_number(Refusal::BadLine);
     };
     let p = space::params();
     let s = calls::perform(p, words, states, marks, heap, ask);

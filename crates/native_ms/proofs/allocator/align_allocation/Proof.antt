@@ -1,28 +1,30 @@
 -- `allocator::align_allocation` meets its contract: nothing wraps in the ranges that alloc's checks give.
-use native.Mathlib.Omega.{arith}
-use Rattle.laws.proofs.Requests.{rest-within, shift-within, shifted}
+use Rattle.native_ms.proofs.RaisedLaws.{rest-within, shift-none, shift-up}
 use borrow.Author.Needs.{needs}
 use Rattle.native_ms.proofs.allocator.align_allocation.Statement.{statement}
 use Rattle.native_ms.proofs.allocator.align_allocation.Tie as tie
 
-add-shifted : tie.Need-add-shifted
-add-shifted c = search needs
+add-rest-of : tie.Need-add-rest-of
+add-rest-of c = search needs
 
-rem-shifted : tie.Need-rem-shifted
-rem-shifted c = search needs
+rest-of-requires : tie.Need-rest-of-requires
+rest-of-requires c κs = search needs
 
-sub-shifted : tie.Need-sub-shifted
-sub-shifted c = rest-within _ _ _ (c .pre .0)
-
-rem-shifted-2 : tie.Need-rem-shifted-2
-rem-shifted-2 c = search needs
-
-add-shifted-2 : tie.Need-add-shifted-2
-add-shifted-2 c = record { fits = omega (arith, shift-within (c .args .region .0) (c .args .align) (c .args .offset) (c .pre .0)) }
-
+--@ returns c = shift-none _ _ _ (@pre .0) (@rest-of .ensures) (@if1 .taken)
 returns : tie.Need-returns
-returns c = shifted _ _ _ (c .pre .0)
+returns c = shift-none _ _ _ (c .before .before .pre .0) (c .before .rest-of .ensures) (c .if1 .taken)
+
+--@ sub-t6 c = rest-within _ _ _ (@pre .0) (@rest-of .ensures)
+sub-t6 : tie.Need-sub-t6
+sub-t6 c = rest-within _ _ _ (c .before .before .pre .0) (c .before .rest-of .ensures)
+
+add-t8 : tie.Need-add-t8
+add-t8 c = search needs
+
+--@ returns-2 c = shift-up _ _ _ (@pre .0) (@rest-of .ensures) (@if1 .left)
+returns-2 : tie.Need-returns-2
+returns-2 c = shift-up _ _ _ (c .before .before .pre .0) (c .before .rest-of .ensures) (c .if1 .left)
 
 pub align-allocation-spec : {M : Type 1} → statement M
 align-allocation-spec =
-    tie.close (tie.spec add-shifted rem-shifted sub-shifted rem-shifted-2 add-shifted-2 returns)
+    tie.close (tie.spec add-rest-of rest-of-requires returns sub-t6 add-t8 returns-2)
