@@ -290,7 +290,7 @@ module _ (p : Params) (fine : good_params p ≡ true) (rows : classes_fit p ≡ 
           };
           states = length-replicate p.blocks 0;
           markings = length-replicate (heap_bytes p / 64) 0;
-          bytes = Mem.bytes-zeros (heap_bytes p / 64);
+          bytes = Mem.bytes_zeros (heap_bytes p / 64);
           words = λ b. ap (λ (x : ℕ). x % 8) (part_zeros (2958 + 3 * n) n k b);
           held = λ c m. absurd m;
           off = λ c m. absurd m;

@@ -255,7 +255,7 @@ module _ (p : Params) (B : Bounds p) where
           omega (arith, e, f, whole_to p B b n x lb first),
           λ k lo hi.
               let i : k - p.base ≡ (x - p.base) + (k - x) = omega (arith, e, lo, whole_from_lem p B b n x lb first) in
-              ap (λ (y : ℕ). get_or (zeroed p G x n) y 0) i ∙ Mem.zeroed-in p G x n (k - x) (omega (arith, e, f, lo, hi)),
+              ap (λ (y : ℕ). get_or (zeroed p G x n) y 0) i ∙ Mem.zeroed_in p G x n (k - x) (omega (arith, e, f, lo, hi)),
         )
 
     pub taken_ok : StepOk h bk c s (record { reply = s.reply; tables = s.tables; events = s.events; shadow = set (shadow_events es sh) b l })

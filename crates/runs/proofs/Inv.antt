@@ -325,7 +325,7 @@ module _ (p : Params) (B : Bounds p) where
     pub take_bytes : (c : Cell) → In c bk.cells → Mem.Same h (zeroed p h x (get_or size b 0)) (c.start - p.base) c.size
     take_bytes c m =
         let H = I.held c m in
-        Mem.same-zeroed p h x (get_or size b 0) (c.start - p.base) c.size
+        Mem.same_zeroed p h x (get_or size b 0) (c.start - p.base) c.size
         (cells_apart p B b (get_or size b 0) x (block_at p c.start) c.size c.start lb H.low top_whole H.whole
         (λ e. ap (λ (d : ℕ). get_or size d 0) e ∙ sym H.size) (not_held c m))
 

@@ -90,7 +90,7 @@ module _ (p : Params) (B : Bounds p) where
       (same : b ≡ b' → s ≡ s') (ne : x ≢ y) where
     pub cells_apart : Mem.Apart (x - p.base) s (y - p.base) s'
     cells_apart =
-        Mem.apart-places p.base x s y s' (whole_from_lem p B b s x lb X) (whole_from_lem p B b' s' y lb' Y)
+        Mem.apart_places p.base x s y s' (whole_from_lem p B b s x lb X) (whole_from_lem p B b' s' y lb' Y)
         (whole_apart p b s x b' s' y lb lb' X Y same ne)
 
     pub word_apart : Mem.Apart (x - p.base) 8 (y - p.base) s'
@@ -246,13 +246,13 @@ module _ (p : Params) (B : Bounds p) where
       -- other cells keep their first words
       zero_word : (d : ℕ) → d < p.blocks → (y : ℕ) → Whole p d (get_or size d 0) y → x ≢ y → Mem.Same h (zeroed p h x (get_or size b 0)) (y - p.base) 8
       zero_word d ld y Y ne =
-          Mem.same-zeroed p h x (get_or size b 0) (y - p.base) 8
+          Mem.same_zeroed p h x (get_or size b 0) (y - p.base) 8
           (wide_apart b (get_or size b 0) x d (get_or size d 0) y lb ld first_whole Y (λ e. ap (λ (z : ℕ). get_or size z 0) e) ne)
 
       pub take_chains : Chains p (set free b (head_d l 0)) size (set cells b (get_or cells b 0 - 1)) (zeroed p h x (get_or size b 0)) (set sh b l)
       unfolding Pairwise ChainStands
       take_chains =
-          restored_size H (head_d l 0) (get_or cells b 0 - 1) l (Mem.length-zeroed p h x (get_or size b 0))
+          restored_size H (head_d l 0) (get_or cells b 0 - 1) l (Mem.length_zeroed p h x (get_or size b 0))
           (record {
             stands = stands_frame p h H (head_d l 0) l (λ y m. zero_word b lb y (rest_cell y m) (rest_other y m))
                 (subst (λ (v : ℕ). ChainStands p h v l) first_link here.stands.1);
