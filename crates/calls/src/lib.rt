@@ -1,5 +1,7 @@
 // The one place that performs a call, and the check of a class table: what is asked by value, and what is said as numbers. The
 // exports, the census and every later program that makes calls go through here.
+#![tactic(auto)]
+
 ghost use Rattle.std.specs.Prelude.{◌≡◌};
 ghost use Rattle.model.specs.Calls.{call, set_up, check_classes};
 ghost use Rattle.model.specs.Answers.{classesReply, call_of, said_of, outcome, outcomeOf};

@@ -1,1 +1,2 @@
 // Laws of the machine's definitions, for every proof to cite. No code.
+#![tactic(auto)]

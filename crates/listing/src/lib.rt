@@ -1,5 +1,7 @@
 // The listing of the census program: from what stands after a trace's lines to the bytes that are printed. specs/ ties each
 // piece to the model's Census.
+#![tactic(auto)]
+
 ghost use Rattle.model.specs.Text.{Printed};
 ghost use Rattle.listing.specs.Listing.{listing_text};
 

@@ -1,18 +1,19 @@
 // The plain types of the port: what callers hand over and what calls answer. specs/ defines the machine over them.
+#![tactic(auto)]
 
 // An address of the heap; 0 means none.
-#[derive(Drop)]
+#[derive(Clone, Copy)]
 pub struct Address(pub usize);
 
 // A block, by its number from 0. Only base + number × block size makes it an address.
-#[derive(Drop)]
+#[derive(Clone, Copy)]
 pub struct Block(pub usize);
 
 // How many rows a class table may have (02, R-5).
 pub const ROWS: usize = 48;
 
 // A row of a customer's class table: counts of words from `from` to `to` get a cell of `cell` words (02, R-5).
-#[derive(Drop)]
+#[derive(Clone, Copy)]
 pub struct Row {
     pub from: usize,
     pub to: usize,
@@ -20,7 +21,7 @@ pub struct Row {
 }
 
 // The VM's constants and the place of the heap. Field names are single words, since specs/ reads them too.
-#[derive(Drop)]
+#[derive(Clone, Copy)]
 pub struct Params {
     // the address of the heap's first byte
     pub base: usize,
@@ -85,7 +86,7 @@ pub const CLASS_WORDS: [usize; BINS] = [
 ];
 
 // A walk along a block's free chain: the cell at which it stands, the block's cell size, and how many cells it may still meet.
-#[derive(Drop)]
+#[derive(Clone, Copy)]
 pub struct ChainWalk {
     pub block: Block,
     pub at: Address,
@@ -94,14 +95,14 @@ pub struct ChainWalk {
 }
 
 // What an alloc is offered in place of `Space::acquire`: nothing, or a block to use as new.
-#[derive(Drop)]
+#[derive(Clone, Copy)]
 pub enum Offer {
     Nothing,
     Fresh(Block),
 }
 
 // What is asked of the space after set-up: a call of the machine, by value.
-#[derive(Drop)]
+#[derive(Clone, Copy)]
 pub enum Ask {
     Bind(usize),
     Destroy(usize),
@@ -122,7 +123,7 @@ pub enum Ask {
 }
 
 // Document 01's refusals, in the order in which they are tested, and 02's BadClasses, tested right after BadSetup.
-#[derive(Drop)]
+#[derive(Clone, Copy)]
 pub enum Refusal {
     BadSetup,
     BadTables,
@@ -139,14 +140,14 @@ pub enum Refusal {
 }
 
 // How the tests of a call end: passed, or the first refusal.
-#[derive(Drop)]
+#[derive(Clone, Copy)]
 pub enum Tested {
     Passed,
     Refused(Refusal),
 }
 
 // The answer of set-up, bind and prepare.
-#[derive(Drop)]
+#[derive(Clone, Copy)]
 pub enum Answer {
     Done,
     Refused(Refusal),
@@ -154,7 +155,7 @@ pub enum Answer {
 
 // The answer of alloc: where the object may start, its cell's size, whether the offer was used, how many blocks were swept. Where no
 // cell was found and none offered, how many were swept (02, R-12); `Refused` holds the other refusals.
-#[derive(Drop)]
+#[derive(Clone, Copy)]
 pub enum AllocAnswer {
     Served {
         address: Address,
@@ -169,21 +170,21 @@ pub enum AllocAnswer {
 }
 
 // The answer of mark: whether the mark is new.
-#[derive(Drop)]
+#[derive(Clone, Copy)]
 pub enum MarkAnswer {
     Marked { new: bool },
     Refused(Refusal),
 }
 
 // The answer of destroy: how many blocks went over to abandoned.
-#[derive(Drop)]
+#[derive(Clone, Copy)]
 pub enum DestroyAnswer {
     Destroyed { blocks: usize },
     Refused(Refusal),
 }
 
 // The answer of release and shared release: how many blocks it made Unallocated, how many it merged from in-gc, and how many it swept.
-#[derive(Drop)]
+#[derive(Clone, Copy)]
 pub enum ReleaseAnswer {
     Released {
         blocks: usize,
@@ -194,21 +195,21 @@ pub enum ReleaseAnswer {
 }
 
 // The answer of pages used.
-#[derive(Drop)]
+#[derive(Clone, Copy)]
 pub enum PagesAnswer {
     Pages(usize),
     Refused(Refusal),
 }
 
 // The answer of the total free cells of a bin.
-#[derive(Drop)]
+#[derive(Clone, Copy)]
 pub enum CellsAnswer {
     Cells(usize),
     Refused(Refusal),
 }
 
 // The answer of the check of a class table: accepted, the least bad count of words, or the first unfit row (02, R-5).
-#[derive(Drop)]
+#[derive(Clone, Copy)]
 pub enum ClassesAnswer {
     Accepted,
     BadCount(usize),
@@ -217,7 +218,7 @@ pub enum ClassesAnswer {
 }
 
 // What any call says, as numbers: 0 or its refusal's number, and the answer's numbers in order, zeros after.
-#[derive(Drop)]
+#[derive(Clone, Copy)]
 pub struct Said {
     pub number: usize,
     pub first: usize,
@@ -227,7 +228,7 @@ pub struct Said {
 }
 
 // The parameters as a C host gives them: each as a number, a flag as 0 or 1.
-#[derive(Drop)]
+#[derive(Clone, Copy)]
 pub struct Given {
     pub base: usize,
     pub bytes: usize,

@@ -9,7 +9,7 @@ use crate::params;
 use model::{Address, Offer, Params};
 
 // What an alloc asks for.
-#[derive(Drop)]
+#[derive(Clone, Copy)]
 pub struct Request {
     pub size: usize,
     pub align: usize,
@@ -18,7 +18,7 @@ pub struct Request {
 }
 
 // A size raised by `get_maximum_aligned_size`, if a block can hold it. A sum past 2^64 is no size.
-#[derive(Drop)]
+#[derive(Clone, Copy)]
 pub enum Raised {
     Fits(usize),
     TooBig,
@@ -78,7 +78,7 @@ pub(crate) fn align_allocation(region: Address, align: usize, offset: usize) -> 
 }
 
 // An address that `align_allocation` shifts, on any numbers: off where a request can't be so.
-#[derive(Drop)]
+#[derive(Clone, Copy)]
 pub enum Shifted {
     At(Address),
     Off,

@@ -25,7 +25,7 @@ pub(crate) const UNMARKED: u8 = 255;
 pub(crate) const MARKED: u8 = 254;
 
 // The cell that was taken.
-#[derive(Drop)]
+#[derive(Clone, Copy)]
 pub(crate) struct Taken {
     pub at: Address,
     pub size: usize,

@@ -190,7 +190,7 @@ pub(crate) fn append(p: Params, w: &mut [usize], list: usize, other: usize) -> u
 }
 
 // How many blocks a walk passes, or that it meets a link that is no block start or does not end.
-#[derive(Drop)]
+#[derive(Clone, Copy)]
 pub(crate) enum Counted {
     Blocks(usize),
     Bad,
@@ -246,7 +246,7 @@ fn count_bins(p: Params, w: &[usize], firsts: &[usize]) -> Counted
 }
 
 // A list as a caller lends it: its first and last block by address, 0 for none, and its cell size.
-#[derive(Drop)]
+#[derive(Clone, Copy)]
 pub struct BlockList {
     pub first: Address,
     pub last: Address,
@@ -307,7 +307,7 @@ pub(crate) fn removed(
 }
 
 // The record that pop leaves, and where the block it took starts.
-#[derive(Drop)]
+#[derive(Clone, Copy)]
 struct PoppedRecord {
     list: BlockList,
     at: Address,
@@ -324,7 +324,7 @@ fn popped_record(given: BlockList, p: Params, w: &mut [usize], number: usize) ->
 }
 
 // The two records that append leaves, and how many blocks went over.
-#[derive(Drop)]
+#[derive(Clone, Copy)]
 struct AppendedRecords {
     list: BlockList,
     other: BlockList,

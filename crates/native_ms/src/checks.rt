@@ -18,7 +18,7 @@ use model::{Address, Block, Offer, Params, Refusal, Tested};
 use words::{states, tables};
 
 // The bin to serve a request from, or its refusal.
-#[derive(Drop)]
+#[derive(Clone, Copy)]
 pub(crate) enum Checked {
     Bin(usize),
     Refused(Refusal),

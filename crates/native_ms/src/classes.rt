@@ -24,7 +24,7 @@ pub fn no_rows() -> [Row; ROWS]
 }
 
 // How many rows a count of words falls in, and the next count, if any, that may fall in others.
-#[derive(Drop)]
+#[derive(Clone, Copy)]
 pub(crate) struct Stretch {
     pub rows: usize,
     pub next: usize,

@@ -27,7 +27,7 @@ use model::{ABANDONED, Address, AllocAnswer, Block, Offer, Params, Tested};
 use words::{states, tables};
 
 // What a search gives: the start of a block with a free cell, 0 for none, and how many blocks were swept.
-#[derive(Drop)]
+#[derive(Clone, Copy)]
 pub(crate) struct Found {
     pub at: Address,
     pub swept: usize,
@@ -35,7 +35,7 @@ pub(crate) struct Found {
 
 // What the whole search gives: the start of a block with a free cell, 0 for none, how many blocks were swept, and whether the
 // block is the offered one.
-#[derive(Drop)]
+#[derive(Clone, Copy)]
 pub(crate) struct Search {
     pub at: Address,
     pub swept: usize,
@@ -43,7 +43,7 @@ pub(crate) struct Search {
 }
 
 // What an alloc that passed its tests looks for.
-#[derive(Drop)]
+#[derive(Clone, Copy)]
 pub(crate) struct Wanted {
     pub holder: usize,
     pub bin: usize,
@@ -53,7 +53,7 @@ pub(crate) struct Wanted {
 }
 
 // The next abandoned block of a bin, 0 for none, and whether it waits for a sweep.
-#[derive(Drop)]
+#[derive(Clone, Copy)]
 pub(crate) struct Abandoned {
     pub at: Address,
     pub unswept: bool,
@@ -425,7 +425,7 @@ fn serve_head(
 }
 
 // What the short way of an alloc gives: the answer, or the bin of which a block is to be searched for.
-#[derive(Drop)]
+#[derive(Clone, Copy)]
 pub(crate) enum Short {
     Ends(AllocAnswer),
     Searches(usize),

@@ -3,6 +3,8 @@
 // p is the parameters, a an address, b a block, i a place in a list, v a value to store. global, block_list, memory and checks also name what
 // they are lent by a letter or two: w the table words, st the state bytes, m the marks, h the heap. All else is spelled out: a list is by
 // its number, a link is an address of a block.
+#![tactic(auto)]
+
 mod address;
 pub mod allocator;
 mod block;

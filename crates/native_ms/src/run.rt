@@ -26,7 +26,7 @@ const ANSWER_WORDS: usize = 5;
 const NO_OFFER: usize = 18446744073709551615;
 
 // What an entry of the list asks; `Bad` is of another kind.
-#[derive(Drop)]
+#[derive(Clone, Copy)]
 pub(crate) enum Entry {
     Asks(Ask),
     Bad,

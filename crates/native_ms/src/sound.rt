@@ -18,7 +18,7 @@ use model::Params;
 
 // What a walk gives: that something is not sound, or a number of blocks. Of lists, those that none of them meets; of blocks,
 // those that none may meet.
-#[derive(Drop)]
+#[derive(Clone, Copy)]
 pub(crate) enum Walked {
     Bad,
     Left(usize),

@@ -1,5 +1,7 @@
 // The bin of every count of words from 0 to 8,192: a size class by look-up, with no arithmetic. A constant array is built anew
 // wherever it is named, so a caller with many look-ups takes the table once (`bin_table`) and lends it (`bin_in`).
+#![tactic(auto)]
+
 ghost use Rattle.std.specs.Prelude.{◌≡◌};
 ghost use Rattle.model.specs.SizeClasses.{bin_of_words, bin_table};
 

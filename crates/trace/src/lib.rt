@@ -1,5 +1,7 @@
 // A trace: its lines read, and run on the native mark-sweep space; with its listing, the work of the census program. specs/
 // ties each piece to the model's Census.
+#![tactic(auto)]
+
 ghost use Rattle.std.specs.Prelude.{◌≤◌, length};
 ghost use Rattle.model.specs.Census.{census};
 ghost use Rattle.model.specs.Promise.{lend};
@@ -20,28 +22,28 @@ mod run;
 pub const LISTING_BYTES: usize = 20000;
 
 // What a word says: a number, or nothing that is one.
-#[derive(Drop)]
+#[derive(Clone, Copy)]
 pub enum Number {
     Value(usize),
     None,
 }
 
 // What a line asks; `Bad` is a line of another form.
-#[derive(Drop)]
+#[derive(Clone, Copy)]
 pub enum Line {
     Asks(Ask),
     Bad,
 }
 
 // What an alloc's last word says: an offer, or nothing that is one.
-#[derive(Drop)]
+#[derive(Clone, Copy)]
 pub enum Offered {
     Offer(Offer),
     None,
 }
 
 // What a trace holds at a place: a line, from its first byte to before its newline, with the place of the next; or no more.
-#[derive(Drop)]
+#[derive(Clone, Copy)]
 pub enum NextLine {
     Line { from: usize, to: usize, next: usize },
     End,

@@ -9,7 +9,7 @@ use crate::memory;
 use model::{Address, Params};
 
 // Cells one behind the other, from the heap offset `at` on.
-#[derive(Drop)]
+#[derive(Clone, Copy)]
 pub(crate) struct Span {
     pub at: usize,
     pub size: usize,
@@ -17,7 +17,7 @@ pub(crate) struct Span {
 }
 
 // The free head after some cells were linked, and how many were.
-#[derive(Drop)]
+#[derive(Clone, Copy)]
 pub(crate) struct Chain {
     pub head: usize,
     pub count: usize,
