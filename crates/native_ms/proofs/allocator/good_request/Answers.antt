@@ -1,0 +1,24 @@
+-- `allocator::good_request` meets its contract: the tests stand in the definition's order.
+use Rattle.laws.proofs.Requests.{request_size, request_offset, request_far, request_align}
+use borrow.Author.Tests.{not-true, not-false}
+use Rattle.native_ms.proofs.RaisedLaws.{divides_no, divides_yes}
+use borrow.Author.Rules.{rules}
+use Rattle.native_ms.proofs.allocator.good_request.Goals as goal
+
+pub min_divides-requires : goal.min_divides-requires
+min_divides-requires c = c.requires
+
+pub returns-then-not-min_divides : goal.returns-then-not-min_divides
+returns-then-not-min_divides c = request_size c.args.p c.args.size c.args.align c.args.offset (divides_no c.min_divides.ensures (not-true _ c.if-not-min_divides.true))
+
+pub min_divides-requires-2 : goal.min_divides-requires-2
+min_divides-requires-2 c = c.requires
+
+pub returns-then-not-min_divides-2 : goal.returns-then-not-min_divides-2
+returns-then-not-min_divides-2 c = request_offset c.args.p c.args.size c.args.align c.args.offset (divides_yes c.min_divides.ensures (not-false _ c.if-not-min_divides.false)) (divides_no c.min_divides-2.ensures (not-true _ c.if-not-min_divides-2.true))
+
+pub returns-then-offset-gt65536 : goal.returns-then-offset-gt65536
+returns-then-offset-gt65536 c = request_far c.args.p c.args.size c.args.align c.args.offset (divides_yes c.min_divides.ensures (not-false _ c.if-not-min_divides.false)) (divides_yes c.min_divides-2.ensures (not-false _ c.if-not-min_divides-2.false)) c.if-offset-gt65536.true
+
+pub returns : goal.returns
+returns c = request_align c.args.p c.args.size c.args.align c.args.offset (divides_yes c.min_divides.ensures (not-false _ c.if-not-min_divides.false)) (divides_yes c.min_divides-2.ensures (not-false _ c.if-not-min_divides-2.false)) c.if-offset-gt65536.false c.power_between.ensures

@@ -1,0 +1,10 @@
+-- `known::set_size` writes its block's word, and nothing where there is no such block. Assumes nothing.
+use borrow.Author.Rules.{rules}
+use Rattle.native_ms.proofs.BlockWords.{size_put, size_left}
+use Rattle.native_ms.proofs.block.known.set_size.Goals as goal
+
+pub returns-then-i-blocks : goal.returns-then-i-blocks
+returns-then-i-blocks c = size_put _ c.requires _ c.if-i-blocks.true _
+
+pub returns-else-i-blocks : goal.returns-else-i-blocks
+returns-else-i-blocks c = size_left _ c.requires _ _ c.if-i-blocks.false

@@ -1,0 +1,15 @@
+-- `block_list::count_more` adds one list as `counted_more` does.
+use native.Mathlib.Omega.{arith}
+use Rattle.laws.proofs.Params.{good_bounds}
+use Rattle.native_ms.proofs.CountedLaws.{count_known, counted_few, more_bad, more_no, more_yes}
+use borrow.Author.Rules.{rules}
+use Rattle.native_ms.proofs.block_list.count_more.Goals as goal
+
+pub returns-in-Bad : goal.returns-in-Bad
+returns-in-Bad c = more_bad _ _ _ c.enum_told-1.given.1
+
+pub returns-in-Bad-count_blocks : goal.returns-in-Bad-count_blocks
+returns-in-Bad-count_blocks c = more_no _ _ _ c.count-1.given.1 c.count_blocks.ensures c.enum_told-in-Bad-count_blocks-1.given.1
+
+pub returns-in-Blocks-count_blocks : goal.returns-in-Blocks-count_blocks
+returns-in-Blocks-count_blocks c = more_yes _ _ _ c.count-1.given.1 c.count_blocks.ensures c.more-1.given.1

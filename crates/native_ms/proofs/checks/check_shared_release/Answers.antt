@@ -1,0 +1,24 @@
+-- `checks::check_shared_release` makes the tests of `shared_tests`, in order. Assumes nothing.
+use borrow.Author.Tests.{not-true, not-false}
+use Rattle.model.specs.declared.Refusal.TheVariants.{WrongPhase}
+use Rattle.model.specs.Calls.{shared_tests}
+use Rattle.native_ms.proofs.Tests.{either_no, either_yes, neither}
+use Rattle.native_ms.proofs.checks.check_shared_release.Goals as goal
+
+pub may_release-requires : goal.may_release-requires
+may_release-requires c = tt
+
+pub returns-then-not-may_release : goal.returns-then-not-may_release
+unfolding shared_tests
+returns-then-not-may_release c = either_no WrongPhase _ c.may_release.ensures (not-true _ c.if-not-may_release.true)
+
+pub has_released-requires : goal.has_released-requires
+has_released-requires c = tt
+
+pub returns-then-has_released : goal.returns-then-has_released
+unfolding shared_tests
+returns-then-has_released c = either_yes WrongPhase c.may_release.ensures c.has_released.ensures c.if-has_released.true
+
+pub returns : goal.returns
+unfolding shared_tests
+returns c = neither WrongPhase c.may_release.ensures (not-false _ c.if-not-may_release.false) c.has_released.ensures c.if-has_released.false

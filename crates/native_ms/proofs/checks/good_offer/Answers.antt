@@ -1,0 +1,17 @@
+-- `checks::good_offer` tests the offer as `good_offer` does. One law for each way out.
+use Rattle.native_ms.proofs.AllocCall.{offer_none, offer_out, offer_in}
+use native.Mathlib.Omega.{arith}
+use borrow.Author.Rules.{rules}
+use Rattle.native_ms.proofs.checks.good_offer.Goals as goal
+
+pub state-state-requires : goal.state-state-requires
+state-state-requires c = omega (arith, c.requires, c.if-b-p.true)
+
+pub returns-then-b-p : goal.returns-then-b-p
+returns-then-b-p c = offer_in _ _ c.offer-1.given.1 c.if-b-p.true c.state-state.ensures
+
+pub returns-in-Nothing : goal.returns-in-Nothing
+returns-in-Nothing c = offer_none _ _ c.enum_told-1.given.1
+
+pub returns-else-b-p : goal.returns-else-b-p
+returns-else-b-p c = offer_out _ _ c.offer-1.given.1 c.if-b-p.false

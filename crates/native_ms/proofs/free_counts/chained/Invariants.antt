@@ -1,0 +1,17 @@
+-- `free_counts::chained` meets its contract: the blocks passed are chained, and those to come decide. Assumes nothing.
+use borrow.Author.Rules.{rules}
+use mathlib.Core.Path.{◌≡◌, refl, sym, ◌∙◌}
+use borrow.Author.Count.{falls_down}
+use borrow.Author.Tests.{not-true, not-false}
+use Rattle.model.specs.Base.{all_below}
+use Rattle.model.specs.Tables.{view}
+use Rattle.model.specs.Sound.{state_of, chained}
+use Rattle.laws.proofs.Below.{all_end, all_stop, all_step}
+use Rattle.native_ms.proofs.FreeCountLaws.{chained_at}
+use Rattle.native_ms.proofs.free_counts.chained.Given as goal
+
+abbrev pub invariant-loop-left : goal.invariant-loop-left
+invariant-loop-left l = all_below l.left (chained_at l.p (view l.words) l.states l.heap) ≡ all_below l.p.blocks (chained_at l.p (view l.words) l.states l.heap)
+
+abbrev pub decreases-loop-left : goal.decreases-loop-left
+decreases-loop-left l = l.left

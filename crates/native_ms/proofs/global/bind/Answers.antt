@@ -1,0 +1,18 @@
+-- `global::bind` promises `call`: refused by its first tests, or its step on sound tables. Assumes nothing.
+use Rattle.model.specs.Answers.{replyOf}
+use Rattle.native_ms.proofs.Tests.{lent_refused, lent_passed}
+use borrow.Author.Rules.{rules}
+use Rattle.native_ms.proofs.global.bind.Goals as goal
+
+pub check_lent-requires : goal.check_lent-requires
+check_lent-requires c = tt
+
+pub do_bind-requires : goal.do_bind-requires
+do_bind-requires c = tt
+
+pub returns-in-Refused : goal.returns-in-Refused
+unfolding replyOf
+returns-in-Refused c = lent_refused c.args.p _ _ _ _ _ c.check_lent.ensures c.r-1.given.1
+
+pub returns-in-Passed : goal.returns-in-Passed
+returns-in-Passed c = lent_passed c.args.p _ _ _ _ _ c.check_lent.ensures c.enum_told-1.given.1 c.do_bind.auto.0 (c.do_bind.ensures _ _ _ _)

@@ -1,0 +1,23 @@
+-- `global::do_bind` steps as `sound_step` does, refused or not. Assumes nothing.
+use Rattle.model.specs.Answers.{replyOf}
+use Rattle.laws.proofs.Tables.{put_bound_lem}
+use Rattle.native_ms.proofs.SpaceCalls.{bind_low, bind_done, bind_refused}
+use borrow.Author.Rules.{rules}
+use Rattle.native_ms.proofs.global.do_bind.Goals as goal
+
+pub check_bind-requires : goal.check_bind-requires
+check_bind-requires c = tt
+
+pub overflow_sub-holder : goal.overflow_sub-holder
+overflow_sub-holder c = bind_low _ _ c.check_bind.ensures c.enum_told-1.given.1
+
+pub set_bound-requires : goal.set_bound-requires
+set_bound-requires c = tt
+
+pub returns-in-Refused : goal.returns-in-Refused
+unfolding replyOf
+returns-in-Refused c = bind_refused _ _ c.check_bind.ensures c.r-1.given.1
+
+pub returns-in-Passed : goal.returns-in-Passed
+unfolding replyOf
+returns-in-Passed c = bind_done _ _ c.check_bind.ensures c.enum_told-1.given.1 (put_bound_lem _ _ _ c.set_bound.ensures)

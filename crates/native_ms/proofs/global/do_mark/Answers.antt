@@ -1,0 +1,27 @@
+-- `global::do_mark` steps as `sound_step` does, refused or not. Assumes nothing.
+use Rattle.model.specs.Answers.{markReply}
+use Rattle.model.specs.Base.{flag}
+use Rattle.native_ms.proofs.SpaceCalls.{mark_refused, mark_old, mark_new}
+use borrow.Author.Rules.{rules}
+use Rattle.native_ms.proofs.global.do_mark.Goals as goal
+
+pub check_mark-requires : goal.check_mark-requires
+check_mark-requires c = c.requires
+
+pub is_marked-requires : goal.is_marked-requires
+is_marked-requires c = c.requires
+
+pub returns-then-is_marked : goal.returns-then-is_marked
+unfolding markReply flag
+returns-then-is_marked c = mark_old _ _ _ _ _ _ c.check_mark.ensures c.enum_told-1.given.1 c.is_marked.ensures c.if-is_marked.true
+
+pub set_state-requires : goal.set_state-requires
+set_state-requires c = tt
+
+pub returns-in-Refused : goal.returns-in-Refused
+unfolding markReply
+returns-in-Refused c = mark_refused _ _ _ _ _ _ c.check_mark.ensures c.r-1.given.1
+
+pub returns-else-is_marked : goal.returns-else-is_marked
+unfolding markReply flag
+returns-else-is_marked c = mark_new _ _ _ _ _ _ c.check_mark.ensures c.enum_told-1.given.1 c.is_marked.ensures c.if-is_marked.false c.set_state.ensures c.set_mark.ensures

@@ -1,0 +1,26 @@
+-- `global::do_prepare` steps as `sound_step` does, refused or not. Assumes nothing.
+use Rattle.model.specs.Answers.{replyOf}
+use Rattle.laws.proofs.Tables.{put_phase_lem}
+use Rattle.native_ms.proofs.SpaceCalls.{prepare_done, prepare_refused}
+use borrow.Author.Rules.{rules}
+use Rattle.native_ms.proofs.global.do_prepare.Goals as goal
+
+pub check_phase-requires : goal.check_phase-requires
+check_phase-requires c = tt
+
+pub set_phase-requires : goal.set_phase-requires
+set_phase-requires c = tt
+
+pub unmark_blocks-requires : goal.unmark_blocks-requires
+unmark_blocks-requires c = tt
+
+pub clear_all-requires : goal.clear_all-requires
+clear_all-requires c = tt
+
+pub returns-in-Refused : goal.returns-in-Refused
+unfolding replyOf
+returns-in-Refused c = prepare_refused _ _ _ c.check_phase.ensures c.r-1.given.1
+
+pub returns-in-Passed : goal.returns-in-Passed
+unfolding replyOf
+returns-in-Passed c = prepare_done _ _ _ c.check_phase.ensures c.enum_told-1.given.1 (c.requires) (λ h. put_phase_lem _ _ h c.set_phase.ensures) c.unmark_blocks.ensures c.clear_all.ensures

@@ -1,0 +1,35 @@
+-- `eager::eagerly` is `eagerly`, its sweeps counted and made: nothing with the choice off, nothing before the last part. Assumes nothing.
+use native.Mathlib.Omega.{arith}
+use mathlib.Core.Path.{◌∙◌}
+use borrow.Author.Rules.{rules}
+use borrow.Author.Tests.{not-true, not-false}
+use Rattle.native_ms.proofs.Offsets.{words_known}
+use Rattle.native_ms.proofs.EagerLaws.{eager_off, eager_early, eager_last}
+use Rattle.native_ms.proofs.global.eager.eagerly.Goals as goal
+
+pub returns-then-not-p : goal.returns-then-not-p
+returns-then-not-p c = eager_off _ _ _ _ _ _ (not-true _ c.if-not-p.true)
+
+pub is_last-requires : goal.is_last-requires
+is_last-requires c = (omega (arith, words_known _ c.requires.0.count), c.requires.1)
+
+pub returns-then-not-is_last : goal.returns-then-not-is_last
+returns-then-not-is_last c = eager_early _ _ _ _ _ _ (not-false _ c.if-not-p.false) c.is_last.ensures (not-true _ c.if-not-is_last.true)
+
+pub sweep_all-swept-requires : goal.sweep_all-swept-requires
+sweep_all-swept-requires c = c.requires.0
+
+pub recycle_blocks-requires : goal.recycle_blocks-requires
+recycle_blocks-requires c = (c.requires.0.good, omega arith)
+
+pub recycle_blocks-requires-2 : goal.recycle_blocks-requires-2
+recycle_blocks-requires-2 c = (c.requires.0.good, omega arith)
+
+pub shape_of-w : goal.shape_of-w
+shape_of-w c = c.recycle_blocks-2.auto.1.0 ∙ c.recycle_blocks.auto.1.0 ∙ c.sweep_all-swept.auto.1.0
+
+pub shape_of-heap : goal.shape_of-heap
+shape_of-heap c = c.sweep_all-swept.auto.1.1.1.1.0
+
+pub returns : goal.returns
+returns c = eager_last _ _ _ _ _ _ (not-false _ c.if-not-p.false) c.is_last.ensures (not-false _ c.if-not-is_last.false) c.sweep_all-swept.ensures c.recycle_blocks.ensures c.recycle_blocks-2.ensures

@@ -1,0 +1,16 @@
+-- `global::left_unswept` meets its contract: the choice decides whether the list goes behind the other. Assumes nothing.
+use Rattle.native_ms.proofs.MovedLaws.{moves_words}
+use Rattle.native_ms.proofs.Releases.{waits_none, waits_append}
+use Rattle.native_ms.proofs.global.left_unswept.Goals as goal
+
+pub returns-then-p : goal.returns-then-p
+returns-then-p c = waits_none _ _ _ _ c.if-p.true
+
+pub append-requires : goal.append-requires
+append-requires c = c.requires
+
+pub shape_of-w : goal.shape_of-w
+shape_of-w c = c.append.auto.1.0
+
+pub returns : goal.returns
+returns c = waits_append _ _ _ _ c.if-p.false (moves_words _ _ _ _ c.append.ensures)

@@ -1,0 +1,19 @@
+-- `global::mark` promises `call`: refused by its first tests, or its step on sound tables. Assumes nothing.
+use Rattle.model.specs.Answers.{markReply}
+use Rattle.native_ms.proofs.Tests.{lent_refused, lent_passed, open_good}
+use mathlib.Core.Path.{refl, sym, ◌∙◌}
+use borrow.Author.Rules.{rules}
+use Rattle.native_ms.proofs.global.mark.Goals as goal
+
+pub check_lent-requires : goal.check_lent-requires
+check_lent-requires c = tt
+
+pub do_mark-requires : goal.do_mark-requires
+do_mark-requires c = open_good c.args.p _ _ _ _ (sym c.check_lent.ensures ∙ c.enum_told-1.given.1)
+
+pub returns-in-Refused : goal.returns-in-Refused
+unfolding markReply
+returns-in-Refused c = lent_refused c.args.p _ _ _ _ _ c.check_lent.ensures c.r-1.given.1
+
+pub returns-in-Passed : goal.returns-in-Passed
+returns-in-Passed c = lent_passed c.args.p _ _ _ _ _ c.check_lent.ensures c.enum_told-1.given.1 refl (c.do_mark.ensures _)

@@ -1,0 +1,16 @@
+-- `memory::put_bytes` meets its contract. The loop's invariant: what is left to write makes the whole. Leans on the laws of bytes; assumes nothing.
+use borrow.Author.Rules.{rules}
+use Prim.Native.Nat.{◌+◌, ◌≤◌}
+use mathlib.Core.Path.{◌≡◌, refl, ◌∙◌}
+use native.Mathlib.Omega.{arith}
+use lib.ListN.{length, length-set}
+use borrow.Author.Count.{falls_down}
+use Rattle.model.specs.Memory.{bytes_of, overwrite}
+use Rattle.laws.proofs.Memory.{bytes_of_round, bytes_of_end}
+use Rattle.native_ms.proofs.memory.put_bytes.Given as goal
+
+abbrev pub invariant-loop-more : goal.invariant-loop-more
+invariant-loop-more l = (length l.h ≡ length l.initial.h) × (l.at + l.more ≤ length l.initial.h) × (overwrite l.at (bytes_of l.more l.rest) l.h ≡ overwrite l.i (bytes_of l.n l.v) l.initial.h)
+
+abbrev pub decreases-loop-more : goal.decreases-loop-more
+decreases-loop-more l = l.more

@@ -1,0 +1,44 @@
+-- `run::entry_at` reads what six words ask: a law for each kind. Assumes nothing.
+use mathlib.Core.Path.{refl, ap, ◌∙◌}
+use mathlib.Core.Option.{some}
+use Prim.Native.Nat.{◌+◌}
+use lib.ListN.{get_or}
+use Rattle.model.specs.declared.Offer.{Offer}
+use Rattle.model.specs.Calls.{alloc}
+use Rattle.model.specs.Answers.{call_of}
+use Rattle.native_ms.specs.RunLoop.{entry_call}
+use Rattle.native_ms.proofs.RunLaws.{kind_is, kind_none}
+use borrow.Author.Rules.{rules}
+use Rattle.native_ms.proofs.run.entry_at.Goals as goal
+
+pub returns-in-1 : goal.returns-in-1
+unfolding entry_call call_of
+returns-in-1 c = kind_is c.args.calls.now c.args.i 1 c.in-1.keys1
+
+pub returns-in-2 : goal.returns-in-2
+unfolding entry_call call_of
+returns-in-2 c = kind_is c.args.calls.now c.args.i 2 c.in-2.keys2
+
+pub returns-in-3 : goal.returns-in-3
+unfolding entry_call call_of
+returns-in-3 c = ap (λ (offer : Offer). some (alloc (get_or c.args.calls.now (c.args.i + 1) 0) (get_or c.args.calls.now (c.args.i + 2) 0) (get_or c.args.calls.now (c.args.i + 3) 0) (get_or c.args.calls.now (c.args.i + 4) 0) offer)) c.offered.ensures ∙ kind_is c.args.calls.now c.args.i 3 c.in-3.keys3
+
+pub returns-in-4 : goal.returns-in-4
+unfolding entry_call call_of
+returns-in-4 c = kind_is c.args.calls.now c.args.i 4 c.in-4.keys4
+
+pub returns-in-5 : goal.returns-in-5
+unfolding entry_call call_of
+returns-in-5 c = kind_is c.args.calls.now c.args.i 5 c.in-5.keys5
+
+pub returns-in-6 : goal.returns-in-6
+unfolding entry_call call_of
+returns-in-6 c = kind_is c.args.calls.now c.args.i 6 c.in-6.keys6
+
+pub returns-in-7 : goal.returns-in-7
+unfolding entry_call call_of
+returns-in-7 c = kind_is c.args.calls.now c.args.i 7 c.in-7.keys7
+
+pub returns-in_default : goal.returns-in_default
+unfolding entry_call
+returns-in_default c = kind_none c.args.calls.now c.args.i refl c.in_default.rest.0.0.0.0.0.0.1 c.in_default.rest.0.0.0.0.0.1 c.in_default.rest.0.0.0.0.1 c.in_default.rest.0.0.0.1 c.in_default.rest.0.0.1 c.in_default.rest.0.1 c.in_default.rest.1

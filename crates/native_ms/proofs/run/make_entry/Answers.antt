@@ -1,0 +1,11 @@
+-- `run::make_entry`: a call, or 11. Assumes nothing.
+use Rattle.model.specs.Promise.{lend}
+use Rattle.native_ms.proofs.RunLaws.{entry_made, entry_none}
+use borrow.Author.Rules.{rules}
+use Rattle.native_ms.proofs.run.make_entry.Goals as goal
+
+pub returns-in-Asks : goal.returns-in-Asks
+returns-in-Asks c = entry_made c.args.p (lend c.args.words.now c.args.states.now c.args.marks.now c.args.heap.now) c.entry-1.given.1 c.make.ensures
+
+pub returns-in-Bad : goal.returns-in-Bad
+returns-in-Bad c = entry_none c.args.p (lend c.args.words.now c.args.states.now c.args.marks.now c.args.heap.now) c.enum_told-1.given.1 c.refusal_said.ensures

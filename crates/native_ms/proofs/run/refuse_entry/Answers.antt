@@ -1,0 +1,10 @@
+-- `run::refuse_entry`: the refusal of the first tests, or 11. Assumes nothing.
+use Rattle.native_ms.proofs.RunLaws.{refuse_asks, refuse_none}
+use borrow.Author.Rules.{rules}
+use Rattle.native_ms.proofs.run.refuse_entry.Goals as goal
+
+pub returns-in-Asks : goal.returns-in-Asks
+returns-in-Asks c = refuse_asks c.args.refusal c.enum_told-1.given.1 c.refusal_said.ensures
+
+pub returns-in-Bad : goal.returns-in-Bad
+returns-in-Bad c = refuse_none c.args.refusal c.enum_told-in-Bad-1.given.1 c.refusal_said-in-Bad.ensures

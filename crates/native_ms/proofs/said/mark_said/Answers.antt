@@ -1,0 +1,12 @@
+-- `mark_said` meets its contract.
+use Rattle.model.specs.Answers.{markReply}
+use borrow.Author.Rules.{rules}
+use Rattle.native_ms.proofs.said.mark_said.Goals as goal
+
+pub returns-in-Refused : goal.returns-in-Refused
+unfolding markReply
+returns-in-Refused c = rw c.x-1.given.1 c.refusal_said.ensures
+
+pub returns-in-Marked : goal.returns-in-Marked
+unfolding markReply
+returns-in-Marked c = rw (c.x-in-Marked-1.given.1, c.flag_number-first.ensures)

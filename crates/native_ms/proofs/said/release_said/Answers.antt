@@ -1,0 +1,12 @@
+-- `release_said` meets its contract.
+use Rattle.model.specs.Answers.{releaseReply}
+use borrow.Author.Rules.{rules}
+use Rattle.native_ms.proofs.said.release_said.Goals as goal
+
+pub returns-in-Refused : goal.returns-in-Refused
+unfolding releaseReply
+returns-in-Refused c = rw c.x-1.given.1 c.refusal_said.ensures
+
+pub returns-in-Released : goal.returns-in-Released
+unfolding releaseReply
+returns-in-Released c = rw c.x-in-Released-1.given.1

@@ -1,0 +1,12 @@
+-- `simple_said` meets its contract.
+use Rattle.model.specs.Answers.{replyOf}
+use borrow.Author.Rules.{rules}
+use Rattle.native_ms.proofs.said.simple_said.Goals as goal
+
+pub returns-in_default : goal.returns-in_default
+unfolding replyOf
+returns-in_default c = rw c.enum_told-1.given.1
+
+pub returns : goal.returns
+unfolding replyOf
+returns c = rw c.x-1.given.1 c.refusal_said.ensures

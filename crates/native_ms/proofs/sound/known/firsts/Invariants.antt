@@ -1,0 +1,16 @@
+-- `known::firsts` meets its contract: what is said of each set passed.
+use mathlib.Core.Path.{◌≡◌, refl, ◌∙◌}
+use Prim.Native.Nat.{ℕ, ◌<◌, ◌≤◌, ◌-◌}
+use lib.ListN.{length, length-set}
+use borrow.Author.Count.{below_none}
+use Rattle.native_ms.proofs.SoundLent.{set_is, firsts_step}
+use Rattle.model.specs.Params.{sets}
+use borrow.Author.Rules.{rules}
+use native.Mathlib.Omega.{arith}
+use Rattle.native_ms.proofs.sound.known.firsts.Given as goal
+
+abbrev pub invariant-loop-set : goal.invariant-loop-set
+invariant-loop-set l = (l.set ≤ sets) × (length l.unions ≡ sets) × ((k : ℕ) → k < l.set → set_is l.words l.unions k)
+
+abbrev pub decreases-loop-set : goal.decreases-loop-set
+decreases-loop-set l = sets - l.set

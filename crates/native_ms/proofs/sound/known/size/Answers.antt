@@ -1,0 +1,8 @@
+-- `known::size` reads its block table.
+use borrow.Author.Rules.{rules}
+use Rattle.model.specs.Tables.{view}
+use Rattle.native_ms.proofs.sound.known.size.Goals as goal
+
+pub returns : goal.returns
+unfolding view
+returns c = c.block_word.ensures

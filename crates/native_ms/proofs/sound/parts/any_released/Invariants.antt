@@ -1,0 +1,17 @@
+-- `parts::any_released` meets its contract: from the last down, as the definition does.
+use mathlib.Core.Path.{◌≡◌, refl, sym, ◌∙◌}
+use native.Mathlib.Omega.{arith}
+use Prim.Native.Nat.{◌≤◌}
+use borrow.Author.Rules.{rules}
+use Rattle.model.specs.Tables.{view}
+use Rattle.model.specs.Base.{any_below}
+use borrow.Author.Count.{falls_down}
+use Rattle.model.specs.Global.{has_released}
+use Rattle.laws.proofs.Below.{any_none, any_stop, any_step}
+use Rattle.native_ms.proofs.sound.parts.any_released.Given as goal
+
+abbrev pub invariant-loop-left : goal.invariant-loop-left
+invariant-loop-left l = (l.left ≤ 9) × (any_below l.left (has_released (view l.words)) ≡ any_below l.initial.left (has_released (view l.words)))
+
+abbrev pub decreases-loop-left : goal.decreases-loop-left
+decreases-loop-left l = l.left

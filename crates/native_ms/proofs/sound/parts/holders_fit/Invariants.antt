@@ -1,0 +1,18 @@
+-- `parts::holders_fit` meets its contract: from the last down, as the definition does.
+use mathlib.Core.Path.{◌≡◌, refl, sym, ◌∙◌}
+use native.Mathlib.Omega.{arith}
+use borrow.Author.Rules.{rules}
+use borrow.Author.Tests.{not-true, not-false}
+use Rattle.model.specs.Tables.{view}
+use Rattle.model.specs.Base.{all_below}
+use borrow.Author.Count.{falls_down}
+use Prim.Native.Nat.{◌≤◌}
+use Rattle.laws.proofs.Below.{all_end, all_stop, all_step}
+use Rattle.native_ms.specs.SoundWalk.{holder_fits}
+use Rattle.native_ms.proofs.sound.parts.holders_fit.Given as goal
+
+abbrev pub invariant-loop-left : goal.invariant-loop-left
+invariant-loop-left l = (l.left ≤ 8) × (all_below l.left (holder_fits (view l.words)) ≡ all_below l.initial.left (holder_fits (view l.words)))
+
+abbrev pub decreases-loop-left : goal.decreases-loop-left
+decreases-loop-left l = l.left

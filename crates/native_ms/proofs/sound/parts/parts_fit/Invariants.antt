@@ -1,0 +1,18 @@
+-- `parts::parts_fit` meets its contract: from the last down, as the definition does.
+use mathlib.Core.Path.{◌≡◌, refl, sym, ◌∙◌}
+use native.Mathlib.Omega.{arith}
+use Prim.Native.Nat.{◌≤◌}
+use borrow.Author.Rules.{rules}
+use borrow.Author.Tests.{not-true, not-false}
+use Rattle.model.specs.Tables.{view}
+use Rattle.model.specs.Base.{all_below}
+use borrow.Author.Count.{falls_down}
+use Rattle.laws.proofs.Below.{all_end, all_stop, all_step}
+use Rattle.native_ms.specs.SoundWalk.{part_fits}
+use Rattle.native_ms.proofs.sound.parts.parts_fit.Given as goal
+
+abbrev pub invariant-loop-left : goal.invariant-loop-left
+invariant-loop-left l = (l.left ≤ 9) × (all_below l.left (part_fits (view l.words)) ≡ all_below l.initial.left (part_fits (view l.words)))
+
+abbrev pub decreases-loop-left : goal.decreases-loop-left
+decreases-loop-left l = l.left
