@@ -21,10 +21,10 @@ pub overflow_add-linked : goal.overflow_add-linked
 overflow_add-linked c = omega (arith, c.loop-seen.invariant.few, c.loop-seen-test.true, c.ranges.count.fits)
 
 pub loop-seen-preserved-then-not-kept : goal.loop-seen-preserved-then-not-kept
-loop-seen-preserved-then-not-kept c = linking_freed _ _ _ _ _ _ _ _ _ _ _ c.loop-seen.invariant c.loop-seen-test.true (sym c.cell_is_marked-kept.ensures ∙ not-true _ c.if-not-kept.true) c.store.ensures
+loop-seen-preserved-then-not-kept c = linking_freed _ _ _ _ _ _ _ _ _ _ _ c.loop-seen.invariant c.loop-seen-test.true (sym c.cell_is_marked-kept.ensures ∙ c.if-not-kept.true) c.store.ensures
 
 pub loop-seen-preserved : goal.loop-seen-preserved
-loop-seen-preserved c = linking_kept _ _ _ _ _ _ _ _ _ _ _ c.loop-seen.invariant c.loop-seen-test.true (sym c.cell_is_marked-kept.ensures ∙ not-false _ c.if-not-kept.false)
+loop-seen-preserved c = linking_kept _ _ _ _ _ _ _ _ _ _ _ c.loop-seen.invariant c.loop-seen-test.true (sym c.cell_is_marked-kept.ensures ∙ c.if-not-kept.false)
 
 pub shape_of-heap : goal.shape_of-heap
 shape_of-heap c = c.loop-seen.invariant.same

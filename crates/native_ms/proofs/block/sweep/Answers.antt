@@ -20,13 +20,13 @@ pub returns-then-not-is_whole_words : goal.returns-then-not-is_whole_words
 returns-then-not-is_whole_words c = swept _ _ _ _ c.is_simple-simple.ensures c.sweep_by.ensures
 
 pub simple_sweep-requires : goal.simple_sweep-requires
-simple_sweep-requires c = sweepable _ (view c.args.words.now) c.args.b.0 c.requires (sized_view _ c.args.words.now (words_known _ c.requires.count)).size c.size-size.ensures (c.is_whole_words.ensures (not-false _ c.if-not-is_whole_words.false))
+simple_sweep-requires c = sweepable _ (view c.args.words.now) c.args.b.0 c.requires (sized_view _ c.args.words.now (words_known _ c.requires.count)).size c.size-size.ensures (c.is_whole_words.ensures c.if-not-is_whole_words.false)
 
 pub returns-then-simple : goal.returns-then-simple
 returns-then-simple c = swept _ _ _ true (sym c.if-simple.true ∙ c.is_simple-simple.ensures) c.simple_sweep.ensures
 
 pub naive_brute_force_sweep-requires : goal.naive_brute_force_sweep-requires
-naive_brute_force_sweep-requires c = sweepable _ (view c.args.words.now) c.args.b.0 c.requires (sized_view _ c.args.words.now (words_known _ c.requires.count)).size c.size-size.ensures (c.is_whole_words.ensures (not-false _ c.if-not-is_whole_words.false))
+naive_brute_force_sweep-requires c = sweepable _ (view c.args.words.now) c.args.b.0 c.requires (sized_view _ c.args.words.now (words_known _ c.requires.count)).size c.size-size.ensures (c.is_whole_words.ensures c.if-not-is_whole_words.false)
 
 pub returns : goal.returns
 returns c = swept _ _ _ false (sym c.if-simple.false ∙ c.is_simple-simple.ensures) c.naive_brute_force_sweep.ensures

@@ -27,7 +27,7 @@ pub set_last-requires : goal.set_last-requires
 set_last-requires c = tt
 
 pub shape_of-w : goal.shape_of-w
-shape_of-w c = c.set_last.auto.0 ∙ c.set_first.auto.0 ∙ c.relabel.auto.1.0 ∙ c.link.auto.1.0
+shape_of-w c = c.set_last.auto.w ∙ c.set_first.auto.w ∙ c.relabel.auto.w ∙ c.link.auto.w
 
 pub returns : goal.returns
 returns c = moves_some _ _ _ _ c.first-first.ensures c.if-first-eq0.false c.count_from-count.ensures c.link.ensures c.relabel.ensures (put_first_lem _ _ _ c.set_first.ensures) (put_last_lem _ _ _ c.set_last.ensures)

@@ -22,13 +22,13 @@ pub count_blocks-requires : goal.count_blocks-requires
 count_blocks-requires c = c.requires.0
 
 pub returns-in-Bad : goal.returns-in-Bad
-returns-in-Bad c = bins_bad _ _ _ _ _ c.loop-bin-test.true c.count_blocks.ensures c.enum_told-1.given.1 ∙ c.loop-bin.invariant.2
+returns-in-Bad c = bins_bad _ _ _ _ _ c.loop-bin-test.true c.count_blocks.ensures c.in-Bad.is ∙ c.loop-bin.invariant.2
 
 pub overflow_add-met : goal.overflow_add-met
-overflow_add-met c = omega (arith, c.loop-bin.invariant.1, counted_few _ _ _ _ c.count_blocks.ensures c.passed-1.given.1, (good_bounds c.args.p c.requires.0).blocks_high)
+overflow_add-met c = omega (arith, c.loop-bin.invariant.1, counted_few _ _ _ _ c.count_blocks.ensures c.in-Blocks.is, (good_bounds c.args.p c.requires.0).blocks_high)
 
 pub loop-bin-preserved : goal.loop-bin-preserved
-loop-bin-preserved c = (omega (arith, c.loop-bin.invariant.0), omega (arith, c.loop-bin.invariant.1, c.loop-bin-test.true, counted_few _ _ _ _ c.count_blocks.ensures c.passed-1.given.1, (good_bounds c.args.p c.requires.0).blocks_high), bins_step _ _ _ _ _ c.loop-bin-test.true c.count_blocks.ensures c.passed-1.given.1 ∙ c.loop-bin.invariant.2)
+loop-bin-preserved c = (omega (arith, c.loop-bin.invariant.0), omega (arith, c.loop-bin.invariant.1, c.loop-bin-test.true, counted_few _ _ _ _ c.count_blocks.ensures c.in-Blocks.is, (good_bounds c.args.p c.requires.0).blocks_high), bins_step _ _ _ _ _ c.loop-bin-test.true c.count_blocks.ensures c.in-Blocks.is ∙ c.loop-bin.invariant.2)
 
 pub returns : goal.returns
 returns c = bins_end _ _ _ _ _ c.loop-bin-test.false ∙ c.loop-bin.invariant.2

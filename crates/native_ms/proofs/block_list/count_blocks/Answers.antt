@@ -21,7 +21,7 @@ pub is_start-requires : goal.is_start-requires
 is_start-requires c = c.requires
 
 pub returns-then-not-is_start : goal.returns-then-not-is_start
-returns-then-not-is_start c = counted_bad _ _ _ _ _ c.loop-more-test.true c.if-link-eq0.false (sym c.is_start.ensures ∙ not-true _ c.if-not-is_start.true) ∙ c.loop-more.invariant.1
+returns-then-not-is_start c = counted_bad _ _ _ _ _ c.loop-more-test.true c.if-link-eq0.false (sym c.is_start.ensures ∙ c.if-not-is_start.true) ∙ c.loop-more.invariant.1
 
 pub block_at-b-requires : goal.block_at-b-requires
 block_at-b-requires c = c.requires
@@ -33,7 +33,7 @@ pub overflow_add-passed : goal.overflow_add-passed
 overflow_add-passed c = omega (arith, (good_bounds c.args.p (c.requires)).blocks_high, c.loop-more.invariant.0)
 
 pub loop-more-preserved : goal.loop-more-preserved
-loop-more-preserved c = (count_again _ _ _ c.loop-more-test.true c.loop-more.invariant.0, counted_step _ _ _ _ _ c.loop-more-test.true c.if-link-eq0.false (sym c.is_start.ensures ∙ not-false _ c.if-not-is_start.false) c.block_at-b.ensures c.next-link.ensures ∙ c.loop-more.invariant.1)
+loop-more-preserved c = (count_again _ _ _ c.loop-more-test.true c.loop-more.invariant.0, counted_step _ _ _ _ _ c.loop-more-test.true c.if-link-eq0.false (sym c.is_start.ensures ∙ c.if-not-is_start.false) c.block_at-b.ensures c.next-link.ensures ∙ c.loop-more.invariant.1)
 
 pub returns-then-link-eq0-2 : goal.returns-then-link-eq0-2
 returns-then-link-eq0-2 c = counted_stop _ _ _ _ _ c.if-link-eq0-2.true ∙ c.loop-more.invariant.1

@@ -6,10 +6,10 @@ use borrow.Author.Rules.{rules}
 use Rattle.native_ms.proofs.block_list.count_more.Goals as goal
 
 pub returns-in-Bad : goal.returns-in-Bad
-returns-in-Bad c = more_bad _ _ _ c.enum_told-1.given.1
+returns-in-Bad c = more_bad _ _ _ c.in-Bad.is
 
 pub returns-in-Bad-count_blocks : goal.returns-in-Bad-count_blocks
-returns-in-Bad-count_blocks c = more_no _ _ _ c.count-1.given.1 c.count_blocks.ensures c.enum_told-in-Bad-count_blocks-1.given.1
+returns-in-Bad-count_blocks c = more_no _ _ _ c.in-Blocks.is c.count_blocks.ensures c.in-Bad-count_blocks.is
 
 pub returns-in-Blocks-count_blocks : goal.returns-in-Blocks-count_blocks
-returns-in-Blocks-count_blocks c = more_yes _ _ _ c.count-1.given.1 c.count_blocks.ensures c.more-1.given.1
+returns-in-Blocks-count_blocks c = more_yes _ _ _ c.in-Blocks.is c.count_blocks.ensures c.in-Blocks-count_blocks.is

@@ -38,13 +38,13 @@ pub set_last-requires-else-own_first-eq0 : goal.set_last-requires-else-own_first
 set_last-requires-else-own_first-eq0 c = tt
 
 pub shape_of-w-then-own_first-eq0 : goal.shape_of-w-then-own_first-eq0
-shape_of-w-then-own_first-eq0 c = c.set_last.auto.0 ∙ c.set_first.auto.0
+shape_of-w-then-own_first-eq0 c = c.set_last.auto.w ∙ c.set_first.auto.w
 
 pub returns-then-own_first-eq0 : goal.returns-then-own_first-eq0
 returns-then-own_first-eq0 c = link_empty _ _ _ _ c.first-first.ensures c.last-last.ensures c.last-own_last.ensures c.first-own_first.ensures c.if-own_first-eq0.true (put_first_lem _ _ _ c.set_first.ensures) (put_last_lem _ _ _ c.set_last.ensures)
 
 pub shape_of-w-else-own_first-eq0 : goal.shape_of-w-else-own_first-eq0
-shape_of-w-else-own_first-eq0 c = c.set_last-else-own_first-eq0.auto.0 ∙ c.set_prev.auto.0 ∙ c.set_next.auto.0
+shape_of-w-else-own_first-eq0 c = c.set_last-else-own_first-eq0.auto.w ∙ c.set_prev.auto.w ∙ c.set_next.auto.w
 
 pub returns-else-own_first-eq0 : goal.returns-else-own_first-eq0
 returns-else-own_first-eq0 c = link_behind _ _ _ _ c.first-first.ensures c.last-last.ensures c.last-own_last.ensures c.first-own_first.ensures c.if-own_first-eq0.false c.block_at-before.ensures c.block_at-behind.ensures (put_next_lem _ _ _ c.set_next.ensures) (put_prev_lem _ _ _ c.set_prev.ensures) (put_last_lem _ _ _ c.set_last-else-own_first-eq0.ensures)

@@ -10,15 +10,15 @@ use Rattle.native_ms.proofs.block_list.pages_answer.Goals as goal
 
 pub returns-then-not-set_fits : goal.returns-then-not-set_fits
 unfolding pagesReply
-returns-then-not-set_fits c = said_off _ _ (sym c.set_fits.ensures ∙ not-true _ c.if-not-set_fits.true)
+returns-then-not-set_fits c = said_off _ _ (sym c.set_fits.ensures ∙ c.if-not-set_fits.true)
 
 pub overflow_mul-result : goal.overflow_mul-result
-overflow_mul-result c = omega (arith, pages_fit c.args.p _ (good_bounds c.args.p (fits_good _ _ _ (sym c.set_fits.ensures ∙ not-false _ c.if-not-set_fits.false))) (count_known c.count-1.given.1 (c.requires)))
+overflow_mul-result c = omega (arith, pages_fit c.args.p _ (good_bounds c.args.p (fits_good _ _ _ (sym c.set_fits.ensures ∙ c.if-not-set_fits.false))) (count_known c.in-Blocks.is (c.requires)))
 
 pub returns-in-Bad : goal.returns-in-Bad
 unfolding pagesReply
-returns-in-Bad c = said_bad _ (sym c.set_fits.ensures ∙ not-false _ c.if-not-set_fits.false) c.enum_told-1.given.1
+returns-in-Bad c = said_bad _ (sym c.set_fits.ensures ∙ c.if-not-set_fits.false) c.in-Bad.is
 
 pub returns-in-Blocks : goal.returns-in-Blocks
 unfolding pagesReply
-returns-in-Blocks c = said_pages _ (sym c.set_fits.ensures ∙ not-false _ c.if-not-set_fits.false) c.count-1.given.1
+returns-in-Blocks c = said_pages _ (sym c.set_fits.ensures ∙ c.if-not-set_fits.false) c.in-Blocks.is

@@ -51,13 +51,13 @@ pub set_prev-requires-else-next-eq0-2 : goal.set_prev-requires-else-next-eq0-2
 set_prev-requires-else-next-eq0-2 c = tt
 
 pub shape_of-w-then-next-eq0 : goal.shape_of-w-then-next-eq0
-shape_of-w-then-next-eq0 c = c.set_prev.auto.0 ∙ c.set_next.auto.0 ∙ c.set_last.auto.0 ∙ c.set_first.auto.0
+shape_of-w-then-next-eq0 c = c.set_prev.auto.w ∙ c.set_next.auto.w ∙ c.set_last.auto.w ∙ c.set_first.auto.w
 
 pub returns-then-next-eq0 : goal.returns-then-next-eq0
 returns-then-next-eq0 c = pop_only_lem _ _ _ c.first-head.ensures c.if-head-eq0.false c.block_at-top.ensures c.next-next.ensures c.if-next-eq0.true (put_first_lem _ _ _ c.set_first.ensures) (put_last_lem _ _ _ c.set_last.ensures) (put_next_lem _ _ _ c.set_next.ensures) (put_prev_lem _ _ _ c.set_prev.ensures)
 
 pub shape_of-w-else-next-eq0 : goal.shape_of-w-else-next-eq0
-shape_of-w-else-next-eq0 c = c.set_prev-else-next-eq0-2.auto.0 ∙ c.set_next-else-next-eq0.auto.0 ∙ c.set_list.auto.0 ∙ c.set_prev-else-next-eq0.auto.0 ∙ c.set_first-else-next-eq0.auto.0
+shape_of-w-else-next-eq0 c = c.set_prev-else-next-eq0-2.auto.w ∙ c.set_next-else-next-eq0.auto.w ∙ c.set_list.auto.w ∙ c.set_prev-else-next-eq0.auto.w ∙ c.set_first-else-next-eq0.auto.w
 
 pub returns-else-next-eq0 : goal.returns-else-next-eq0
 returns-else-next-eq0 c = pop_ahead_lem _ _ _ c.first-head.ensures c.if-head-eq0.false c.block_at-top.ensures c.next-next.ensures c.if-next-eq0.false c.block_at-follower.ensures c.list_word-word.ensures (put_first_lem _ _ _ c.set_first-else-next-eq0.ensures) (put_prev_lem _ _ _ c.set_prev-else-next-eq0.ensures) (put_list_lem _ _ _ c.set_list.ensures) (put_next_lem _ _ _ c.set_next-else-next-eq0.ensures) (put_prev_lem _ _ _ c.set_prev-else-next-eq0-2.ensures)

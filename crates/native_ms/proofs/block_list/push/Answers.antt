@@ -47,13 +47,13 @@ pub set_list-requires-else-head-eq0 : goal.set_list-requires-else-head-eq0
 set_list-requires-else-head-eq0 c = tt
 
 pub shape_of-w-then-head-eq0 : goal.shape_of-w-then-head-eq0
-shape_of-w-then-head-eq0 c = c.set_list.auto.0 ∙ c.set_last.auto.0 ∙ c.set_first.auto.0 ∙ c.set_prev.auto.0 ∙ c.set_next.auto.0
+shape_of-w-then-head-eq0 c = c.set_list.auto.w ∙ c.set_last.auto.w ∙ c.set_first.auto.w ∙ c.set_prev.auto.w ∙ c.set_next.auto.w
 
 pub returns-then-head-eq0 : goal.returns-then-head-eq0
 returns-then-head-eq0 c = push_only_lem _ _ _ _ c.start-start.ensures c.list_word-word.ensures c.first-head.ensures c.if-head-eq0.true (put_next_lem _ _ _ c.set_next.ensures) (put_prev_lem _ _ _ c.set_prev.ensures) (put_first_lem _ _ _ c.set_first.ensures) (put_last_lem _ _ _ c.set_last.ensures) (put_list_lem _ _ _ c.set_list.ensures)
 
 pub shape_of-w-else-head-eq0 : goal.shape_of-w-else-head-eq0
-shape_of-w-else-head-eq0 c = c.set_list-else-head-eq0.auto.0 ∙ c.set_first-else-head-eq0.auto.0 ∙ c.set_prev-else-head-eq0-2.auto.0 ∙ c.set_prev-else-head-eq0.auto.0 ∙ c.set_next-else-head-eq0.auto.0
+shape_of-w-else-head-eq0 c = c.set_list-else-head-eq0.auto.w ∙ c.set_first-else-head-eq0.auto.w ∙ c.set_prev-else-head-eq0-2.auto.w ∙ c.set_prev-else-head-eq0.auto.w ∙ c.set_next-else-head-eq0.auto.w
 
 pub returns-else-head-eq0 : goal.returns-else-head-eq0
 returns-else-head-eq0 c = push_ahead_lem _ _ _ _ c.start-start.ensures c.list_word-word.ensures c.first-head.ensures c.if-head-eq0.false c.block_at-old.ensures (put_next_lem _ _ _ c.set_next-else-head-eq0.ensures) (put_prev_lem _ _ _ c.set_prev-else-head-eq0.ensures) (put_prev_lem _ _ _ c.set_prev-else-head-eq0-2.ensures) (put_first_lem _ _ _ c.set_first-else-head-eq0.ensures) (put_list_lem _ _ _ c.set_list-else-head-eq0.ensures)

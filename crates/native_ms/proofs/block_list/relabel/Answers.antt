@@ -30,7 +30,7 @@ pub set_list-requires : goal.set_list-requires
 set_list-requires c = tt
 
 pub loop-more-preserved : goal.loop-more-preserved
-loop-more-preserved c = (c.set_list.auto.0 ∙ c.loop-more.invariant.0, relabel_step _ _ _ _ _ c.loop-more-test.true c.if-link-eq0.false c.block_at-b.ensures c.list_word-word.ensures c.next-link.ensures (put_list_lem _ _ _ c.set_list.ensures) ∙ c.loop-more.invariant.1)
+loop-more-preserved c = (c.set_list.auto.w ∙ c.loop-more.invariant.0, relabel_step _ _ _ _ _ c.loop-more-test.true c.if-link-eq0.false c.block_at-b.ensures c.list_word-word.ensures c.next-link.ensures (put_list_lem _ _ _ c.set_list.ensures) ∙ c.loop-more.invariant.1)
 
 pub shape_of-w : goal.shape_of-w
 shape_of-w c = c.loop-more.invariant.0

@@ -50,25 +50,25 @@ pub set_prev-requires-else-next-eq0-2 : goal.set_prev-requires-else-next-eq0-2
 set_prev-requires-else-next-eq0-2 c = tt
 
 pub shape_of-w-then-next-eq0 : goal.shape_of-w-then-next-eq0
-shape_of-w-then-next-eq0 c = c.set_last.auto.0 ∙ c.set_first.auto.0
+shape_of-w-then-next-eq0 c = c.set_last.auto.w ∙ c.set_first.auto.w
 
 pub returns-then-next-eq0 : goal.returns-then-next-eq0
 returns-then-next-eq0 c = remove_only _ _ _ _ c.prev-prev.ensures c.next-next.ensures c.list_word-word.ensures c.block_at-before.ensures c.block_at-behind.ensures c.if-prev-eq0.true c.if-next-eq0.true (put_first_lem _ _ _ c.set_first.ensures) (put_last_lem _ _ _ c.set_last.ensures)
 
 pub shape_of-w-else-next-eq0 : goal.shape_of-w-else-next-eq0
-shape_of-w-else-next-eq0 c = c.set_list.auto.0 ∙ c.set_first-else-next-eq0.auto.0 ∙ c.set_prev.auto.0
+shape_of-w-else-next-eq0 c = c.set_list.auto.w ∙ c.set_first-else-next-eq0.auto.w ∙ c.set_prev.auto.w
 
 pub returns-else-next-eq0 : goal.returns-else-next-eq0
 returns-else-next-eq0 c = remove_first _ _ _ _ c.prev-prev.ensures c.next-next.ensures c.list_word-word.ensures c.block_at-before.ensures c.block_at-behind.ensures c.if-prev-eq0.true c.if-next-eq0.false (put_prev_lem _ _ _ c.set_prev.ensures) (put_first_lem _ _ _ c.set_first-else-next-eq0.ensures) (put_list_lem _ _ _ c.set_list.ensures)
 
 pub shape_of-w-then-next-eq0-2 : goal.shape_of-w-then-next-eq0-2
-shape_of-w-then-next-eq0-2 c = c.set_list-then-next-eq0-2.auto.0 ∙ c.set_last-then-next-eq0-2.auto.0 ∙ c.set_next.auto.0
+shape_of-w-then-next-eq0-2 c = c.set_list-then-next-eq0-2.auto.w ∙ c.set_last-then-next-eq0-2.auto.w ∙ c.set_next.auto.w
 
 pub returns-then-next-eq0-2 : goal.returns-then-next-eq0-2
 returns-then-next-eq0-2 c = remove_last _ _ _ _ c.prev-prev.ensures c.next-next.ensures c.list_word-word.ensures c.block_at-before.ensures c.block_at-behind.ensures c.if-prev-eq0.false c.if-next-eq0-2.true (put_next_lem _ _ _ c.set_next.ensures) (put_last_lem _ _ _ c.set_last-then-next-eq0-2.ensures) (put_list_lem _ _ _ c.set_list-then-next-eq0-2.ensures)
 
 pub shape_of-w-else-next-eq0-2 : goal.shape_of-w-else-next-eq0-2
-shape_of-w-else-next-eq0-2 c = c.set_prev-else-next-eq0-2.auto.0 ∙ c.set_next-else-next-eq0-2.auto.0
+shape_of-w-else-next-eq0-2 c = c.set_prev-else-next-eq0-2.auto.w ∙ c.set_next-else-next-eq0-2.auto.w
 
 pub returns-else-next-eq0-2 : goal.returns-else-next-eq0-2
 returns-else-next-eq0-2 c = remove_inner _ _ _ _ c.prev-prev.ensures c.next-next.ensures c.list_word-word.ensures c.block_at-before.ensures c.block_at-behind.ensures c.if-prev-eq0.false c.if-next-eq0-2.false (put_next_lem _ _ _ c.set_next-else-next-eq0-2.ensures) (put_prev_lem _ _ _ c.set_prev-else-next-eq0-2.ensures)

@@ -13,8 +13,8 @@ check_request-requires c = (c.requires.good, c.requires.states)
 
 pub returns-in-Refused : goal.returns-in-Refused
 unfolding call_tests
-returns-in-Refused c = λ m. bin_refused _ _ c.check_bound.ensures c.r-1.given.1
+returns-in-Refused c = λ m. bin_refused _ _ c.check_bound.ensures c.in-Refused.is
 
 pub returns-in-Passed : goal.returns-in-Passed
 unfolding call_tests
-returns-in-Passed c = λ m. bin_passed _ _ c.check_bound.ensures c.enum_told-1.given.1 (c.check_request.ensures _ m)
+returns-in-Passed c = λ m. bin_passed _ _ c.check_bound.ensures c.in-Passed.is (c.check_request.ensures _ m)

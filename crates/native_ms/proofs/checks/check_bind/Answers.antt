@@ -14,19 +14,19 @@ is_holder-requires c = tt
 
 pub returns-then-not-is_holder : goal.returns-then-not-is_holder
 unfolding bind_tests
-returns-then-not-is_holder c = then_passed _ c.check_phase.ensures c.enum_told-1.given.1 (either_no BadHolder _ c.is_holder.ensures (not-true _ c.if-not-is_holder.true))
+returns-then-not-is_holder c = then_passed _ c.check_phase.ensures c.in-Passed.is (either_no BadHolder _ c.is_holder.ensures c.if-not-is_holder.true)
 
 pub is_bound-requires : goal.is_bound-requires
 is_bound-requires c = tt
 
 pub returns-then-is_bound : goal.returns-then-is_bound
 unfolding bind_tests
-returns-then-is_bound c = then_passed _ c.check_phase.ensures c.enum_told-1.given.1 (either_yes BadHolder c.is_holder.ensures c.is_bound.ensures c.if-is_bound.true)
+returns-then-is_bound c = then_passed _ c.check_phase.ensures c.in-Passed.is (either_yes BadHolder c.is_holder.ensures c.is_bound.ensures c.if-is_bound.true)
 
 pub returns-in-Refused : goal.returns-in-Refused
 unfolding bind_tests
-returns-in-Refused c = then_refused _ c.check_phase.ensures c.r-1.given.1
+returns-in-Refused c = then_refused _ c.check_phase.ensures c.in-Refused.is
 
 pub returns-else-is_bound : goal.returns-else-is_bound
 unfolding bind_tests
-returns-else-is_bound c = then_passed _ c.check_phase.ensures c.enum_told-1.given.1 (neither BadHolder c.is_holder.ensures (not-false _ c.if-not-is_holder.false) c.is_bound.ensures c.if-is_bound.false)
+returns-else-is_bound c = then_passed _ c.check_phase.ensures c.in-Passed.is (neither BadHolder c.is_holder.ensures c.if-not-is_holder.false c.is_bound.ensures c.if-is_bound.false)

@@ -12,13 +12,13 @@ pub is_holder-requires : goal.is_holder-requires
 is_holder-requires c = tt
 
 pub returns-then-not-is_holder : goal.returns-then-not-is_holder
-returns-then-not-is_holder c = bound_number _ _ c.phase.ensures c.if-phase-ne-RUNNING.false c.is_holder.ensures (not-true _ c.if-not-is_holder.true)
+returns-then-not-is_holder c = bound_number _ _ c.phase.ensures c.if-phase-ne-RUNNING.false c.is_holder.ensures c.if-not-is_holder.true
 
 pub bound-requires : goal.bound-requires
-bound-requires c = (c.requires, (holder_range _ c.is_holder.ensures (not-false _ c.if-not-is_holder.false)).0, (holder_range _ c.is_holder.ensures (not-false _ c.if-not-is_holder.false)).1)
+bound-requires c = (c.requires, (holder_range _ c.is_holder.ensures c.if-not-is_holder.false).0, (holder_range _ c.is_holder.ensures c.if-not-is_holder.false).1)
 
 pub returns-then-bound-ne1 : goal.returns-then-bound-ne1
-returns-then-bound-ne1 c = bound_not _ _ c.phase.ensures c.if-phase-ne-RUNNING.false c.is_holder.ensures (not-false _ c.if-not-is_holder.false) c.bound.ensures c.if-bound-ne1.true
+returns-then-bound-ne1 c = bound_not _ _ c.phase.ensures c.if-phase-ne-RUNNING.false c.is_holder.ensures c.if-not-is_holder.false c.bound.ensures c.if-bound-ne1.true
 
 pub returns : goal.returns
-returns c = bound_passed _ _ c.phase.ensures c.if-phase-ne-RUNNING.false c.is_holder.ensures (not-false _ c.if-not-is_holder.false) c.bound.ensures c.if-bound-ne1.false
+returns c = bound_passed _ _ c.phase.ensures c.if-phase-ne-RUNNING.false c.is_holder.ensures c.if-not-is_holder.false c.bound.ensures c.if-bound-ne1.false

@@ -11,15 +11,15 @@ may_leave-requires c = tt
 
 pub returns-then-not-may_leave : goal.returns-then-not-may_leave
 unfolding leave_tests
-returns-then-not-may_leave c = then_refused _ (test_no WrongPhase c.may_leave.ensures (not-true _ c.if-not-may_leave.true)) refl
+returns-then-not-may_leave c = then_refused _ (test_no WrongPhase c.may_leave.ensures c.if-not-may_leave.true) refl
 
 pub is_bound-requires : goal.is_bound-requires
 is_bound-requires c = tt
 
 pub returns-then-not-is_bound : goal.returns-then-not-is_bound
 unfolding leave_tests
-returns-then-not-is_bound c = then_passed _ (test_yes WrongPhase c.may_leave.ensures (not-false _ c.if-not-may_leave.false)) refl (test_no BadHolder c.is_bound.ensures (not-true _ c.if-not-is_bound.true))
+returns-then-not-is_bound c = then_passed _ (test_yes WrongPhase c.may_leave.ensures c.if-not-may_leave.false) refl (test_no BadHolder c.is_bound.ensures c.if-not-is_bound.true)
 
 pub returns : goal.returns
 unfolding leave_tests
-returns c = then_passed _ (test_yes WrongPhase c.may_leave.ensures (not-false _ c.if-not-may_leave.false)) refl (test_yes BadHolder c.is_bound.ensures (not-false _ c.if-not-is_bound.false))
+returns c = then_passed _ (test_yes WrongPhase c.may_leave.ensures c.if-not-may_leave.false) refl (test_yes BadHolder c.is_bound.ensures c.if-not-is_bound.false)

@@ -14,12 +14,12 @@ good_object-requires c = c.requires
 
 pub returns-then-not-good_object : goal.returns-then-not-good_object
 unfolding mark_tests
-returns-then-not-good_object c = λ m. then_passed _ c.check_phase.ensures c.enum_told-1.given.1 (test_no BadObject (c.good_object.ensures _ m) (not-true _ c.if-not-good_object.true))
+returns-then-not-good_object c = λ m. then_passed _ c.check_phase.ensures c.in-Passed.is (test_no BadObject (c.good_object.ensures _ m) c.if-not-good_object.true)
 
 pub returns-in-Refused : goal.returns-in-Refused
 unfolding mark_tests
-returns-in-Refused c = λ m. then_refused _ c.check_phase.ensures c.r-1.given.1
+returns-in-Refused c = λ m. then_refused _ c.check_phase.ensures c.in-Refused.is
 
 pub returns-else-not-good_object : goal.returns-else-not-good_object
 unfolding mark_tests
-returns-else-not-good_object c = λ m. then_passed _ c.check_phase.ensures c.enum_told-1.given.1 (test_yes BadObject (c.good_object.ensures _ m) (not-false _ c.if-not-good_object.false))
+returns-else-not-good_object c = λ m. then_passed _ c.check_phase.ensures c.in-Passed.is (test_yes BadObject (c.good_object.ensures _ m) c.if-not-good_object.false)

@@ -11,7 +11,7 @@ may_release-requires c = tt
 
 pub returns-then-not-may_release : goal.returns-then-not-may_release
 unfolding release_tests
-returns-then-not-may_release c = then_refused _ (either_no WrongPhase _ c.may_release.ensures (not-true _ c.if-not-may_release.true)) refl
+returns-then-not-may_release c = then_refused _ (either_no WrongPhase _ c.may_release.ensures c.if-not-may_release.true) refl
 
 pub released_already-requires : goal.released_already-requires
 released_already-requires c = tt
@@ -25,8 +25,8 @@ is_bound-requires c = tt
 
 pub returns-then-not-is_bound : goal.returns-then-not-is_bound
 unfolding release_tests
-returns-then-not-is_bound c = then_passed _ (neither WrongPhase c.may_release.ensures (not-false _ c.if-not-may_release.false) c.released_already.ensures c.if-released_already.false) refl (test_no BadHolder c.is_bound.ensures (not-true _ c.if-not-is_bound.true))
+returns-then-not-is_bound c = then_passed _ (neither WrongPhase c.may_release.ensures c.if-not-may_release.false c.released_already.ensures c.if-released_already.false) refl (test_no BadHolder c.is_bound.ensures c.if-not-is_bound.true)
 
 pub returns : goal.returns
 unfolding release_tests
-returns c = then_passed _ (neither WrongPhase c.may_release.ensures (not-false _ c.if-not-may_release.false) c.released_already.ensures c.if-released_already.false) refl (test_yes BadHolder c.is_bound.ensures (not-false _ c.if-not-is_bound.false))
+returns c = then_passed _ (neither WrongPhase c.may_release.ensures c.if-not-may_release.false c.released_already.ensures c.if-released_already.false) refl (test_yes BadHolder c.is_bound.ensures c.if-not-is_bound.false)

@@ -8,7 +8,7 @@ pub good_request-requires : goal.good_request-requires
 good_request-requires c = c.requires.0
 
 pub returns-then-not-good_request : goal.returns-then-not-good_request
-returns-then-not-good_request c = λ w m. check_request _ w _ m _ _ _ _ c.good_request.ensures (not-true _ c.if-not-good_request.true)
+returns-then-not-good_request c = λ w m. check_request _ w _ m _ _ _ _ c.good_request.ensures c.if-not-good_request.true
 
 pub get_maximum_aligned_size-requires : goal.get_maximum_aligned_size-requires
 get_maximum_aligned_size-requires c = tt
@@ -17,13 +17,13 @@ pub good_offer-requires : goal.good_offer-requires
 good_offer-requires c = c.requires.1
 
 pub returns-then-not-good_offer : goal.returns-then-not-good_offer
-returns-then-not-good_offer c = λ w m. check_offer _ w _ m _ _ _ _ c.good_request.ensures (not-false _ c.if-not-good_request.false) c.get_maximum_aligned_size.ensures c.size-1.given.1 c.good_offer.ensures (not-true _ c.if-not-good_offer.true)
+returns-then-not-good_offer c = λ w m. check_offer _ w _ m _ _ _ _ c.good_request.ensures c.if-not-good_request.false c.get_maximum_aligned_size.ensures c.in-Fits.is c.good_offer.ensures c.if-not-good_offer.true
 
 pub bin_of-requires : goal.bin_of-requires
 bin_of-requires c = tt
 
 pub returns-in-TooBig : goal.returns-in-TooBig
-returns-in-TooBig c = λ w m. check_size _ w _ m _ _ _ _ c.good_request.ensures (not-false _ c.if-not-good_request.false) c.get_maximum_aligned_size.ensures c.enum_told-1.given.1
+returns-in-TooBig c = λ w m. check_size _ w _ m _ _ _ _ c.good_request.ensures c.if-not-good_request.false c.get_maximum_aligned_size.ensures c.in-TooBig.is
 
 pub returns-else-not-good_offer : goal.returns-else-not-good_offer
-returns-else-not-good_offer c = λ w m. check_bin _ w _ m _ _ _ _ c.good_request.ensures (not-false _ c.if-not-good_request.false) c.get_maximum_aligned_size.ensures c.size-1.given.1 c.good_offer.ensures (not-false _ c.if-not-good_offer.false) c.bin_of.ensures
+returns-else-not-good_offer c = λ w m. check_bin _ w _ m _ _ _ _ c.good_request.ensures c.if-not-good_request.false c.get_maximum_aligned_size.ensures c.in-Fits.is c.good_offer.ensures c.if-not-good_offer.false c.bin_of.ensures

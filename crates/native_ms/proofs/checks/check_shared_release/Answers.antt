@@ -10,7 +10,7 @@ may_release-requires c = tt
 
 pub returns-then-not-may_release : goal.returns-then-not-may_release
 unfolding shared_tests
-returns-then-not-may_release c = either_no WrongPhase _ c.may_release.ensures (not-true _ c.if-not-may_release.true)
+returns-then-not-may_release c = either_no WrongPhase _ c.may_release.ensures c.if-not-may_release.true
 
 pub has_released-requires : goal.has_released-requires
 has_released-requires c = tt
@@ -21,4 +21,4 @@ returns-then-has_released c = either_yes WrongPhase c.may_release.ensures c.has_
 
 pub returns : goal.returns
 unfolding shared_tests
-returns c = neither WrongPhase c.may_release.ensures (not-false _ c.if-not-may_release.false) c.has_released.ensures c.if-has_released.false
+returns c = neither WrongPhase c.may_release.ensures c.if-not-may_release.false c.has_released.ensures c.if-has_released.false

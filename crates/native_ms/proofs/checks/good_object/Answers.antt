@@ -8,25 +8,25 @@ use borrow.Author.Rules.{rules}
 use Rattle.native_ms.proofs.checks.good_object.Goals as goal
 
 pub returns-then-not-inside : goal.returns-then-not-inside
-returns-then-not-inside c = λ w m. object_out _ _ _ _ c.in_heap-inside.ensures w m (not-true _ c.if-not-inside.true)
+returns-then-not-inside c = λ w m. object_out _ _ _ _ c.in_heap-inside.ensures w m c.if-not-inside.true
 
 pub returns-then-place-ne0 : goal.returns-then-place-ne0
-returns-then-place-ne0 c = λ w m. object_odd _ _ _ _ c.in_heap-inside.ensures w m (not-false _ c.if-not-inside.false) c.if-place-ne0.true
+returns-then-place-ne0 c = λ w m. object_odd _ _ _ _ c.in_heap-inside.ensures w m c.if-not-inside.false c.if-place-ne0.true
 
 pub returns-then-p-i : goal.returns-then-p-i
-returns-then-p-i c = λ w m. object_past _ _ _ _ c.in_heap-inside.ensures w m (not-false _ c.if-not-inside.false) c.if-place-ne0.false c.if-p-i.true
+returns-then-p-i c = λ w m. object_past _ _ _ _ c.in_heap-inside.ensures w m c.if-not-inside.false c.if-place-ne0.false c.if-p-i.true
 
 pub state-s-requires : goal.state-s-requires
 state-s-requires c = tt
 
 pub returns-then-s-eq-UNALLOCATED : goal.returns-then-s-eq-UNALLOCATED
-returns-then-s-eq-UNALLOCATED c = λ w m. object_none _ _ _ _ c.in_heap-inside.ensures w m (not-false _ c.if-not-inside.false) c.if-place-ne0.false c.if-p-i.false c.state-s.ensures c.if-s-eq-UNALLOCATED.true
+returns-then-s-eq-UNALLOCATED c = λ w m. object_none _ _ _ _ c.in_heap-inside.ensures w m c.if-not-inside.false c.if-place-ne0.false c.if-p-i.false c.state-s.ensures c.if-s-eq-UNALLOCATED.true
 
 pub minus_lower-a-requires : goal.minus_lower-a-requires
-minus_lower-a-requires c = let b = good_bounds c.args.p (c.requires) in let y = sym c.in_heap-inside.ensures ∙ not-false _ c.if-not-inside.false in (c.requires, omega (arith, b.base_low, in_heap_low c.args.p _ y), omega (arith, b.end_high, in_heap_high c.args.p _ y))
+minus_lower-a-requires c = let b = good_bounds c.args.p (c.requires) in let y = sym c.in_heap-inside.ensures ∙ c.if-not-inside.false in (c.requires, omega (arith, b.base_low, in_heap_low c.args.p _ y), omega (arith, b.end_high, in_heap_high c.args.p _ y))
 
 pub in_block-requires : goal.in_block-requires
 in_block-requires c = (c.requires, c.if-p-i.false)
 
 pub returns : goal.returns
-returns c = λ w m. object_at _ _ _ _ c.in_heap-inside.ensures w m (not-false _ c.if-not-inside.false) c.if-place-ne0.false c.if-p-i.false c.state-s.ensures c.if-s-eq-UNALLOCATED.false c.minus_lower-a.ensures c.in_block.ensures
+returns c = λ w m. object_at _ _ _ _ c.in_heap-inside.ensures w m c.if-not-inside.false c.if-place-ne0.false c.if-p-i.false c.state-s.ensures c.if-s-eq-UNALLOCATED.false c.minus_lower-a.ensures c.in_block.ensures

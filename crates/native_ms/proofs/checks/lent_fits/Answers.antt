@@ -8,10 +8,10 @@ pub good_params-requires : goal.good_params-requires
 good_params-requires c = tt
 
 pub returns-then-not-good_params : goal.returns-then-not-good_params
-returns-then-not-good_params c = fits_bad _ _ _ _ _ c.good_params.ensures (not-true _ c.if-not-good_params.true)
+returns-then-not-good_params c = fits_bad _ _ _ _ _ c.good_params.ensures c.if-not-good_params.true
 
 pub lengths_fit-requires : goal.lengths_fit-requires
-lengths_fit-requires c = sym c.good_params.ensures ∙ not-false _ c.if-not-good_params.false
+lengths_fit-requires c = sym c.good_params.ensures ∙ c.if-not-good_params.false
 
 pub returns : goal.returns
-returns c = fits_good _ _ _ _ _ c.good_params.ensures (not-false _ c.if-not-good_params.false) c.lengths_fit.ensures
+returns c = fits_good _ _ _ _ _ c.good_params.ensures c.if-not-good_params.false c.lengths_fit.ensures

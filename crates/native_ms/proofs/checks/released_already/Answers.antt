@@ -7,10 +7,10 @@ pub is_holder-requires : goal.is_holder-requires
 is_holder-requires c = tt
 
 pub returns-then-not-is_holder : goal.returns-then-not-is_holder
-returns-then-not-is_holder c = already_none _ _ c.is_holder.ensures (not-true _ c.if-not-is_holder.true)
+returns-then-not-is_holder c = already_none _ _ c.is_holder.ensures c.if-not-is_holder.true
 
 pub has_released-requires : goal.has_released-requires
 has_released-requires c = tt
 
 pub returns : goal.returns
-returns c = already_holder _ _ c.is_holder.ensures (not-false _ c.if-not-is_holder.false) c.has_released.ensures
+returns c = already_holder _ _ c.is_holder.ensures c.if-not-is_holder.false c.has_released.ensures

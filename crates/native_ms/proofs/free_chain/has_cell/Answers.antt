@@ -5,7 +5,7 @@ use borrow.Author.Rules.{rules}
 use Rattle.native_ms.proofs.free_chain.has_cell.Goals as goal
 
 pub returns-then-not-good_params : goal.returns-then-not-good_params
-returns-then-not-good_params c = rw (sym c.good_params.ensures ∙ not-true _ c.if-not-good_params.true)
+returns-then-not-good_params c = rw (sym c.good_params.ensures ∙ c.if-not-good_params.true)
 
 pub returns : goal.returns
-returns c = rw (c.cell_count-count.ensures, sym c.good_params.ensures ∙ not-false _ c.if-not-good_params.false)
+returns c = rw (c.cell_count-count.ensures, sym c.good_params.ensures ∙ c.if-not-good_params.false)

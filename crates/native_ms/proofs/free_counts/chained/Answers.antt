@@ -17,10 +17,10 @@ block_chained-requires c = c.requires
 
 pub returns-then-not-block_chained : goal.returns-then-not-block_chained
 unfolding chained state_of
-returns-then-not-block_chained c = λ m. sym (all_stop _ _ c.loop-left-test.true (sym c.block_chained.ensures ∙ not-true _ c.if-not-block_chained.true)) ∙ c.loop-left.invariant
+returns-then-not-block_chained c = λ m. sym (all_stop _ _ c.loop-left-test.true (sym c.block_chained.ensures ∙ c.if-not-block_chained.true)) ∙ c.loop-left.invariant
 
 pub loop-left-preserved : goal.loop-left-preserved
-loop-left-preserved c = all_step _ _ c.loop-left-test.true (sym c.block_chained.ensures ∙ not-false _ c.if-not-block_chained.false) ∙ c.loop-left.invariant
+loop-left-preserved c = all_step _ _ c.loop-left-test.true (sym c.block_chained.ensures ∙ c.if-not-block_chained.false) ∙ c.loop-left.invariant
 
 pub returns : goal.returns
 unfolding chained state_of

@@ -9,19 +9,19 @@ check_lent-requires c = tt
 
 pub returns-then-bin-lt1 : goal.returns-then-bin-lt1
 unfolding cellsReply
-returns-then-bin-lt1 c = ask_low c.args.p _ _ _ _ _ c.check_lent.ensures c.enum_told-1.given.1 c.if-bin-lt1.true
+returns-then-bin-lt1 c = ask_low c.args.p _ _ _ _ _ c.check_lent.ensures c.in-Passed.is c.if-bin-lt1.true
 
 pub returns-then-bin-ge-BINS : goal.returns-then-bin-ge-BINS
 unfolding cellsReply
-returns-then-bin-ge-BINS c = ask_high c.args.p _ _ _ _ _ c.check_lent.ensures c.enum_told-1.given.1 c.if-bin-lt1.false c.if-bin-ge-BINS.true
+returns-then-bin-ge-BINS c = ask_high c.args.p _ _ _ _ _ c.check_lent.ensures c.in-Passed.is c.if-bin-lt1.false c.if-bin-ge-BINS.true
 
 pub cells_of-requires : goal.cells_of-requires
-cells_of-requires c = (ask_good c.args.p _ _ _ _ c.args.bin c.check_lent.ensures c.enum_told-1.given.1, ask_few c.args.p _ _ _ _ c.args.bin c.check_lent.ensures c.enum_told-1.given.1)
+cells_of-requires c = (ask_good c.args.p _ _ _ _ c.args.bin c.check_lent.ensures c.in-Passed.is, ask_few c.args.p _ _ _ _ c.args.bin c.check_lent.ensures c.in-Passed.is)
 
 pub returns-in-Refused : goal.returns-in-Refused
 unfolding cellsReply
-returns-in-Refused c = ask_refused c.args.p _ _ _ _ _ c.check_lent.ensures c.r-1.given.1
+returns-in-Refused c = ask_refused c.args.p _ _ _ _ _ c.check_lent.ensures c.in-Refused.is
 
 pub returns-else-bin-ge-BINS : goal.returns-else-bin-ge-BINS
 unfolding cellsReply
-returns-else-bin-ge-BINS c = ask_answers c.args.p _ _ _ _ _ c.check_lent.ensures c.enum_told-1.given.1 c.if-bin-lt1.false c.if-bin-ge-BINS.false c.cells_of.ensures
+returns-else-bin-ge-BINS c = ask_answers c.args.p _ _ _ _ _ c.check_lent.ensures c.in-Passed.is c.if-bin-lt1.false c.if-bin-ge-BINS.false c.cells_of.ensures

@@ -19,19 +19,19 @@ pub push-requires : goal.push-requires
 push-requires c = (c.requires.0.good, c.available-avail.ensures.low)
 
 pub init_block-requires : goal.init_block-requires
-init_block-requires c = (standing_on _ c.requires.0 c.push.auto.1.0, omega (arith, c.cell_bytes-size.ensures, c.requires.4.word))
+init_block-requires c = (standing_on _ c.requires.0 c.push.auto.w, omega (arith, c.cell_bytes-size.ensures, c.requires.4.word))
 
 pub set_state-requires : goal.set_state-requires
 set_state-requires c = tt
 
 pub shape_of-words : goal.shape_of-words
-shape_of-words c = c.init_block.auto.1.0 ∙ c.push.auto.1.0
+shape_of-words c = c.init_block.auto.words ∙ c.push.auto.w
 
 pub shape_of-states : goal.shape_of-states
-shape_of-states c = c.set_state.auto.0
+shape_of-states c = c.set_state.auto.st
 
 pub shape_of-heap : goal.shape_of-heap
-shape_of-heap c = c.init_block.auto.1.1.0
+shape_of-heap c = c.init_block.auto.heap
 
 pub returns : goal.returns
 returns c = freshened _ _ _ _ _ _ _ c.local_sets-owner.ensures c.available-avail.ensures.same c.cell_bytes-size.ensures c.push.ensures c.init_block.ensures c.set_state.ensures

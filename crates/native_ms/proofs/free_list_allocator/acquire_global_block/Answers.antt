@@ -13,13 +13,13 @@ pub returns-then-start-ne0 : goal.returns-then-start-ne0
 returns-then-start-ne0 c = global_found c.args.p c.args.wanted.holder c.args.wanted.bin c.args.before (view c.args.words.now) c.args.states.now c.args.marks.now c.args.heap.now c.acquire_abandoned-found.ensures c.args.wanted.offer c.if-start-ne0.true
 
 pub acquire_fresh-requires : goal.acquire_fresh-requires
-acquire_fresh-requires c = (known_standing _ _ c.requires.0 c.acquire_abandoned-found.auto.1.0 c.acquire_abandoned-found.auto.1.1.1.0 (c.requires.5.block _ c.offer-1.given.1), c.requires.1, c.requires.2, c.requires.3, c.requires.5.class)
+acquire_fresh-requires c = (known_standing _ _ c.requires.0 c.acquire_abandoned-found.auto.words c.acquire_abandoned-found.auto.heap (c.requires.5.block _ c.in-Fresh.is), c.requires.1, c.requires.2, c.requires.3, c.requires.5.class)
 
 pub start-offered-requires : goal.start-offered-requires
 start-offered-requires c = c.requires.0.good
 
 pub returns-in-Nothing : goal.returns-in-Nothing
-returns-in-Nothing c = global_none c.args.p c.args.wanted.holder c.args.wanted.bin c.args.before (view c.args.words.now) c.args.states.now c.args.marks.now c.args.heap.now c.acquire_abandoned-found.ensures c.if-start-ne0.false c.args.wanted.offer c.enum_told-1.given.1
+returns-in-Nothing c = global_none c.args.p c.args.wanted.holder c.args.wanted.bin c.args.before (view c.args.words.now) c.args.states.now c.args.marks.now c.args.heap.now c.acquire_abandoned-found.ensures c.if-start-ne0.false c.args.wanted.offer c.in-Nothing.is
 
 pub returns-in-Fresh : goal.returns-in-Fresh
-returns-in-Fresh c = global_fresh c.args.p c.args.wanted.holder c.args.wanted.bin c.args.before (view c.args.words.now) c.args.states.now c.args.marks.now c.args.heap.now c.acquire_abandoned-found.ensures c.if-start-ne0.false c.args.wanted.offer _ c.offer-1.given.1 c.acquire_fresh.ensures c.start-offered.ensures
+returns-in-Fresh c = global_fresh c.args.p c.args.wanted.holder c.args.wanted.bin c.args.before (view c.args.words.now) c.args.states.now c.args.marks.now c.args.heap.now c.acquire_abandoned-found.ensures c.if-start-ne0.false c.args.wanted.offer _ c.in-Fresh.is c.acquire_fresh.ensures c.start-offered.ensures

@@ -39,7 +39,7 @@ pub push-requires : goal.push-requires
 push-requires c = (c.requires.0, c.requires.2)
 
 pub loop-left-preserved : goal.loop-left-preserved
-loop-left-preserved c = (c.push.auto.1.0 ∙ c.pop.auto.1.0 ∙ c.loop-left.invariant.0, skim_step _ _ _ _ c.first-first.ensures c.if-first-eq0.false c.block_at-b.ensures c.free-cell.ensures _ c.loop-left-test.true c.if-cell-ne0.false c.pop.ensures c.push.ensures ∙ c.loop-left.invariant.1)
+loop-left-preserved c = (c.push.auto.w ∙ c.pop.auto.w ∙ c.loop-left.invariant.0, skim_step _ _ _ _ c.first-first.ensures c.if-first-eq0.false c.block_at-b.ensures c.free-cell.ensures _ c.loop-left-test.true c.if-cell-ne0.false c.pop.ensures c.push.ensures ∙ c.loop-left.invariant.1)
 
 pub shape_of-words : goal.shape_of-words
 shape_of-words c = c.loop-left.invariant.0

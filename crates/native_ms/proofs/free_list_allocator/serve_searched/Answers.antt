@@ -19,7 +19,7 @@ pub block_at-b-requires : goal.block_at-b-requires
 block_at-b-requires c = c.requires.0.good
 
 pub block_alloc-taken-requires : goal.block_alloc-taken-requires
-block_alloc-taken-requires c = (c.requires.0.good, c.find_block-search.auto.1.0 ∙ c.requires.1.count)
+block_alloc-taken-requires c = (c.requires.0.good, c.find_block-search.auto.words ∙ c.requires.1.count)
 
 pub align_allocation-address-requires : goal.align_allocation-address-requires
 align_allocation-address-requires c = (c.requires.0.shift.align_from, c.requires.0.shift.align_to, cell_low c.args.p c.args.wanted.holder c.args.wanted.bin c.args.wanted.offer (view c.args.words.now) c.args.states.now c.args.heap.now _ c.requires.0.good c.requires.0.heads c.find_block-search.ensures c.block_alloc-taken.ensures, c.requires.0.shift.offset_low)

@@ -23,7 +23,7 @@ pub set_tls-requires : goal.set_tls-requires
 set_tls-requires c = tt
 
 pub sweep-requires : goal.sweep-requires
-sweep-requires c = known_on _ c.requires.0 c.set_tls.auto.0 refl
+sweep-requires c = known_on _ c.requires.0 c.set_tls.auto.w refl
 
 pub file_block-requires : goal.file_block-requires
 file_block-requires c = (c.requires.0.good, c.available-avail.ensures.low, c.consumed-full.ensures.low)

@@ -24,7 +24,7 @@ pub loop-bin-smaller : goal.loop-bin-smaller
 loop-bin-smaller c = omega (arith, c.loop-bin-test.true)
 
 pub loop-bin-preserved : goal.loop-bin-preserved
-loop-bin-preserved c = (c.abandon_bin-count.auto.1.0 ∙ c.loop-bin.invariant.0, omega (arith, c.loop-bin-test.true), omega (arith, c.loop-bin.invariant.2, over_few _ _ _ _ _ (good_bounds c.args.p c.requires.0).blocks_high c.abandon_bin-count.ensures), over_more _ _ _ _ _ c.loop-bin.invariant.3 c.abandon_bin-count.ensures)
+loop-bin-preserved c = (c.abandon_bin-count.auto.w ∙ c.loop-bin.invariant.0, omega (arith, c.loop-bin-test.true), omega (arith, c.loop-bin.invariant.2, over_few _ _ _ _ _ (good_bounds c.args.p c.requires.0).blocks_high c.abandon_bin-count.ensures), over_more _ _ _ _ _ c.loop-bin.invariant.3 c.abandon_bin-count.ensures)
 
 pub shape_of-w : goal.shape_of-w
 shape_of-w c = c.loop-bin.invariant.0

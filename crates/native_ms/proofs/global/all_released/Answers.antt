@@ -12,10 +12,10 @@ pub loop-left-init : goal.loop-left-init
 loop-left-init c = refl
 
 pub returns-then-not-not_due : goal.returns-then-not-not_due
-returns-then-not-not_due c = all_due _ (sym c.loop-left.invariant ∙ all_stop _ _ c.loop-left-test.true (due_at _ _ c.loop-left-test.true c.not_due.ensures ∙ (not-true _ c.if-not-not_due.true)))
+returns-then-not-not_due c = all_due _ (sym c.loop-left.invariant ∙ all_stop _ _ c.loop-left-test.true (due_at _ _ c.loop-left-test.true c.not_due.ensures ∙ c.if-not-not_due.true))
 
 pub loop-left-preserved : goal.loop-left-preserved
-loop-left-preserved c = all_step _ _ c.loop-left-test.true (due_at _ _ c.loop-left-test.true c.not_due.ensures ∙ (not-false _ c.if-not-not_due.false)) ∙ c.loop-left.invariant
+loop-left-preserved c = all_step _ _ c.loop-left-test.true (due_at _ _ c.loop-left-test.true c.not_due.ensures ∙ c.if-not-not_due.false) ∙ c.loop-left.invariant
 
 pub returns : goal.returns
 returns c = none_due _ (sym c.loop-left.invariant ∙ all_end _ _ c.loop-left-test.false) c.has_released.ensures

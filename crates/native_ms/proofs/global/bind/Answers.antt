@@ -12,7 +12,7 @@ do_bind-requires c = tt
 
 pub returns-in-Refused : goal.returns-in-Refused
 unfolding replyOf
-returns-in-Refused c = lent_refused c.args.p _ _ _ _ _ c.check_lent.ensures c.r-1.given.1
+returns-in-Refused c = lent_refused c.args.p _ _ _ _ _ c.check_lent.ensures c.in-Refused.is
 
 pub returns-in-Passed : goal.returns-in-Passed
-returns-in-Passed c = lent_passed c.args.p _ _ _ _ _ c.check_lent.ensures c.enum_told-1.given.1 c.do_bind.auto.0 (c.do_bind.ensures _ _ _ _)
+returns-in-Passed c = lent_passed c.args.p _ _ _ _ _ c.check_lent.ensures c.in-Passed.is c.do_bind.auto.w (c.do_bind.ensures _ _ _ _)

@@ -20,7 +20,7 @@ pub loop-i-smaller : goal.loop-i-smaller
 loop-i-smaller c = omega (arith, c.loop-i-test.true)
 
 pub loop-i-preserved : goal.loop-i-preserved
-loop-i-preserved c = (c.set_released.auto.0 ∙ c.loop-i.invariant.0, omega (arith, c.loop-i-test.true), unreleased_more _ _ c.loop-i.invariant.2 (put_released_lem _ _ _ c.set_released.ensures))
+loop-i-preserved c = (c.set_released.auto.w ∙ c.loop-i.invariant.0, omega (arith, c.loop-i-test.true), unreleased_more _ _ c.loop-i.invariant.2 (put_released_lem _ _ _ c.set_released.ensures))
 
 pub shape_of-w : goal.shape_of-w
 shape_of-w c = c.loop-i.invariant.0

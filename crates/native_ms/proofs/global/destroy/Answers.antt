@@ -9,11 +9,11 @@ pub check_lent-requires : goal.check_lent-requires
 check_lent-requires c = tt
 
 pub do_destroy-requires : goal.do_destroy-requires
-do_destroy-requires c = open_good c.args.p _ _ _ _ (sym c.check_lent.ensures ∙ c.enum_told-1.given.1)
+do_destroy-requires c = open_good c.args.p _ _ _ _ (sym c.check_lent.ensures ∙ c.in-Passed.is)
 
 pub returns-in-Refused : goal.returns-in-Refused
 unfolding destroyReply
-returns-in-Refused c = lent_refused c.args.p _ _ _ _ _ c.check_lent.ensures c.r-1.given.1
+returns-in-Refused c = lent_refused c.args.p _ _ _ _ _ c.check_lent.ensures c.in-Refused.is
 
 pub returns-in-Passed : goal.returns-in-Passed
-returns-in-Passed c = lent_passed c.args.p _ _ _ _ _ c.check_lent.ensures c.enum_told-1.given.1 c.do_destroy.auto.1.0 (c.do_destroy.ensures _ _ _)
+returns-in-Passed c = lent_passed c.args.p _ _ _ _ _ c.check_lent.ensures c.in-Passed.is c.do_destroy.auto.w (c.do_destroy.ensures _ _ _)

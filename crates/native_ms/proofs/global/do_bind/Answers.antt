@@ -9,15 +9,15 @@ pub check_bind-requires : goal.check_bind-requires
 check_bind-requires c = tt
 
 pub overflow_sub-holder : goal.overflow_sub-holder
-overflow_sub-holder c = bind_low _ _ c.check_bind.ensures c.enum_told-1.given.1
+overflow_sub-holder c = bind_low _ _ c.check_bind.ensures c.in-Passed.is
 
 pub set_bound-requires : goal.set_bound-requires
 set_bound-requires c = tt
 
 pub returns-in-Refused : goal.returns-in-Refused
 unfolding replyOf
-returns-in-Refused c = bind_refused _ _ c.check_bind.ensures c.r-1.given.1
+returns-in-Refused c = bind_refused _ _ c.check_bind.ensures c.in-Refused.is
 
 pub returns-in-Passed : goal.returns-in-Passed
 unfolding replyOf
-returns-in-Passed c = bind_done _ _ c.check_bind.ensures c.enum_told-1.given.1 (put_bound_lem _ _ _ c.set_bound.ensures)
+returns-in-Passed c = bind_done _ _ c.check_bind.ensures c.in-Passed.is (put_bound_lem _ _ _ c.set_bound.ensures)

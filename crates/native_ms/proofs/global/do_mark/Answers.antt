@@ -13,15 +13,15 @@ is_marked-requires c = c.requires
 
 pub returns-then-is_marked : goal.returns-then-is_marked
 unfolding markReply flag
-returns-then-is_marked c = mark_old _ _ _ _ _ _ c.check_mark.ensures c.enum_told-1.given.1 c.is_marked.ensures c.if-is_marked.true
+returns-then-is_marked c = mark_old _ _ _ _ _ _ c.check_mark.ensures c.in-Passed.is c.is_marked.ensures c.if-is_marked.true
 
 pub set_state-requires : goal.set_state-requires
 set_state-requires c = tt
 
 pub returns-in-Refused : goal.returns-in-Refused
 unfolding markReply
-returns-in-Refused c = mark_refused _ _ _ _ _ _ c.check_mark.ensures c.r-1.given.1
+returns-in-Refused c = mark_refused _ _ _ _ _ _ c.check_mark.ensures c.in-Refused.is
 
 pub returns-else-is_marked : goal.returns-else-is_marked
 unfolding markReply flag
-returns-else-is_marked c = mark_new _ _ _ _ _ _ c.check_mark.ensures c.enum_told-1.given.1 c.is_marked.ensures c.if-is_marked.false c.set_state.ensures c.set_mark.ensures
+returns-else-is_marked c = mark_new _ _ _ _ _ _ c.check_mark.ensures c.in-Passed.is c.is_marked.ensures c.if-is_marked.false c.set_state.ensures c.set_mark.ensures

@@ -19,8 +19,8 @@ clear_all-requires c = tt
 
 pub returns-in-Refused : goal.returns-in-Refused
 unfolding replyOf
-returns-in-Refused c = prepare_refused _ _ _ c.check_phase.ensures c.r-1.given.1
+returns-in-Refused c = prepare_refused _ _ _ c.check_phase.ensures c.in-Refused.is
 
 pub returns-in-Passed : goal.returns-in-Passed
 unfolding replyOf
-returns-in-Passed c = prepare_done _ _ _ c.check_phase.ensures c.enum_told-1.given.1 (c.requires) (λ h. put_phase_lem _ _ h c.set_phase.ensures) c.unmark_blocks.ensures c.clear_all.ensures
+returns-in-Passed c = prepare_done _ _ _ c.check_phase.ensures c.in-Passed.is (c.requires) (λ h. put_phase_lem _ _ h c.set_phase.ensures) c.unmark_blocks.ensures c.clear_all.ensures

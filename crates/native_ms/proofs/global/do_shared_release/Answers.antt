@@ -14,24 +14,24 @@ pub sweep_later-released-requires : goal.sweep_later-released-requires
 sweep_later-released-requires c = c.requires.good
 
 pub eagerly-swept-requires : goal.eagerly-swept-requires
-eagerly-swept-requires c = (known_on _ (c.requires) c.sweep_later-released.auto.1.0 refl, omega arith)
+eagerly-swept-requires c = (known_on _ (c.requires) c.sweep_later-released.auto.w refl, omega arith)
 
 pub part_released-merged-requires : goal.part_released-merged-requires
-part_released-merged-requires c = (c.requires.good, omega (arith, words_known _ c.requires.count, c.sweep_later-released.auto.1.0, c.eagerly-swept.auto.1.0))
+part_released-merged-requires c = (c.requires.good, omega (arith, words_known _ c.requires.count, c.sweep_later-released.auto.w, c.eagerly-swept.auto.w))
 
 pub returns-in-Refused : goal.returns-in-Refused
 unfolding releaseReply
-returns-in-Refused c = shared_refused _ _ _ c.check_shared_release.ensures c.r-1.given.1 _ _
+returns-in-Refused c = shared_refused _ _ _ c.check_shared_release.ensures c.in-Refused.is _ _
 
 pub shape_of-w-in-Passed : goal.shape_of-w-in-Passed
-shape_of-w-in-Passed c = c.part_released-merged.auto.1.0 ∙ c.eagerly-swept.auto.1.0 ∙ c.sweep_later-released.auto.1.0
+shape_of-w-in-Passed c = c.part_released-merged.auto.w ∙ c.eagerly-swept.auto.w ∙ c.sweep_later-released.auto.w
 
 pub shape_of-st : goal.shape_of-st
-shape_of-st c = c.sweep_later-released.auto.1.1.0
+shape_of-st c = c.sweep_later-released.auto.st
 
 pub shape_of-heap : goal.shape_of-heap
-shape_of-heap c = c.eagerly-swept.auto.1.1.1.1.0
+shape_of-heap c = c.eagerly-swept.auto.heap
 
 pub returns-in-Passed : goal.returns-in-Passed
 unfolding releaseReply
-returns-in-Passed c = shared_done _ _ _ c.check_shared_release.ensures _ _ c.enum_told-1.given.1 c.sweep_later-released.ensures c.eagerly-swept.ensures c.part_released-merged.ensures
+returns-in-Passed c = shared_done _ _ _ c.check_shared_release.ensures _ _ c.in-Passed.is c.sweep_later-released.ensures c.eagerly-swept.ensures c.part_released-merged.ensures

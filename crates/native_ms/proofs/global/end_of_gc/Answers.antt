@@ -9,13 +9,13 @@ pub merge-merged-requires : goal.merge-merged-requires
 merge-merged-requires c = c.requires.0
 
 pub clear_released-requires : goal.clear_released-requires
-clear_released-requires c = omega (arith, c.requires.1, c.merge-merged.auto.1.0)
+clear_released-requires c = omega (arith, c.requires.1, c.merge-merged.auto.w)
 
 pub set_phase-requires : goal.set_phase-requires
 set_phase-requires c = tt
 
 pub shape_of-w : goal.shape_of-w
-shape_of-w c = c.set_phase.auto.0 ∙ c.clear_released.auto.0 ∙ c.merge-merged.auto.1.0
+shape_of-w c = c.set_phase.auto.w ∙ c.clear_released.auto.w ∙ c.merge-merged.auto.w
 
 pub returns : goal.returns
-returns c = end_moves_lem _ _ c.merge-merged.ensures c.clear_released.ensures (put_phase_lem _ _ (omega (arith, c.requires.1, c.merge-merged.auto.1.0, c.clear_released.auto.0)) c.set_phase.ensures)
+returns c = end_moves_lem _ _ c.merge-merged.ensures c.clear_released.ensures (put_phase_lem _ _ (omega (arith, c.requires.1, c.merge-merged.auto.w, c.clear_released.auto.w)) c.set_phase.ensures)

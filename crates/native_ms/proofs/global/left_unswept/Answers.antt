@@ -10,7 +10,7 @@ pub append-requires : goal.append-requires
 append-requires c = c.requires
 
 pub shape_of-w : goal.shape_of-w
-shape_of-w c = c.append.auto.1.0
+shape_of-w c = c.append.auto.p
 
 pub returns : goal.returns
 returns c = waits_append _ _ _ _ c.if-p.false (moves_words _ _ _ _ c.append.ensures)

@@ -15,16 +15,16 @@ pub all_released-done-requires : goal.all_released-done-requires
 all_released-done-requires c = tt
 
 pub end_of_gc-requires : goal.end_of_gc-requires
-end_of_gc-requires c = (c.requires.0, omega (arith, c.requires.1, c.set_released.auto.0, c.set_phase.auto.0))
+end_of_gc-requires c = (c.requires.0, omega (arith, c.requires.1, c.set_released.auto.w, c.set_phase.auto.w))
 
 pub shape_of-w-then-done : goal.shape_of-w-then-done
-shape_of-w-then-done c = c.end_of_gc.auto.1.0 ∙ c.set_released.auto.0 ∙ c.set_phase.auto.0
+shape_of-w-then-done c = c.end_of_gc.auto.w ∙ c.set_released.auto.w ∙ c.set_phase.auto.w
 
 pub returns-then-done : goal.returns-then-done
 returns-then-done c = part_last _ _ _ (put_phase_lem _ _ (omega (arith, c.requires.1)) c.set_phase.ensures) (put_released_lem _ _ _ c.set_released.ensures) c.all_released-done.ensures c.if-done.true c.end_of_gc.ensures
 
 pub shape_of-w : goal.shape_of-w
-shape_of-w c = c.set_released.auto.0 ∙ c.set_phase.auto.0
+shape_of-w c = c.set_released.auto.w ∙ c.set_phase.auto.w
 
 pub returns : goal.returns
 returns c = part_due _ _ _ (put_phase_lem _ _ (omega (arith, c.requires.1)) c.set_phase.ensures) (put_released_lem _ _ _ c.set_released.ensures) c.all_released-done.ensures c.if-done.false

@@ -21,10 +21,10 @@ pub overflow_add-result : goal.overflow_add-result
 overflow_add-result c = two_fit (blocks_low c.args.p c.requires.0 _ _ _ _ c.release_blocks-free.ensures) (blocks_low c.args.p c.requires.0 _ _ _ _ c.release_blocks-full.ensures)
 
 pub shape_of-w : goal.shape_of-w
-shape_of-w c = c.left_unswept-2.auto.1.0 ∙ c.release_blocks-full.auto.1.0 ∙ c.left_unswept.auto.1.0 ∙ c.release_blocks-free.auto.1.0
+shape_of-w c = c.left_unswept-2.auto.w ∙ c.release_blocks-full.auto.w ∙ c.left_unswept.auto.w ∙ c.release_blocks-free.auto.w
 
 pub shape_of-st : goal.shape_of-st
-shape_of-st c = c.release_blocks-full.auto.1.1.0 ∙ c.release_blocks-free.auto.1.1.0
+shape_of-st c = c.release_blocks-full.auto.st ∙ c.release_blocks-free.auto.st
 
 pub returns : goal.returns
 returns c = bin_total c.args.p c.args.owner c.args.bin (view c.args.w.now) c.args.st.now c.available-available.ensures.same c.unswept-unswept.ensures.same c.consumed-consumed.ensures.same c.release_blocks-free.ensures c.left_unswept.ensures c.release_blocks-full.ensures c.left_unswept-2.ensures

@@ -41,7 +41,7 @@ pub overflow_sub-more : goal.overflow_sub-more
 overflow_sub-more c = c.loop-more-test.true
 
 pub loop-more-preserved : goal.loop-more-preserved
-loop-more-preserved c = (c.attempt_release-released.auto.1.0 ∙ c.loop-more.invariant.0, c.attempt_release-released.auto.1.1.0 ∙ c.loop-more.invariant.1, omega (arith, c.loop-more.invariant.2, c.loop-more-test.true, attempt_few _ _ _ _ _ c.attempt_release-released.ensures), from_step _ _ _ _ _ _ _ c.loop-more-test.true c.if-link-eq0.false c.block_at-b.ensures c.next-link.ensures c.attempt_release-released.ensures ∙ c.loop-more.invariant.3)
+loop-more-preserved c = (c.attempt_release-released.auto.w ∙ c.loop-more.invariant.0, c.attempt_release-released.auto.st ∙ c.loop-more.invariant.1, omega (arith, c.loop-more.invariant.2, c.loop-more-test.true, attempt_few _ _ _ _ _ c.attempt_release-released.ensures), from_step _ _ _ _ _ _ _ c.loop-more-test.true c.if-link-eq0.false c.block_at-b.ensures c.next-link.ensures c.attempt_release-released.ensures ∙ c.loop-more.invariant.3)
 
 pub shape_of-w : goal.shape_of-w
 shape_of-w c = c.loop-more.invariant.0

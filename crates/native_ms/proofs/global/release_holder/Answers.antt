@@ -16,10 +16,10 @@ pub abandon_blocks-requires : goal.abandon_blocks-requires
 abandon_blocks-requires c = (c.requires.0, omega arith, sets_low _ c.requires.2 c.local_sets-owner.ensures)
 
 pub shape_of-w : goal.shape_of-w
-shape_of-w c = c.abandon_blocks.auto.1.0 ∙ c.release_bins-released.auto.1.0
+shape_of-w c = c.abandon_blocks.auto.w ∙ c.release_bins-released.auto.w
 
 pub shape_of-st : goal.shape_of-st
-shape_of-st c = c.release_bins-released.auto.1.1.0
+shape_of-st c = c.release_bins-released.auto.st
 
 pub returns : goal.returns
 returns c = holder_total _ _ _ _ c.local_sets-owner.ensures c.release_bins-released.ensures (over_words _ _ _ _ c.abandon_blocks.ensures)

@@ -11,14 +11,14 @@ lent_fits-requires c = tt
 
 pub returns-then-not-lent_fits : goal.returns-then-not-lent_fits
 unfolding replyOf
-returns-then-not-lent_fits c = bad_set_up _ _ _ _ _ c.lent_fits.ensures (not-true _ c.if-not-lent_fits.true)
+returns-then-not-lent_fits c = bad_set_up _ _ _ _ _ c.lent_fits.ensures c.if-not-lent_fits.true
 
 pub classes_fit-requires : goal.classes_fit-requires
-classes_fit-requires c = (fit_parts _ _ _ _ _ c.lent_fits.ensures (not-false _ c.if-not-lent_fits.false)).good
+classes_fit-requires c = (fit_parts _ _ _ _ _ c.lent_fits.ensures c.if-not-lent_fits.false).good
 
 pub returns-then-not-classes_fit : goal.returns-then-not-classes_fit
 unfolding replyOf
-returns-then-not-classes_fit c = bad_rows _ _ _ _ _ c.lent_fits.ensures (not-false _ c.if-not-lent_fits.false) c.classes_fit.ensures (not-true _ c.if-not-classes_fit.true)
+returns-then-not-classes_fit c = bad_rows _ _ _ _ _ c.lent_fits.ensures c.if-not-lent_fits.false c.classes_fit.ensures c.if-not-classes_fit.true
 
 pub clear_words-requires : goal.clear_words-requires
 clear_words-requires c = tt
@@ -31,4 +31,4 @@ clear_all-requires-2 c = tt
 
 pub returns : goal.returns
 unfolding replyOf
-returns c = set_up_done _ _ _ _ _ c.lent_fits.ensures (not-false _ c.if-not-lent_fits.false) c.classes_fit.ensures (not-false _ c.if-not-classes_fit.false) c.clear_words.ensures c.clear_all.ensures c.clear_all-2.ensures
+returns c = set_up_done _ _ _ _ _ c.lent_fits.ensures c.if-not-lent_fits.false c.classes_fit.ensures c.if-not-classes_fit.false c.clear_words.ensures c.clear_all.ensures c.clear_all-2.ensures

@@ -9,11 +9,11 @@ pub check_lent-requires : goal.check_lent-requires
 check_lent-requires c = tt
 
 pub do_shared_release-requires : goal.do_shared_release-requires
-do_shared_release-requires c = open_known c.args.p _ _ _ _ (sym c.check_lent.ensures ∙ c.enum_told-1.given.1)
+do_shared_release-requires c = open_known c.args.p _ _ _ _ (sym c.check_lent.ensures ∙ c.in-Passed.is)
 
 pub returns-in-Refused : goal.returns-in-Refused
 unfolding releaseReply
-returns-in-Refused c = lent_refused c.args.p _ _ _ _ _ c.check_lent.ensures c.r-1.given.1
+returns-in-Refused c = lent_refused c.args.p _ _ _ _ _ c.check_lent.ensures c.in-Refused.is
 
 pub returns-in-Passed : goal.returns-in-Passed
-returns-in-Passed c = lent_passed c.args.p _ _ _ _ _ c.check_lent.ensures c.enum_told-1.given.1 c.do_shared_release.auto.1.0 c.do_shared_release.ensures
+returns-in-Passed c = lent_passed c.args.p _ _ _ _ _ c.check_lent.ensures c.in-Passed.is c.do_shared_release.auto.w c.do_shared_release.ensures

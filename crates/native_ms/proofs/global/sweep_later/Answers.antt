@@ -24,7 +24,7 @@ pub loop-bin-smaller : goal.loop-bin-smaller
 loop-bin-smaller c = omega (arith, c.loop-bin-test.true)
 
 pub loop-bin-preserved : goal.loop-bin-preserved
-loop-bin-preserved c = (c.sweep_later_bin-released.auto.1.0 ∙ c.loop-bin.invariant.0, c.sweep_later_bin-released.auto.1.1.0 ∙ c.loop-bin.invariant.1, omega (arith, c.loop-bin-test.true), omega (arith, c.loop-bin.invariant.3, later_few _ _ _ _ (good_bounds c.args.p (c.requires)).blocks_high c.sweep_later_bin-released.ensures), later_more _ _ _ _ c.loop-bin.invariant.4 c.sweep_later_bin-released.ensures)
+loop-bin-preserved c = (c.sweep_later_bin-released.auto.w ∙ c.loop-bin.invariant.0, c.sweep_later_bin-released.auto.st ∙ c.loop-bin.invariant.1, omega (arith, c.loop-bin-test.true), omega (arith, c.loop-bin.invariant.3, later_few _ _ _ _ (good_bounds c.args.p (c.requires)).blocks_high c.sweep_later_bin-released.ensures), later_more _ _ _ _ c.loop-bin.invariant.4 c.sweep_later_bin-released.ensures)
 
 pub shape_of-w : goal.shape_of-w
 shape_of-w c = c.loop-bin.invariant.0

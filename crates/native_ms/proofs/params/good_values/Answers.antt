@@ -7,22 +7,22 @@ use borrow.Author.Rules.{rules}
 use Rattle.native_ms.proofs.params.good_values.Goals as goal
 
 pub returns-then-not-good_min : goal.returns-then-not-good_min
-returns-then-not-good_min c = good_min_off _ c.good_min.ensures (not-true _ c.if-not-good_min.true)
+returns-then-not-good_min c = good_min_off _ c.good_min.ensures c.if-not-good_min.true
 
 pub returns-then-not-power_between : goal.returns-then-not-power_between
-returns-then-not-power_between c = good_max_off _ c.good_min.ensures (not-false _ c.if-not-good_min.false) c.power_between.ensures (not-true _ c.if-not-power_between.true)
+returns-then-not-power_between c = good_max_off _ c.good_min.ensures c.if-not-good_min.false c.power_between.ensures c.if-not-power_between.true
 
 pub returns-then-not-good_lower : goal.returns-then-not-good_lower
-returns-then-not-good_lower c = good_lower_off _ c.good_min.ensures (not-false _ c.if-not-good_min.false) c.power_between.ensures (not-false _ c.if-not-power_between.false) (lower_back c.args.p.unified (to_z-of_z (record { sfits = c.struct_told-1.given.1.1.1.1.1.1.1.0.1 })) c.good_lower.ensures) (not-true _ c.if-not-good_lower.true)
+returns-then-not-good_lower c = good_lower_off _ c.good_min.ensures c.if-not-good_min.false c.power_between.ensures c.if-not-power_between.false (lower_back c.args.p.unified (to_z-of_z (record { sfits = c.struct_told-1.given.1.1.1.1.1.1.1.0.1 })) c.good_lower.ensures) c.if-not-good_lower.true
 
 pub returns-then-not-power_between-2 : goal.returns-then-not-power_between-2
-returns-then-not-power_between-2 c = good_bytes_off _ c.good_min.ensures (not-false _ c.if-not-good_min.false) c.power_between.ensures (not-false _ c.if-not-power_between.false) (lower_back c.args.p.unified (to_z-of_z (record { sfits = c.struct_told-1.given.1.1.1.1.1.1.1.0.1 })) c.good_lower.ensures) (not-false _ c.if-not-good_lower.false) c.power_between-2.ensures (not-true _ c.if-not-power_between-2.true)
+returns-then-not-power_between-2 c = good_bytes_off _ c.good_min.ensures c.if-not-good_min.false c.power_between.ensures c.if-not-power_between.false (lower_back c.args.p.unified (to_z-of_z (record { sfits = c.struct_told-1.given.1.1.1.1.1.1.1.0.1 })) c.good_lower.ensures) c.if-not-good_lower.false c.power_between-2.ensures c.if-not-power_between-2.true
 
 pub returns-then-not-good_blocks : goal.returns-then-not-good_blocks
-returns-then-not-good_blocks c = good_blocks_off _ c.good_min.ensures (not-false _ c.if-not-good_min.false) c.power_between.ensures (not-false _ c.if-not-power_between.false) (lower_back c.args.p.unified (to_z-of_z (record { sfits = c.struct_told-1.given.1.1.1.1.1.1.1.0.1 })) c.good_lower.ensures) (not-false _ c.if-not-good_lower.false) c.power_between-2.ensures (not-false _ c.if-not-power_between-2.false) c.good_blocks.ensures (not-true _ c.if-not-good_blocks.true)
+returns-then-not-good_blocks c = good_blocks_off _ c.good_min.ensures c.if-not-good_min.false c.power_between.ensures c.if-not-power_between.false (lower_back c.args.p.unified (to_z-of_z (record { sfits = c.struct_told-1.given.1.1.1.1.1.1.1.0.1 })) c.good_lower.ensures) c.if-not-good_lower.false c.power_between-2.ensures c.if-not-power_between-2.false c.good_blocks.ensures c.if-not-good_blocks.true
 
 pub good_base-requires : goal.good_base-requires
-good_base-requires c = ((bytes_bounds c.args.p c.power_between-2.ensures (not-false _ c.if-not-power_between-2.false)).0, (bytes_bounds c.args.p c.power_between-2.ensures (not-false _ c.if-not-power_between-2.false)).1, blocks_bound c.args.p c.good_blocks.ensures (not-false _ c.if-not-good_blocks.false))
+good_base-requires c = ((bytes_bounds c.args.p c.power_between-2.ensures c.if-not-power_between-2.false).0, (bytes_bounds c.args.p c.power_between-2.ensures c.if-not-power_between-2.false).1, blocks_bound c.args.p c.good_blocks.ensures c.if-not-good_blocks.false)
 
 pub returns : goal.returns
-returns c = good_rest _ c.good_min.ensures (not-false _ c.if-not-good_min.false) c.power_between.ensures (not-false _ c.if-not-power_between.false) (lower_back c.args.p.unified (to_z-of_z (record { sfits = c.struct_told-1.given.1.1.1.1.1.1.1.0.1 })) c.good_lower.ensures) (not-false _ c.if-not-good_lower.false) c.power_between-2.ensures (not-false _ c.if-not-power_between-2.false) c.good_blocks.ensures (c.requires) (not-false _ c.if-not-good_blocks.false) c.good_base.ensures
+returns c = good_rest _ c.good_min.ensures c.if-not-good_min.false c.power_between.ensures c.if-not-power_between.false (lower_back c.args.p.unified (to_z-of_z (record { sfits = c.struct_told-1.given.1.1.1.1.1.1.1.0.1 })) c.good_lower.ensures) c.if-not-good_lower.false c.power_between-2.ensures c.if-not-power_between-2.false c.good_blocks.ensures (c.requires) c.if-not-good_blocks.false c.good_base.ensures

@@ -13,31 +13,31 @@ use Rattle.native_ms.proofs.run.entry_at.Goals as goal
 
 pub returns-in-1 : goal.returns-in-1
 unfolding entry_call call_of
-returns-in-1 c = kind_is c.args.calls.now c.args.i 1 c.in-1.keys1
+returns-in-1 c = kind_is c.args.calls.now c.args.i 1 c.in-1.is
 
 pub returns-in-2 : goal.returns-in-2
 unfolding entry_call call_of
-returns-in-2 c = kind_is c.args.calls.now c.args.i 2 c.in-2.keys2
+returns-in-2 c = kind_is c.args.calls.now c.args.i 2 c.in-2.is
 
 pub returns-in-3 : goal.returns-in-3
 unfolding entry_call call_of
-returns-in-3 c = ap (λ (offer : Offer). some (alloc (get_or c.args.calls.now (c.args.i + 1) 0) (get_or c.args.calls.now (c.args.i + 2) 0) (get_or c.args.calls.now (c.args.i + 3) 0) (get_or c.args.calls.now (c.args.i + 4) 0) offer)) c.offered.ensures ∙ kind_is c.args.calls.now c.args.i 3 c.in-3.keys3
+returns-in-3 c = ap (λ (offer : Offer). some (alloc (get_or c.args.calls.now (c.args.i + 1) 0) (get_or c.args.calls.now (c.args.i + 2) 0) (get_or c.args.calls.now (c.args.i + 3) 0) (get_or c.args.calls.now (c.args.i + 4) 0) offer)) c.offered.ensures ∙ kind_is c.args.calls.now c.args.i 3 c.in-3.is
 
 pub returns-in-4 : goal.returns-in-4
 unfolding entry_call call_of
-returns-in-4 c = kind_is c.args.calls.now c.args.i 4 c.in-4.keys4
+returns-in-4 c = kind_is c.args.calls.now c.args.i 4 c.in-4.is
 
 pub returns-in-5 : goal.returns-in-5
 unfolding entry_call call_of
-returns-in-5 c = kind_is c.args.calls.now c.args.i 5 c.in-5.keys5
+returns-in-5 c = kind_is c.args.calls.now c.args.i 5 c.in-5.is
 
 pub returns-in-6 : goal.returns-in-6
 unfolding entry_call call_of
-returns-in-6 c = kind_is c.args.calls.now c.args.i 6 c.in-6.keys6
+returns-in-6 c = kind_is c.args.calls.now c.args.i 6 c.in-6.is
 
 pub returns-in-7 : goal.returns-in-7
 unfolding entry_call call_of
-returns-in-7 c = kind_is c.args.calls.now c.args.i 7 c.in-7.keys7
+returns-in-7 c = kind_is c.args.calls.now c.args.i 7 c.in-7.is
 
 pub returns-in_default : goal.returns-in_default
 unfolding entry_call

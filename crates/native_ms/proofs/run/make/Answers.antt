@@ -14,7 +14,7 @@ pub alloc_short-requires : goal.alloc_short-requires
 alloc_short-requires c = record { marks = c.args.marks.now; passed = c.requires }
 
 pub alloc_searched-requires : goal.alloc_searched-requires
-alloc_searched-requires c = (short_passed c.args.p c.args.states.now c.args.marks.now (c.alloc_short.ensures.words _ c.bin-1.given.1) (c.alloc_short.ensures.heap _ c.bin-1.given.1) c.requires, short_serves c.args.p c.args.states.now _ _ _ (c.alloc_short.ensures.words _ c.bin-1.given.1) (c.alloc_short.ensures.searches _ c.bin-1.given.1))
+alloc_searched-requires c = (short_passed c.args.p c.args.states.now c.args.marks.now (c.alloc_short.ensures.words _ c.in-Searches.is) (c.alloc_short.ensures.heap _ c.in-Searches.is) c.requires, short_serves c.args.p c.args.states.now _ _ _ (c.alloc_short.ensures.words _ c.in-Searches.is) (c.alloc_short.ensures.searches _ c.in-Searches.is))
 
 pub do_prepare-requires : goal.do_prepare-requires
 do_prepare-requires c = open_long c.args.p _ _ _ _ c.requires
@@ -30,32 +30,32 @@ do_shared_release-requires c = open_known c.args.p _ _ _ _ c.requires
 
 pub returns-in-Bind : goal.returns-in-Bind
 unfolding call_of
-returns-in-Bind c = call_made c.args.p _ _ _ _ c.requires c.ask-1.given.1 c.do_bind.auto.0 (c.do_bind.ensures _ _ _ _) c.simple_said.ensures
+returns-in-Bind c = call_made c.args.p _ _ _ _ c.requires c.in-Bind.is c.do_bind.auto.w (c.do_bind.ensures _ _ _ _) c.simple_said.ensures
 
 pub returns-in-Destroy : goal.returns-in-Destroy
 unfolding call_of
-returns-in-Destroy c = call_made c.args.p _ _ _ _ c.requires c.ask-in-Destroy-1.given.1 c.do_destroy.auto.1.0 (c.do_destroy.ensures _ _ _) c.destroy_said.ensures
+returns-in-Destroy c = call_made c.args.p _ _ _ _ c.requires c.in-Destroy.is c.do_destroy.auto.w (c.do_destroy.ensures _ _ _) c.destroy_said.ensures
 
 pub returns-in-Ends : goal.returns-in-Ends
 unfolding call_of
-returns-in-Ends c = call_made c.args.p _ _ _ _ c.requires c.ask-in-Alloc-1.given.1 c.alloc_short.auto.1.0 (c.alloc_short.ensures.ends _ c.answer-1.given.1 _) c.alloc_said.ensures
+returns-in-Ends c = call_made c.args.p _ _ _ _ c.requires c.in-Alloc.is c.alloc_short.auto.words (c.alloc_short.ensures.ends _ c.in-Ends.is _) c.alloc_said.ensures
 
 pub returns-in-Searches : goal.returns-in-Searches
 unfolding call_of
-returns-in-Searches c = call_made c.args.p _ _ _ _ c.requires c.ask-in-Alloc-1.given.1 (c.alloc_searched.auto.1.0 ∙ c.alloc_short.auto.1.0) (short_then c.args.p c.args.states.now c.args.marks.now _ (c.alloc_short.ensures.words _ c.bin-1.given.1) (c.alloc_short.ensures.heap _ c.bin-1.given.1) c.alloc_searched.ensures) c.alloc_said-in-Searches.ensures
+returns-in-Searches c = call_made c.args.p _ _ _ _ c.requires c.in-Alloc.is (c.alloc_searched.auto.words ∙ c.alloc_short.auto.words) (short_then c.args.p c.args.states.now c.args.marks.now _ (c.alloc_short.ensures.words _ c.in-Searches.is) (c.alloc_short.ensures.heap _ c.in-Searches.is) c.alloc_searched.ensures) c.alloc_said-in-Searches.ensures
 
 pub returns-in-Prepare : goal.returns-in-Prepare
 unfolding call_of
-returns-in-Prepare c = call_made c.args.p _ _ _ _ c.requires c.enum_told-1.given.1 c.do_prepare.auto.0 (c.do_prepare.ensures _ _) c.simple_said-in-Prepare.ensures
+returns-in-Prepare c = call_made c.args.p _ _ _ _ c.requires c.in-Prepare.is c.do_prepare.auto.w (c.do_prepare.ensures _ _) c.simple_said-in-Prepare.ensures
 
 pub returns-in-Mark : goal.returns-in-Mark
 unfolding call_of
-returns-in-Mark c = call_made c.args.p _ _ _ _ c.requires c.ask-in-Mark-1.given.1 refl (c.do_mark.ensures _) c.mark_said.ensures
+returns-in-Mark c = call_made c.args.p _ _ _ _ c.requires c.in-Mark.is refl (c.do_mark.ensures _) c.mark_said.ensures
 
 pub returns-in-Release : goal.returns-in-Release
 unfolding call_of
-returns-in-Release c = call_made c.args.p _ _ _ _ c.requires c.ask-in-Release-1.given.1 c.do_release.auto.1.0 c.do_release.ensures c.release_said.ensures
+returns-in-Release c = call_made c.args.p _ _ _ _ c.requires c.in-Release.is c.do_release.auto.w c.do_release.ensures c.release_said.ensures
 
 pub returns-in-SharedRelease : goal.returns-in-SharedRelease
 unfolding call_of
-returns-in-SharedRelease c = call_made c.args.p _ _ _ _ c.requires c.enum_told-in-SharedRelease-1.given.1 c.do_shared_release.auto.1.0 c.do_shared_release.ensures c.release_said-in-SharedRelease.ensures
+returns-in-SharedRelease c = call_made c.args.p _ _ _ _ c.requires c.in-SharedRelease.is c.do_shared_release.auto.w c.do_shared_release.ensures c.release_said-in-SharedRelease.ensures

@@ -5,7 +5,7 @@ use borrow.Author.Rules.{rules}
 use Rattle.native_ms.proofs.run.make_entry.Goals as goal
 
 pub returns-in-Asks : goal.returns-in-Asks
-returns-in-Asks c = entry_made c.args.p (lend c.args.words.now c.args.states.now c.args.marks.now c.args.heap.now) c.entry-1.given.1 c.make.ensures
+returns-in-Asks c = entry_made c.args.p (lend c.args.words.now c.args.states.now c.args.marks.now c.args.heap.now) c.in-Asks.is c.make.ensures
 
 pub returns-in-Bad : goal.returns-in-Bad
-returns-in-Bad c = entry_none c.args.p (lend c.args.words.now c.args.states.now c.args.marks.now c.args.heap.now) c.enum_told-1.given.1 c.refusal_said.ensures
+returns-in-Bad c = entry_none c.args.p (lend c.args.words.now c.args.states.now c.args.marks.now c.args.heap.now) c.in-Bad.is c.refusal_said.ensures

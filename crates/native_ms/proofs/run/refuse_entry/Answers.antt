@@ -4,7 +4,7 @@ use borrow.Author.Rules.{rules}
 use Rattle.native_ms.proofs.run.refuse_entry.Goals as goal
 
 pub returns-in-Asks : goal.returns-in-Asks
-returns-in-Asks c = refuse_asks c.args.refusal c.enum_told-1.given.1 c.refusal_said.ensures
+returns-in-Asks c = refuse_asks c.args.refusal c.in-Asks.is c.refusal_said.ensures
 
 pub returns-in-Bad : goal.returns-in-Bad
-returns-in-Bad c = refuse_none c.args.refusal c.enum_told-in-Bad-1.given.1 c.refusal_said-in-Bad.ensures
+returns-in-Bad c = refuse_none c.args.refusal c.in-Bad.is c.refusal_said-in-Bad.ensures

@@ -16,11 +16,11 @@ unfolding replyOf
 returns-then-room-count c = run_room c.args.p (lend c.args.words.now c.args.states.now c.args.marks.now c.args.heap.now) c.args.calls.now c.args.answers.now c.if-length-ne0.false c.if-room-count.true
 
 pub run_passed-requires : goal.run_passed-requires
-run_passed-requires c = (sym c.check_lent.ensures ∙ c.enum_told-1.given.1, omega arith, omega (arith, c.if-room-count.false))
+run_passed-requires c = (sym c.check_lent.ensures ∙ c.in-Passed.is, omega arith, omega (arith, c.if-room-count.false))
 
 pub returns-in-Refused : goal.returns-in-Refused
 unfolding replyOf
-returns-in-Refused c = run_refused c.args.p c.args.words.now c.args.states.now c.args.marks.now c.args.heap.now c.args.calls.now c.args.answers.now _ c.if-length-ne0.false c.if-room-count.false c.check_lent.ensures c.refusal-1.given.1 c.run_refused.ensures
+returns-in-Refused c = run_refused c.args.p c.args.words.now c.args.states.now c.args.marks.now c.args.heap.now c.args.calls.now c.args.answers.now _ c.if-length-ne0.false c.if-room-count.false c.check_lent.ensures c.in-Refused.is c.run_refused.ensures
 
 pub returns-in-Passed : goal.returns-in-Passed
 unfolding replyOf

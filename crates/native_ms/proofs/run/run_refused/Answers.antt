@@ -35,7 +35,7 @@ pub loop-left-smaller : goal.loop-left-smaller
 loop-left-smaller c = omega (arith, c.loop-left-test.true)
 
 pub loop-left-preserved : goal.loop-left-preserved
-loop-left-preserved c = (c.put_said.auto.0 ∙ c.loop-left.invariant.0, omega (arith, c.loop-left.invariant.1, c.loop-left-test.true), omega (arith, c.loop-left.invariant.2, c.loop-left-test.true), refuse_round c.args.refusal c.args.calls.now c.loop-left.left c.loop-left.from c.loop-left.to c.loop-left.answers c.loop-left-test.true (c.refuse_entry-said.ensures ∙ ap (λ (e : Option Call). said_of (refused_reply c.args.refusal e)) c.entry_at.ensures) c.put_said.ensures ∙ c.loop-left.invariant.3)
+loop-left-preserved c = (c.put_said.auto.answers ∙ c.loop-left.invariant.0, omega (arith, c.loop-left.invariant.1, c.loop-left-test.true), omega (arith, c.loop-left.invariant.2, c.loop-left-test.true), refuse_round c.args.refusal c.args.calls.now c.loop-left.left c.loop-left.from c.loop-left.to c.loop-left.answers c.loop-left-test.true (c.refuse_entry-said.ensures ∙ ap (λ (e : Option Call). said_of (refused_reply c.args.refusal e)) c.entry_at.ensures) c.put_said.ensures ∙ c.loop-left.invariant.3)
 
 pub shape_of-answers : goal.shape_of-answers
 shape_of-answers c = c.loop-left.invariant.0

@@ -5,8 +5,8 @@ use Rattle.native_ms.proofs.said.destroy_said.Goals as goal
 
 pub returns-in-Refused : goal.returns-in-Refused
 unfolding destroyReply
-returns-in-Refused c = rw c.x-1.given.1 c.refusal_said.ensures
+returns-in-Refused c = rw c.in-Refused.is c.refusal_said.ensures
 
 pub returns-in-Destroyed : goal.returns-in-Destroyed
 unfolding destroyReply
-returns-in-Destroyed c = rw c.x-in-Destroyed-1.given.1
+returns-in-Destroyed c = rw c.in-Destroyed.is

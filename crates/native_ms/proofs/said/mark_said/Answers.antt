@@ -5,8 +5,8 @@ use Rattle.native_ms.proofs.said.mark_said.Goals as goal
 
 pub returns-in-Refused : goal.returns-in-Refused
 unfolding markReply
-returns-in-Refused c = rw c.x-1.given.1 c.refusal_said.ensures
+returns-in-Refused c = rw c.in-Refused.is c.refusal_said.ensures
 
 pub returns-in-Marked : goal.returns-in-Marked
 unfolding markReply
-returns-in-Marked c = rw (c.x-in-Marked-1.given.1, c.flag_number-first.ensures)
+returns-in-Marked c = rw (c.in-Marked.is, c.flag_number-first.ensures)

@@ -5,8 +5,8 @@ use Rattle.native_ms.proofs.said.release_said.Goals as goal
 
 pub returns-in-Refused : goal.returns-in-Refused
 unfolding releaseReply
-returns-in-Refused c = rw c.x-1.given.1 c.refusal_said.ensures
+returns-in-Refused c = rw c.in-Refused.is c.refusal_said.ensures
 
 pub returns-in-Released : goal.returns-in-Released
 unfolding releaseReply
-returns-in-Released c = rw c.x-in-Released-1.given.1
+returns-in-Released c = rw c.in-Released.is

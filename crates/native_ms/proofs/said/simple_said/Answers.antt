@@ -5,8 +5,8 @@ use Rattle.native_ms.proofs.said.simple_said.Goals as goal
 
 pub returns-in_default : goal.returns-in_default
 unfolding replyOf
-returns-in_default c = rw c.enum_told-1.given.1
+returns-in_default c = rw c.in_default.is
 
 pub returns : goal.returns
 unfolding replyOf
-returns c = rw c.x-1.given.1 c.refusal_said.ensures
+returns c = rw c.in-Refused.is c.refusal_said.ensures

@@ -44,7 +44,7 @@ pub behind-requires : goal.behind-requires
 behind-requires c = (omega (arith, c.if-span-below.false), omega (arith, some_fits _ c.requires ((64 - (c.args.span.at + c.args.up) + (c.args.span.size - 1)) / c.args.span.size) (omega (arith, c.if-span-below.false))))
 
 pub link_from-rest-requires : goal.link_from-rest-requires
-link_from-rest-requires c = rw (c.behind.ensures.0, c.behind.ensures.1, c.behind.ensures.2) (rest_reach _ c.requires ((64 - (c.args.span.at + c.args.up) + (c.args.span.size - 1)) / c.args.span.size) (omega (arith, c.if-span-below.false)) c.link_edge-edge.auto.1.1.0, omega (arith, below_past (c.args.span.at + c.args.up) c.args.span.size (reach_low _ (c.requires)).word (omega (arith, c.if-at-up-ge64.false))))
+link_from-rest-requires c = rw (c.behind.ensures.0, c.behind.ensures.1, c.behind.ensures.2) (rest_reach _ c.requires ((64 - (c.args.span.at + c.args.up) + (c.args.span.size - 1)) / c.args.span.size) (omega (arith, c.if-span-below.false)) c.link_edge-edge.auto.heap, omega (arith, below_past (c.args.span.at + c.args.up) c.args.span.size (reach_low _ (c.requires)).word (omega (arith, c.if-at-up-ge64.false))))
 
 pub overflow_add-count : goal.overflow_add-count
 overflow_add-count c = omega (arith, few_cells _ c.requires.cells, c.link_edge-edge.ensures.few, c.link_from-rest.ensures.few, c.behind.ensures.2, c.if-span-below.false)

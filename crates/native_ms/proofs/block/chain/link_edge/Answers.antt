@@ -28,10 +28,10 @@ pub overflow_add-linked : goal.overflow_add-linked
 overflow_add-linked c = omega (arith, few_cells _ c.requires.0, c.loop-seen.invariant.on.few, c.loop-seen-test.true)
 
 pub loop-seen-preserved-then-not-kept : goal.loop-seen-preserved-then-not-kept
-loop-seen-preserved-then-not-kept c = walking_freed _ _ _ _ _ _ _ _ _ _ _ _ c.loop-seen.invariant c.loop-seen-test.true (kept_brute _ _ _ _ c.any_marked-kept.ensures ∙ not-true _ c.if-not-kept.true) c.put_word.ensures
+loop-seen-preserved-then-not-kept c = walking_freed _ _ _ _ _ _ _ _ _ _ _ _ c.loop-seen.invariant c.loop-seen-test.true (kept_brute _ _ _ _ c.any_marked-kept.ensures ∙ c.if-not-kept.true) c.put_word.ensures
 
 pub loop-seen-preserved : goal.loop-seen-preserved
-loop-seen-preserved c = walking_kept _ _ _ _ _ _ _ _ _ _ _ _ c.loop-seen.invariant c.loop-seen-test.true (kept_brute _ _ _ _ c.any_marked-kept.ensures ∙ not-false _ c.if-not-kept.false)
+loop-seen-preserved c = walking_kept _ _ _ _ _ _ _ _ _ _ _ _ c.loop-seen.invariant c.loop-seen-test.true (kept_brute _ _ _ _ c.any_marked-kept.ensures ∙ c.if-not-kept.false)
 
 pub shape_of-heap : goal.shape_of-heap
 shape_of-heap c = c.loop-seen.invariant.same

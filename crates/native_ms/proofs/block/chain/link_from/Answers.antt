@@ -55,7 +55,7 @@ pub behind-requires : goal.behind-requires
 behind-requires c = let few = (inner_few _ c.requires.0 c.requires.1 c.if-at-span.false) in (few, omega (arith, some_fits _ c.requires.0 _ few))
 
 pub link_edge-rest-requires : goal.link_edge-rest-requires
-link_edge-rest-requires c = rw (c.behind.ensures.0, c.behind.ensures.1, c.behind.ensures.2) (rest_places _ c.requires.0 _ (inner_few _ c.requires.0 c.requires.1 c.if-at-span.false) c.link_inner-linked.auto.1.1.0, c.requires.0.high)
+link_edge-rest-requires c = rw (c.behind.ensures.0, c.behind.ensures.1, c.behind.ensures.2) (rest_places _ c.requires.0 _ (inner_few _ c.requires.0 c.requires.1 c.if-at-span.false) c.link_inner-linked.auto.heap, c.requires.0.high)
 
 pub overflow_add-count : goal.overflow_add-count
 overflow_add-count c = let inner = (c.link_inner-linked.ensures _ (by_places _ c.requires.0 c.requires.1 _ _ (from_part _ c.requires.0 c.requires.1 c.if-at-span.false c.if-end-at.false))) in omega (arith, few_cells _ c.requires.0.cells, inner.few, c.link_edge-rest.ensures.few, c.behind.ensures.2, (inner_few _ c.requires.0 c.requires.1 c.if-at-span.false))

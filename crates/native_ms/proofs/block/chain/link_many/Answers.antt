@@ -29,10 +29,10 @@ pub overflow_add-linked : goal.overflow_add-linked
 overflow_add-linked c = omega (arith, few_cells _ c.requires.0.cells, c.loop-seen.invariant.few, c.loop-seen-test.true)
 
 pub loop-seen-preserved-then-not-kept : goal.loop-seen-preserved-then-not-kept
-loop-seen-preserved-then-not-kept c = running_freed _ _ _ _ _ _ _ _ _ _ _ _ _ _ _ c.loop-seen.invariant c.loop-seen-test.true c.requires.0.aligned (sym c.any_many-kept.ensures ∙ not-true _ c.if-not-kept.true) c.put_word.ensures
+loop-seen-preserved-then-not-kept c = running_freed _ _ _ _ _ _ _ _ _ _ _ _ _ _ _ c.loop-seen.invariant c.loop-seen-test.true c.requires.0.aligned (sym c.any_many-kept.ensures ∙ c.if-not-kept.true) c.put_word.ensures
 
 pub loop-seen-preserved : goal.loop-seen-preserved
-loop-seen-preserved c = running_kept _ _ _ _ _ _ _ _ _ _ _ _ _ _ _ c.loop-seen.invariant c.loop-seen-test.true c.requires.0.aligned (sym c.any_many-kept.ensures ∙ not-false _ c.if-not-kept.false)
+loop-seen-preserved c = running_kept _ _ _ _ _ _ _ _ _ _ _ _ _ _ _ c.loop-seen.invariant c.loop-seen-test.true c.requires.0.aligned (sym c.any_many-kept.ensures ∙ c.if-not-kept.false)
 
 pub shape_of-heap : goal.shape_of-heap
 shape_of-heap c = c.loop-seen.invariant.same

@@ -14,7 +14,7 @@ pub is_last-requires : goal.is_last-requires
 is_last-requires c = (omega (arith, words_known _ c.requires.0.count), c.requires.1)
 
 pub returns-then-not-is_last : goal.returns-then-not-is_last
-returns-then-not-is_last c = eager_early _ _ _ _ _ _ (not-false _ c.if-not-p.false) c.is_last.ensures (not-true _ c.if-not-is_last.true)
+returns-then-not-is_last c = eager_early _ _ _ _ _ _ (not-false _ c.if-not-p.false) c.is_last.ensures c.if-not-is_last.true
 
 pub sweep_all-swept-requires : goal.sweep_all-swept-requires
 sweep_all-swept-requires c = c.requires.0
@@ -26,10 +26,10 @@ pub recycle_blocks-requires-2 : goal.recycle_blocks-requires-2
 recycle_blocks-requires-2 c = (c.requires.0.good, omega arith)
 
 pub shape_of-w : goal.shape_of-w
-shape_of-w c = c.recycle_blocks-2.auto.1.0 ∙ c.recycle_blocks.auto.1.0 ∙ c.sweep_all-swept.auto.1.0
+shape_of-w c = c.recycle_blocks-2.auto.w ∙ c.recycle_blocks.auto.w ∙ c.sweep_all-swept.auto.w
 
 pub shape_of-heap : goal.shape_of-heap
-shape_of-heap c = c.sweep_all-swept.auto.1.1.1.1.0
+shape_of-heap c = c.sweep_all-swept.auto.heap
 
 pub returns : goal.returns
-returns c = eager_last _ _ _ _ _ _ (not-false _ c.if-not-p.false) c.is_last.ensures (not-false _ c.if-not-is_last.false) c.sweep_all-swept.ensures c.recycle_blocks.ensures c.recycle_blocks-2.ensures
+returns c = eager_last _ _ _ _ _ _ (not-false _ c.if-not-p.false) c.is_last.ensures c.if-not-is_last.false c.sweep_all-swept.ensures c.recycle_blocks.ensures c.recycle_blocks-2.ensures

@@ -17,10 +17,10 @@ pub not_due_with-requires : goal.not_due_with-requires
 not_due_with-requires c = c.requires
 
 pub returns-then-not-not_due_with : goal.returns-then-not-not_due_with
-returns-then-not-not_due_with c = last_is_lem _ _ (all_due _ (sym c.loop-left.invariant ∙ all_stop _ _ c.loop-left-test.true (due_at _ _ c.loop-left-test.true c.not_due_with.ensures ∙ (not-true _ c.if-not-not_due_with.true))))
+returns-then-not-not_due_with c = last_is_lem _ _ (all_due _ (sym c.loop-left.invariant ∙ all_stop _ _ c.loop-left-test.true (due_at _ _ c.loop-left-test.true c.not_due_with.ensures ∙ c.if-not-not_due_with.true)))
 
 pub loop-left-preserved : goal.loop-left-preserved
-loop-left-preserved c = all_step _ _ c.loop-left-test.true (due_at _ _ c.loop-left-test.true c.not_due_with.ensures ∙ (not-false _ c.if-not-not_due_with.false)) ∙ c.loop-left.invariant
+loop-left-preserved c = all_step _ _ c.loop-left-test.true (due_at _ _ c.loop-left-test.true c.not_due_with.ensures ∙ c.if-not-not_due_with.false) ∙ c.loop-left.invariant
 
 pub released_with-requires : goal.released_with-requires
 released_with-requires c = c.requires

@@ -17,7 +17,7 @@ pub push-requires : goal.push-requires
 push-requires c = (c.requires.0, c.requires.1)
 
 pub shape_of-w : goal.shape_of-w
-shape_of-w c = c.push.auto.1.0 ∙ c.remove.auto.1.0
+shape_of-w c = c.push.auto.w ∙ c.remove.auto.w
 
 pub returns : goal.returns
 returns c = recycle_yes _ _ _ _ _ c.free-cell.ensures c.if-cell-eq0.false c.remove.ensures c.push.ensures

@@ -22,7 +22,7 @@ pub loop-bin-smaller : goal.loop-bin-smaller
 loop-bin-smaller c = omega (arith, c.loop-bin-test.true)
 
 pub loop-bin-preserved : goal.loop-bin-preserved
-loop-bin-preserved c = (c.recycle_bin.auto.1.0 ∙ c.loop-bin.invariant.0, omega (arith, c.loop-bin-test.true), each_more _ _ _ c.loop-bin.invariant.2 c.recycle_bin.ensures)
+loop-bin-preserved c = (c.recycle_bin.auto.w ∙ c.loop-bin.invariant.0, omega (arith, c.loop-bin-test.true), each_more _ _ _ c.loop-bin.invariant.2 c.recycle_bin.ensures)
 
 pub shape_of-w : goal.shape_of-w
 shape_of-w c = c.loop-bin.invariant.0

@@ -31,7 +31,7 @@ pub overflow_sub-more : goal.overflow_sub-more
 overflow_sub-more c = c.loop-more-test.true
 
 pub loop-more-preserved : goal.loop-more-preserved
-loop-more-preserved c = (c.recycle_block.auto.1.0 ∙ c.loop-more.invariant.0, list_step _ _ _ _ _ _ c.loop-more-test.true c.if-link-eq0.false c.block_at-b.ensures c.next-link.ensures c.recycle_block.ensures ∙ c.loop-more.invariant.1)
+loop-more-preserved c = (c.recycle_block.auto.w ∙ c.loop-more.invariant.0, list_step _ _ _ _ _ _ c.loop-more-test.true c.if-link-eq0.false c.block_at-b.ensures c.next-link.ensures c.recycle_block.ensures ∙ c.loop-more.invariant.1)
 
 pub shape_of-w : goal.shape_of-w
 shape_of-w c = c.loop-more.invariant.0

@@ -27,7 +27,7 @@ pub loop-number-smaller : goal.loop-number-smaller
 loop-number-smaller c = omega (arith, c.loop-number-test.true)
 
 pub loop-number-preserved : goal.loop-number-preserved
-loop-number-preserved c = (c.sweep_block-swept.auto.1.0 ∙ c.loop-number.invariant.0, c.sweep_block-swept.auto.1.1.1.1.0 ∙ c.loop-number.invariant.1, omega (arith, c.loop-number-test.true), omega (arith, c.loop-number.invariant.3, block_few _ _ _ _ _ _ c.sweep_block-swept.ensures), all_more _ _ _ _ _ _ c.loop-number.invariant.4 c.sweep_block-swept.ensures)
+loop-number-preserved c = (c.sweep_block-swept.auto.w ∙ c.loop-number.invariant.0, c.sweep_block-swept.auto.heap ∙ c.loop-number.invariant.1, omega (arith, c.loop-number-test.true), omega (arith, c.loop-number.invariant.3, block_few _ _ _ _ _ _ c.sweep_block-swept.ensures), all_more _ _ _ _ _ _ c.loop-number.invariant.4 c.sweep_block-swept.ensures)
 
 pub shape_of-w : goal.shape_of-w
 shape_of-w c = c.loop-number.invariant.0

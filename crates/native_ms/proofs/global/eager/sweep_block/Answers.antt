@@ -12,10 +12,10 @@ pub sweep-requires : goal.sweep-requires
 sweep-requires c = c.requires
 
 pub shape_of-w : goal.shape_of-w
-shape_of-w c = c.sweep.auto.1.0
+shape_of-w c = c.sweep.auto.words
 
 pub shape_of-heap : goal.shape_of-heap
-shape_of-heap c = c.sweep.auto.1.1.1.0
+shape_of-heap c = c.sweep.auto.heap
 
 pub returns : goal.returns
 returns c = block_swept _ _ _ _ _ _ c.state-state.ensures c.if-state-eq-UNALLOCATED.false c.sweep.ensures

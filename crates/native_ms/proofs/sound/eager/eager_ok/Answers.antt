@@ -22,10 +22,10 @@ pub eager_block-requires : goal.eager_block-requires
 eager_block-requires c = (c.requires, omega (arith, c.loop-left.invariant.0, c.loop-left-test.true))
 
 pub returns-then-not-eager_block : goal.returns-then-not-eager_block
-returns-then-not-eager_block c = λ m. asked c.args.p (not-false _ c.if-not-p.false) _ (sym (all_stop _ _ c.loop-left-test.true (sym (c.eager_block.ensures m) ∙ not-true _ c.if-not-eager_block.true)) ∙ c.loop-left.invariant.1 m)
+returns-then-not-eager_block c = λ m. asked c.args.p (not-false _ c.if-not-p.false) _ (sym (all_stop _ _ c.loop-left-test.true (sym (c.eager_block.ensures m) ∙ c.if-not-eager_block.true)) ∙ c.loop-left.invariant.1 m)
 
 pub loop-left-preserved : goal.loop-left-preserved
-loop-left-preserved c = (omega (arith, c.loop-left.invariant.0, c.loop-left-test.true), λ m. all_step _ _ c.loop-left-test.true (sym (c.eager_block.ensures m) ∙ not-false _ c.if-not-eager_block.false) ∙ c.loop-left.invariant.1 m)
+loop-left-preserved c = (omega (arith, c.loop-left.invariant.0, c.loop-left-test.true), λ m. all_step _ _ c.loop-left-test.true (sym (c.eager_block.ensures m) ∙ c.if-not-eager_block.false) ∙ c.loop-left.invariant.1 m)
 
 pub returns : goal.returns
 returns c = λ m. asked c.args.p (not-false _ c.if-not-p.false) _ (sym (all_end _ _ c.loop-left-test.false) ∙ c.loop-left.invariant.1 m)

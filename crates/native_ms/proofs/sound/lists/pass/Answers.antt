@@ -25,7 +25,7 @@ pub stands_on-requires : goal.stands_on-requires
 stands_on-requires c = (c.requires.0.lent, c.requires.1, c.if-blocks-b.false, (c.block_from-b.ensures.here c.if-blocks-b.false).0, (c.block_from-b.ensures.here c.if-blocks-b.false).1)
 
 pub returns-then-not-stands_on : goal.returns-then-not-stands_on
-returns-then-not-stands_on c = pass_bad _ _ _ _ _ _ c.loop-a-test.true c.stands_on.ensures _ (omega (arith, c.if-left-eq0.false)) (not-true _ c.if-not-stands_on.true) ∙ c.loop-a.invariant ∙ pass_at _ _ _ _ _ c.first-a.ensures
+returns-then-not-stands_on c = pass_bad _ _ _ _ _ _ c.loop-a-test.true c.stands_on.ensures _ (omega (arith, c.if-left-eq0.false)) c.if-not-stands_on.true ∙ c.loop-a.invariant ∙ pass_at _ _ _ _ _ c.first-a.ensures
 
 pub next-a-requires : goal.next-a-requires
 next-a-requires c = (c.requires.0.lent.words, c.if-blocks-b.false)
@@ -37,7 +37,7 @@ pub loop-a-smaller : goal.loop-a-smaller
 loop-a-smaller c = omega (arith, c.if-left-eq0.false)
 
 pub loop-a-preserved : goal.loop-a-preserved
-loop-a-preserved c = pass_step _ _ _ _ _ _ c.loop-a-test.true c.stands_on.ensures _ (omega (arith, c.if-left-eq0.false)) (not-false _ c.if-not-stands_on.false) (c.block_from-b.ensures.here c.if-blocks-b.false).1 c.next-a.ensures ∙ c.loop-a.invariant
+loop-a-preserved c = pass_step _ _ _ _ _ _ c.loop-a-test.true c.stands_on.ensures _ (omega (arith, c.if-left-eq0.false)) c.if-not-stands_on.false (c.block_from-b.ensures.here c.if-blocks-b.false).1 c.next-a.ensures ∙ c.loop-a.invariant
 
 pub last-last-requires : goal.last-last-requires
 last-last-requires c = (omega (arith, c.requires.0.lent.words), c.requires.1)

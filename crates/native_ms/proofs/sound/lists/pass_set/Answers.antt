@@ -27,13 +27,13 @@ pub pass-requires : goal.pass-requires
 pass-requires c = (c.requires.0, omega (arith, c.loop-list.invariant.1, c.loop-list-test.true, c.requires.1))
 
 pub returns-in_default : goal.returns-in_default
-returns-in_default c = passes_bad _ _ _ _ _ (omega (arith, c.loop-list-test.true)) c.pass.ensures c.enum_told-1.given.1 ∙ c.loop-list.invariant.2
+returns-in_default c = passes_bad _ _ _ _ _ (omega (arith, c.loop-list-test.true)) c.pass.ensures c.in_default.is ∙ c.loop-list.invariant.2
 
 pub loop-list-smaller-then-first-last-ne0 : goal.loop-list-smaller-then-first-last-ne0
 loop-list-smaller-then-first-last-ne0 c = omega (arith, c.loop-list-test.true)
 
 pub loop-list-preserved-then-first-last-ne0 : goal.loop-list-preserved-then-first-last-ne0
-loop-list-preserved-then-first-last-ne0 c = (omega (arith, c.loop-list-test.true), omega (arith, c.loop-list.invariant.1, c.loop-list-test.true), passes_step _ _ _ _ _ (omega (arith, c.loop-list-test.true)) c.pass.ensures c.rest-1.given.1 ∙ c.loop-list.invariant.2)
+loop-list-preserved-then-first-last-ne0 c = (omega (arith, c.loop-list-test.true), omega (arith, c.loop-list.invariant.1, c.loop-list-test.true), passes_step _ _ _ _ _ (omega (arith, c.loop-list-test.true)) c.pass.ensures c.in-Left.is ∙ c.loop-list.invariant.2)
 
 pub loop-list-smaller : goal.loop-list-smaller
 loop-list-smaller c = omega (arith, c.loop-list-test.true)

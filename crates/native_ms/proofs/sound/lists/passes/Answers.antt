@@ -32,10 +32,10 @@ pub pass_set-requires : goal.pass_set-requires
 pass_set-requires c = (c.requires.0, omega (arith, c.loop-set.invariant.0, c.loop-set-test.true))
 
 pub returns-in_default : goal.returns-in_default
-returns-in_default c = set_bad _ _ _ _ _ c.loop-set-test.true c.pass_set.ensures c.enum_told-1.given.1 ∙ c.loop-set.invariant.1
+returns-in_default c = set_bad _ _ _ _ _ c.loop-set-test.true c.pass_set.ensures c.in_default.is ∙ c.loop-set.invariant.1
 
 pub loop-set-preserved-then-first-last-ne0 : goal.loop-set-preserved-then-first-last-ne0
-loop-set-preserved-then-first-last-ne0 c = (omega (arith, c.loop-set.invariant.0, c.loop-set-test.true), set_step _ _ _ _ _ c.loop-set-test.true c.pass_set.ensures c.rest-1.given.1 ∙ c.loop-set.invariant.1)
+loop-set-preserved-then-first-last-ne0 c = (omega (arith, c.loop-set.invariant.0, c.loop-set-test.true), set_step _ _ _ _ _ c.loop-set-test.true c.pass_set.ensures c.in-Left.is ∙ c.loop-set.invariant.1)
 
 pub loop-set-preserved : goal.loop-set-preserved
 loop-set-preserved c = (omega (arith, c.loop-set.invariant.0, c.loop-set-test.true), set_skip _ c.args.words.now _ _ _ (get_or c.args.firsts.now (c.loop-set.set - 1) 0) c.union_of-last.result (omega (arith, c.loop-set.invariant.0, c.loop-set-test.true)) (c.requires.1.set (c.loop-set.set - 1) (omega (arith, c.loop-set.invariant.0, c.loop-set-test.true))) c.union_of-last.ensures c.if-first-last-ne0.false ∙ set_up_lem _ _ _ _ _ c.loop-set-test.true ∙ c.loop-set.invariant.1)
