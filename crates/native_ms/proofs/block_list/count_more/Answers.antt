@@ -13,3 +13,6 @@ returns-in-Bad-count_blocks c = more_no _ _ _ c.in-Blocks.is c.count_blocks.ensu
 
 pub returns-in-Blocks-count_blocks : goal.returns-in-Blocks-count_blocks
 returns-in-Blocks-count_blocks c = more_yes _ _ _ c.in-Blocks.is c.count_blocks.ensures c.in-Blocks-count_blocks.is
+
+pub overflow_add-result : goal.overflow_add-result
+overflow_add-result c = omega (arith, count_known c.in-Blocks.is c.requires.1, counted_few _ _ _ _ c.count_blocks.ensures c.in-Blocks-count_blocks.is, (good_bounds c.args.p c.requires.0).blocks_high)

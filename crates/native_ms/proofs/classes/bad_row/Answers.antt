@@ -28,14 +28,14 @@ row_fits-requires c = tt
 
 pub returns-then-not-row_fits : goal.returns-then-not-row_fits
 unfolding bad_row is_bad_row
-returns-then-not-row_fits c = sym (walk_hit (is_bad_row c.args.p) c.args.p.count c.loop-n.n c.loop-n-test.true (ap (λ (r : Row). not (row_fits c.args.p r)) (row_next c.args.p c.loop-n.n) ∙ ap not (sym c.row_fits.ensures) ∙ c.if-not-row_fits.true)) ∙ c.loop-n.invariant.1
+returns-then-not-row_fits c = sym (walk_hit (is_bad_row c.args.p) c.args.p.count c.loop-n.n c.loop-n-test.true (ap (λ (r : Row). not (row_fits c.args.p r)) (row_next c.args.p c.loop-n.n) ∙ ap not (sym c.row_fits.ensures ∙ c.if-not-row_fits.true))) ∙ c.loop-n.invariant.1
 
 pub loop-n-smaller : goal.loop-n-smaller
 loop-n-smaller c = omega arith
 
 pub loop-n-preserved : goal.loop-n-preserved
 unfolding is_bad_row
-loop-n-preserved c = (omega arith, sym (walk_miss (is_bad_row c.args.p) c.args.p.count c.loop-n.n c.loop-n-test.true (ap (λ (r : Row). not (row_fits c.args.p r)) (row_next c.args.p c.loop-n.n) ∙ ap not (sym c.row_fits.ensures) ∙ c.if-not-row_fits.false)) ∙ c.loop-n.invariant.1)
+loop-n-preserved c = (omega arith, sym (walk_miss (is_bad_row c.args.p) c.args.p.count c.loop-n.n c.loop-n-test.true (ap (λ (r : Row). not (row_fits c.args.p r)) (row_next c.args.p c.loop-n.n) ∙ ap not (sym c.row_fits.ensures ∙ c.if-not-row_fits.false))) ∙ c.loop-n.invariant.1)
 
 pub returns : goal.returns
 unfolding bad_row

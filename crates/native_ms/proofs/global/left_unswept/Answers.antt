@@ -9,8 +9,5 @@ returns-then-p c = waits_none _ _ _ _ c.if-p.true
 pub append-requires : goal.append-requires
 append-requires c = c.requires
 
-pub shape_of-w : goal.shape_of-w
-shape_of-w c = c.append.auto.p
-
 pub returns : goal.returns
 returns c = waits_append _ _ _ _ c.if-p.false (moves_words _ _ _ _ c.append.ensures)

@@ -19,7 +19,7 @@ pub returns-then-lower-ne0 : goal.returns-then-lower-ne0
 returns-then-lower-ne0 c = lower_odd c.args.unified _ (to_z-of_z c.ranges.lower) c.if-lower-ltminus64.false c.if-lower-gt64.false c.if-lower-ne0.true
 
 pub returns-then-not-unified : goal.returns-then-not-unified
-returns-then-not-unified c = lower_apart c.args.unified _ (to_z-of_z c.ranges.lower) c.if-lower-ltminus64.false c.if-lower-gt64.false c.if-lower-ne0.false (not-true c.args.unified c.if-not-unified.true)
+returns-then-not-unified c = lower_apart c.args.unified _ (to_z-of_z c.ranges.lower) c.if-lower-ltminus64.false c.if-lower-gt64.false c.if-lower-ne0.false c.if-not-unified.true
 
 pub returns : goal.returns
-returns c = lower_unified c.args.unified _ (to_z-of_z c.ranges.lower) c.if-lower-ltminus64.false c.if-lower-gt64.false c.if-lower-ne0.false (not-false c.args.unified c.if-not-unified.false) c.ranges.lower.sfits
+returns c = lower_unified c.args.unified _ (to_z-of_z c.ranges.lower) c.if-lower-ltminus64.false c.if-lower-gt64.false c.if-lower-ne0.false c.if-not-unified.false c.ranges.lower.sfits

@@ -41,4 +41,4 @@ returns-in-7 c = kind_is c.args.calls.now c.args.i 7 c.in-7.is
 
 pub returns-in_default : goal.returns-in_default
 unfolding entry_call
-returns-in_default c = kind_none c.args.calls.now c.args.i refl c.in_default.rest.0.0.0.0.0.0.1 c.in_default.rest.0.0.0.0.0.1 c.in_default.rest.0.0.0.0.1 c.in_default.rest.0.0.0.1 c.in_default.rest.0.0.1 c.in_default.rest.0.1 c.in_default.rest.1
+returns-in_default c = kind_none c.args.calls.now c.args.i refl c.in_default.in_default-own.rest.0.0.0.0.0.0.1 c.in_default.in_default-own.rest.0.0.0.0.0.1 c.in_default.in_default-own.rest.0.0.0.0.1 c.in_default.in_default-own.rest.0.0.0.1 c.in_default.in_default-own.rest.0.0.1 c.in_default.in_default-own.rest.0.1 c.in_default.in_default-own.rest.1

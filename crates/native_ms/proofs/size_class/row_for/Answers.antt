@@ -14,7 +14,7 @@ loop-n-init c = (omega arith, walk_start _ _)
 
 pub returns-then-n-ge-ROWS : goal.returns-then-n-ge-ROWS
 unfolding row_at
-returns-then-n-ge-ROWS c = let e : length c.args.p.rows ≡ 48 = sym (length-map c.args.p.rows _) ∙ c.well_formed.0.1.1.1.1.1.1.1.1.1.1.1.0.1.0.1 in sym (rows_past c.args.p.rows c.args.words c.args.p.count c.loop-n.n (omega (arith, c.if-n-ge-ROWS.true))) ∙ c.loop-n.invariant.1
+returns-then-n-ge-ROWS c = let e : length c.args.p.rows ≡ 48 = c.well_formed.0.1.1.1.1.1.1.1.1.1.1.1.0.1.0.1 in sym (rows_past c.args.p.rows c.args.words c.args.p.count c.loop-n.n (omega (arith, c.if-n-ge-ROWS.true))) ∙ c.loop-n.invariant.1
 
 pub offset_bounds-rows-n : goal.offset_bounds-rows-n
 offset_bounds-rows-n c = omega arith
