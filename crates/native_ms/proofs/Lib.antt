@@ -5,7 +5,6 @@ pub mod RecordsLaws
 pub mod SoundWalkLaws
 pub mod SoundLaws
 pub mod SoundTests
-pub mod Records
 pub mod Lower
 pub mod Chains
 pub mod ShortWay
