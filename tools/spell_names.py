@@ -62,7 +62,7 @@ def files(top, *endings):
 
 def is_function(path, text):
     """A file of one function's proof: the names in it are the function's goals."""
-    return os.path.basename(path) in ('Proof.antt', 'Answers.antt', 'Invariants.antt') or ' as tie' in text
+    return '/proofs/' in path and os.path.basename(path) in ('Proof.antt', 'Answers.antt', 'Invariants.antt') or ' as tie' in text
 
 
 def members(text):

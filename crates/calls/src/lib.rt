@@ -4,7 +4,7 @@
 
 ghost use Rattle.std.specs.Prelude.{◌≡◌};
 ghost use Rattle.model.specs.Calls.{call, set_up, check_classes};
-ghost use Rattle.model.specs.Answers.{classesReply, call_of, said_of, outcome, outcomeOf};
+ghost use Rattle.model.specs.Answers.{classes_reply, call_of, said_of, outcome, outcome_of};
 ghost use Rattle.model.specs.Promise.{lend};
 
 use model::{Address, Ask, Block, ClassesAnswer, Params, Said};
@@ -12,7 +12,7 @@ use native_ms::allocator::Request;
 use native_ms::{classes, free_list_allocator, global, said};
 
 fn classes_said(x: ClassesAnswer) -> Said
-    ensures { result ≡ said_of (classesReply x) }
+    ensures { result ≡ said_of (classes_reply x) }
 {
     match x {
         ClassesAnswer::Accepted => Said {
@@ -55,7 +55,7 @@ pub fn set_up(
     marks: &mut [u8],
     heap: &[u8],
 ) -> Said
-    ensures { outcome result (lend words.new states.new marks.new heap.now) ≡ outcomeOf (set_up p (lend words.old states.old marks.old heap.now)) }
+    ensures { outcome result (lend words.new states.new marks.new heap.now) ≡ outcome_of (set_up p (lend words.old states.old marks.old heap.now)) }
 {
     said::simple_said(global::set_up(p, words, states, marks, heap))
 }
@@ -69,7 +69,7 @@ pub fn perform(
     heap: &mut [u8],
     ask: Ask,
 ) -> Said
-    ensures { outcome result (lend words.new states.new marks.new heap.new) ≡ outcomeOf (call p (lend words.old states.old marks.old heap.old) (call_of ask)) }
+    ensures { outcome result (lend words.new states.new marks.new heap.new) ≡ outcome_of (call p (lend words.old states.old marks.old heap.old) (call_of ask)) }
 {
     match ask {
         Ask::Bind(h) => said::simple_said(global::bind(p, words, states, marks, heap, h)),

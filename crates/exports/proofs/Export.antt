@@ -19,7 +19,7 @@ use Rattle.model.specs.Params.{Lent, fits, good_params, word_count, heap_bytes}
 use Rattle.model.specs.Memory.{load_bytes, bytes_of, overwrite}
 use Rattle.model.specs.SizeClasses.{no_row, tabulated}
 use Rattle.model.specs.Calls.{refusal_number, Result, call, set_up, bad_setup, check_classes}
-use Rattle.model.specs.Answers.{said_of, Outcome, outcome, outcomeOf}
+use Rattle.model.specs.Answers.{said_of, Outcome, outcome, outcome_of}
 use Rattle.model.specs.Exports.{words_from, decoded, encoded, LentBytes, lend_bytes, decoded_lent, Export, gives, answer_bytes, tells, shown, exported, row_bytes, row_from, rows_of, params_of, flags_ok, rows_ok, called, check_gives, check_called}
 use Rattle.laws.proofs.Below.{test, and_second}
 use Rattle.laws.proofs.Params.{good_bounds}
@@ -31,8 +31,8 @@ use Rattle.exports.specs.Entry.{inner_of}
 use Rattle.exports.proofs.Coding.{store_words, store_all, length_words, encoded_decoded}
 
 -- the entry that the code found
-pub entered : (p : Params) (l : Lent) {l' : Lent} {s : Said} {e x : Entry} → e ≡ x → outcome s l' ≡ outcomeOf (inner_of x p l)
-    → outcome s l' ≡ outcomeOf (inner_of e p l)
+pub entered : (p : Params) (l : Lent) {l' : Lent} {s : Said} {e x : Entry} → e ≡ x → outcome s l' ≡ outcome_of (inner_of x p l)
+    → outcome s l' ≡ outcome_of (inner_of e p l)
 entered p l q h = rw q h
 
 -- ---- the answer
@@ -51,7 +51,7 @@ put_answer a b c d e s n p q r t = t ∙ rw (r, q, p) (put_answer_law a s n)
 
 module _ (p : Params) (b : LentBytes) (e : Entry) (n : ℕ) {w w' words' st m h : List ℕ} {s : Said}
     (whole : length b.words ≡ 8 * n) (D : w ≡ words_from n b.words 0)
-    (P : outcome s (lend w' st m h) ≡ outcomeOf (inner_of e p (lend w b.states b.marks b.heap)))
+    (P : outcome s (lend w' st m h) ≡ outcome_of (inner_of e p (lend w b.states b.marks b.heap)))
     (E : words' ≡ encoded w') where
   abbrev R : Result
   R = inner_of e p (decoded_lent b)
@@ -61,11 +61,11 @@ module _ (p : Params) (b : LentBytes) (e : Entry) (n : ℕ) {w w' words' st m h 
   is_decoded = let q : length b.words / 8 ≡ n = omega (arith, whole) in rw q D
 
   is_said : s ≡ said_of R.reply
-  unfolding outcomeOf
+  unfolding outcome_of
   is_said = let Q = rw is_decoded at P in ap (λ (x : Outcome). x.said) Q
 
   is_lent : lend w' st m h ≡ R.lent
-  unfolding outcomeOf
+  unfolding outcome_of
   is_lent = let Q = rw is_decoded at P in ap (λ (x : Outcome). x.lent) Q
 
   pub run_refused : {k : ℕ} → k ≡ s.number → tells k ≡ false → gives k (lend_bytes words' st m h b.answer) ≡ shown b.answer R

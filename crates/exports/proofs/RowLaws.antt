@@ -13,7 +13,7 @@ use Rattle.model.specs.declared.Answer.{Answer}
 use Rattle.model.specs.declared.Answer.TheVariants.{Done, Refused}
 use Rattle.model.specs.declared.Refusal.{Refusal}
 use Rattle.model.specs.Calls.{refusal_number}
-use Rattle.model.specs.Answers.{replyOf}
+use Rattle.model.specs.Answers.{reply_of}
 use Rattle.model.specs.Promise.{lend}
 use Rattle.model.specs.Exports.{words_from, decoded, encoded, LentBytes, lend_bytes, decoded_lent, Export, gives, params_of, flags_ok, rows_ok}
 use Rattle.model.specs.RunCalls.{RunResult, run_result, run_calls, whole_words, run_lengths_ok, run_shown, run_exported, run_called}
@@ -21,12 +21,12 @@ use Rattle.laws.proofs.Below.{and_left, and_right}
 
 -- ---- the number of what `run` says
 
-pub number_done : {x : Answer} → x ≡ Done → 0 ≡ (replyOf x).number
-unfolding replyOf
+pub number_done : {x : Answer} → x ≡ Done → 0 ≡ (reply_of x).number
+unfolding reply_of
 number_done e = rw e
 
-pub number_refused : {x : Answer} {r : Refusal} {n : ℕ} → x ≡ Refused r → n ≡ refusal_number r → n ≡ (replyOf x).number
-unfolding replyOf
+pub number_refused : {x : Answer} {r : Refusal} {n : ℕ} → x ≡ Refused r → n ≡ refusal_number r → n ≡ (reply_of x).number
+unfolding reply_of
 number_refused e q = rw e q
 
 -- ---- the row between decoding and encoding
@@ -38,9 +38,9 @@ decoded_is bytes n e D = let q : length bytes / 8 ≡ n = omega (arith, e) in rw
 module _ (p : Params) (b : LentBytes) (calls : List ℕ) (n k m : ℕ) {w c a w' a' st ms h words' answer' : List ℕ} (done : Answer) {number : ℕ}
     (ln : length b.words ≡ 8 * n) (lk : length calls ≡ 8 * k) (lm : length b.answer ≡ 8 * m)
     (W : w ≡ words_from n b.words 0) (C : c ≡ words_from k calls 0) (A : a ≡ words_from m b.answer 0)
-    (P : run_result (replyOf done) a' (lend w' st ms h) ≡ run_calls p (lend w b.states b.marks b.heap) c a)
-    (E : words' ≡ encoded w') (F : answer' ≡ encoded a') (N : number ≡ (replyOf done).number) where
-  is_run : run_result (replyOf done) a' (lend w' st ms h) ≡ run_calls p (decoded_lent b) (decoded calls) (decoded b.answer)
+    (P : run_result (reply_of done) a' (lend w' st ms h) ≡ run_calls p (lend w b.states b.marks b.heap) c a)
+    (E : words' ≡ encoded w') (F : answer' ≡ encoded a') (N : number ≡ (reply_of done).number) where
+  is_run : run_result (reply_of done) a' (lend w' st ms h) ≡ run_calls p (decoded_lent b) (decoded calls) (decoded b.answer)
   is_run = rw (decoded_is b.words n ln W, decoded_is calls k lk C, decoded_is b.answer m lm A) at P
 
   pub row_run : gives number (lend_bytes words' st ms h answer') ≡ run_shown (run_calls p (decoded_lent b) (decoded calls) (decoded b.answer))

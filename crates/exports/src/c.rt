@@ -2,7 +2,7 @@
 // class table as bytes.
 ghost use Rattle.std.specs.Prelude.{◌≡◌, ◌*◌, ◌<◌, length};
 ghost use Rattle.model.specs.Calls.{set_up, bind, destroy, alloc, prepare, mark, release, shared_release};
-ghost use Rattle.model.specs.Answers.{outcome, outcomeOf};
+ghost use Rattle.model.specs.Answers.{outcome, outcome_of};
 ghost use Rattle.model.specs.Exports.{lend_bytes, decoded_lent, gives, answer_bytes, tells, shown, asks, exported, given, row_from, rows_of, params_of, flags_ok, rows_ok, called, check_gives, check_called, offered_by};
 ghost use Rattle.model.specs.Promise.{lend};
 ghost use Rattle.exports.specs.Entry.{inner_of};
@@ -41,7 +41,7 @@ fn enter(
     heap: &mut [u8],
     inner: Entry,
 ) -> Said
-    ensures { outcome result (lend words.new states.new marks.new heap.new) ≡ outcomeOf (inner_of inner p (lend words.old states.old marks.old heap.old)) }
+    ensures { outcome result (lend words.new states.new marks.new heap.new) ≡ outcome_of (inner_of inner p (lend words.old states.old marks.old heap.old)) }
 {
     match inner {
         Entry::SetUp => calls::set_up(p, words, states, marks, heap),

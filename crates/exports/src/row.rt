@@ -1,7 +1,7 @@
 // The export of `run`: a row of calls, with the tables decoded and encoded once for all of them. Calls and answers travel as words of 8
 // bytes, as the tables do.
 ghost use Rattle.std.specs.Prelude.{◌≡◌, ◌*◌, length};
-ghost use Rattle.model.specs.Answers.{replyOf};
+ghost use Rattle.model.specs.Answers.{reply_of};
 ghost use Rattle.model.specs.Exports.{lend_bytes, decoded_lent, gives, given, decoded};
 ghost use Rattle.model.specs.RunCalls.{whole_words, run_calls, run_shown, run_exported, run_called};
 
@@ -18,7 +18,7 @@ const ROOM_WORDS: usize = 5 * MOST_CALLS;
 
 // The number of what `run` says.
 fn number_of(x: Answer) -> usize
-    ensures { result ≡ (replyOf x).number }
+    ensures { result ≡ (reply_of x).number }
 {
     match x {
         Answer::Done => 0,

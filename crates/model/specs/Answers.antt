@@ -25,12 +25,12 @@ use Rattle.model.specs.Params.{Lent}
 use Rattle.model.specs.Calls.{Reply, answered, refused, exhausted, Call, bind, destroy, alloc, prepare, mark, release, shared_release, Result}
 
 -- set-up, bind, prepare
-unfoldable pub replyOf : Answer → Reply
-replyOf = elim [ Simple.Done ↦ answered [] | Simple.Refused refusal ↦ refused refusal ]
+unfoldable pub reply_of : Answer → Reply
+reply_of = elim [ Simple.Done ↦ answered [] | Simple.Refused refusal ↦ refused refusal ]
 
 -- alloc: address, cell size, whether the offer was used, blocks swept; where no cell was found, the last of these (02, R-12)
-unfoldable pub allocReply : AllocAnswer → Reply
-allocReply =
+unfoldable pub alloc_reply : AllocAnswer → Reply
+alloc_reply =
     elim [
       | Alloc.Served a size fresh swept ↦ answered (a.0 ∷ size ∷ flag fresh ∷ swept ∷ [])
       | Alloc.Exhausted swept ↦ exhausted swept
@@ -38,24 +38,24 @@ allocReply =
     ]
 
 -- mark: whether it was new
-unfoldable pub markReply : MarkAnswer → Reply
-markReply = elim [ Mark.Marked new ↦ answered (flag new ∷ []) | Mark.Refused refusal ↦ refused refusal ]
+unfoldable pub mark_reply : MarkAnswer → Reply
+mark_reply = elim [ Mark.Marked new ↦ answered (flag new ∷ []) | Mark.Refused refusal ↦ refused refusal ]
 
 -- destroy: the blocks that went over to abandoned (02, R-6)
-unfoldable pub destroyReply : DestroyAnswer → Reply
-destroyReply = elim [ Destroy.Destroyed blocks ↦ answered (blocks ∷ []) | Destroy.Refused refusal ↦ refused refusal ]
+unfoldable pub destroy_reply : DestroyAnswer → Reply
+destroy_reply = elim [ Destroy.Destroyed blocks ↦ answered (blocks ∷ []) | Destroy.Refused refusal ↦ refused refusal ]
 
 -- release and shared release: the blocks released, those merged from in-gc (02, R-6), and those swept (02, R-8)
-unfoldable pub releaseReply : ReleaseAnswer → Reply
-releaseReply = elim [ Release.Released blocks merged swept ↦ answered (blocks ∷ merged ∷ swept ∷ []) | Release.Refused refusal ↦ refused refusal ]
+unfoldable pub release_reply : ReleaseAnswer → Reply
+release_reply = elim [ Release.Released blocks merged swept ↦ answered (blocks ∷ merged ∷ swept ∷ []) | Release.Refused refusal ↦ refused refusal ]
 
 -- pages used
-unfoldable pub pagesReply : PagesAnswer → Reply
-pagesReply = elim [ Pages.Pages n ↦ answered (n ∷ []) | Pages.Refused refusal ↦ refused refusal ]
+unfoldable pub pages_reply : PagesAnswer → Reply
+pages_reply = elim [ Pages.Pages n ↦ answered (n ∷ []) | Pages.Refused refusal ↦ refused refusal ]
 
 -- the check of a class table: 0 and 0, 1 and the count, or 2 and the row (02, R-5)
-unfoldable pub classesReply : ClassesAnswer → Reply
-classesReply =
+unfoldable pub classes_reply : ClassesAnswer → Reply
+classes_reply =
     elim [
       | Classes.Accepted ↦ answered (0 ∷ 0 ∷ [])
       | Classes.BadCount n ↦ answered (1 ∷ n ∷ [])
@@ -64,8 +64,8 @@ classesReply =
     ]
 
 -- the total free cells of a bin (02, R-7)
-unfoldable pub cellsReply : CellsAnswer → Reply
-cellsReply = elim [ Cells.Cells n ↦ answered (n ∷ []) | Cells.Refused r ↦ refused r ]
+unfoldable pub cells_reply : CellsAnswer → Reply
+cells_reply = elim [ Cells.Cells n ↦ answered (n ∷ []) | Cells.Refused r ↦ refused r ]
 
 -- ---- any of the calls, by value
 
@@ -92,5 +92,5 @@ pub record Outcome : Type 0 where
 abbrev pub outcome : Said → Lent → Outcome
 outcome said l = record { said = said; lent = l }
 
-unfoldable pub outcomeOf : Result → Outcome
-outcomeOf r = outcome (said_of r.reply) r.lent
+unfoldable pub outcome_of : Result → Outcome
+outcome_of r = outcome (said_of r.reply) r.lent

@@ -135,7 +135,7 @@ called g rows l inner =
     if flags_ok g && rows_ok rows then exported (params_of g rows) l inner else gives (refusal_number BadSetup) l
 
 -- R-5's checker for a host: the number returned, and the slice for the answer after it, which gets kind and number (Answers
--- `classesReply`)
+-- `classes_reply`)
 pub record CheckExport : Type 0 where
   pub number : ℕ
   pub answer : List ℕ

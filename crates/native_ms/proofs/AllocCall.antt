@@ -22,7 +22,7 @@ use Rattle.model.specs.SizeClasses.{bin_of, raised}
 use Rattle.model.specs.FreeListAllocator.{find_block}
 use Rattle.model.specs.Sound.{state_of}
 use Rattle.model.specs.Calls.{Reply, refused, good_request, too_big, good_offer, take_plan, and_then, request_tests, call_tests, plan_passed, carried, Call, alloc}
-use Rattle.model.specs.Answers.{allocReply}
+use Rattle.model.specs.Answers.{alloc_reply}
 use Rattle.model.specs.Promise.{lend}
 use Rattle.laws.proofs.Params.{good_bounds}
 use Rattle.laws.proofs.Below.{and_left}
@@ -206,13 +206,13 @@ searches_not e = let z : ◌≡◌ {A = ℕ} 0 1 = cc in absurd (omega arith)
 
 module _ (p : Params) (w st h : List ℕ) (c : Call) (n : ℕ) where
   pub short_ended : {answer : AllocAnswer} {w₁ h₁ : List ℕ}
-      → ((ms : List ℕ) → Does p (tables_of (view w) st ms) h c (allocReply answer) (tables_of (view w₁) st ms) h₁)
+      → ((ms : List ℕ) → Does p (tables_of (view w) st ms) h c (alloc_reply answer) (tables_of (view w₁) st ms) h₁)
       → Shortly p w st h c n (Ends answer) w₁ h₁
   short_ended {answer} {w₁} {h₁} d =
       record {
         ends =
             λ a e ms.
-            subst (λ (x : AllocAnswer). Does p (tables_of (view w) st ms) h c (allocReply x) (tables_of (view w₁) st ms) h₁) (ends_same e) (d ms);
+            subst (λ (x : AllocAnswer). Does p (tables_of (view w) st ms) h c (alloc_reply x) (tables_of (view w₁) st ms) h₁) (ends_same e) (d ms);
         searches = λ bin e. absurd (ends_not e);
         words = λ bin e. absurd (ends_not e);
         heap = λ bin e. absurd (ends_not e);

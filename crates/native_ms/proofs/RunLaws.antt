@@ -24,7 +24,7 @@ use Rattle.model.specs.Tables.{tables_of, view}
 use Rattle.model.specs.Classes.{classes_fit}
 use Rattle.model.specs.Sound.{sound_on}
 use Rattle.model.specs.Calls.{Reply, answered, refused, Call, bind, destroy, alloc, prepare, mark, release, shared_release, Result, tables_in, and_then, call}
-use Rattle.model.specs.Answers.{call_of, said_of, Outcome, outcome, outcomeOf}
+use Rattle.model.specs.Answers.{call_of, said_of, Outcome, outcome, outcome_of}
 use Rattle.model.specs.Promise.{lend, Promised}
 use Rattle.model.specs.Refusals.{SoundKept}
 use Rattle.model.specs.Exports.{offered_by}
@@ -64,30 +64,30 @@ kind_none calls i {kind} e a b c d f g h =
 
 -- ---- a call on what passed the first tests
 
-same : {said : Said} {y : Reply} {l' : Lent} (x : Result) → said ≡ said_of y → y ≡ x.reply → l' ≡ x.lent → outcome said l' ≡ outcomeOf x
-unfolding outcomeOf
+same : {said : Said} {y : Reply} {l' : Lent} (x : Result) → said ≡ said_of y → y ≡ x.reply → l' ≡ x.lent → outcome said l' ≡ outcome_of x
+unfolding outcome_of
 same x f e g = λ i. outcome ((f ∙ ap said_of e) i) (g i)
 
 module _ (p : Params) (w s m h : List ℕ) (e : lent_tests p (lend w s m h) ≡ Passed) where
   -- the call that the code found, its step and what is said of it
   pub call_made : {ask x : Ask} {said : Said} {y : Reply} {w' s' m' h' : List ℕ} → ask ≡ x → length w' ≡ length w
       → Does p (tables_of (view w) s m) h (call_of x) y (tables_of (view w') s' m') h' → said ≡ said_of y
-      → outcome said (lend w' s' m' h') ≡ outcomeOf (call p (lend w s m h) (call_of ask))
+      → outcome said (lend w' s' m' h') ≡ outcome_of (call p (lend w s m h) (call_of ask))
   call_made {ask} {x} a l d f =
       let q = lent_passed p w s m h (call_of x) (sym e) refl l d in
-      same (call p (lend w s m h) (call_of x)) f q.reply q.lent ∙ ap (λ (z : Ask). outcomeOf (call p (lend w s m h) (call_of z))) (sym a)
+      same (call p (lend w s m h) (call_of x)) f q.reply q.lent ∙ ap (λ (z : Ask). outcome_of (call p (lend w s m h) (call_of z))) (sym a)
 
 -- ---- an entry made
 
 module _ (p : Params) (l : Lent) where
-  pub entry_made : {entry : Entry} {ask : Ask} {o : Outcome} → entry ≡ Entries.Asks ask → o ≡ outcomeOf (call p l (call_of ask))
-      → o ≡ outcomeOf (made p l (entry_call entry))
+  pub entry_made : {entry : Entry} {ask : Ask} {o : Outcome} → entry ≡ Entries.Asks ask → o ≡ outcome_of (call p l (call_of ask))
+      → o ≡ outcome_of (made p l (entry_call entry))
   unfolding entry_call made
   entry_made e q = rw e q
 
   pub entry_none : {entry : Entry} {said : Said} → entry ≡ Entries.Bad → said ≡ said_of (refused BadLine)
-      → outcome said l ≡ outcomeOf (made p l (entry_call entry))
-  unfolding entry_call made outcomeOf
+      → outcome said l ≡ outcome_of (made p l (entry_call entry))
+  unfolding entry_call made outcome_of
   entry_none e q = rw e (ap (λ (z : Said). outcome z l) q)
 
 -- ---- what passed the first tests passes them again after an entry
@@ -107,14 +107,14 @@ fits_kept : (p : Params) (w s m h w' s' m' h' : List ℕ) → length w' ≡ leng
 unfolding fits
 fits_kept p w s m h w' s' m' h' a b c d f = rw (a, b, c, d) f
 
-lent_of : {said : Said} {l : Lent} (x : Result) → outcome said l ≡ outcomeOf x → l ≡ x.lent
-unfolding outcomeOf
+lent_of : {said : Said} {l : Lent} (x : Result) → outcome said l ≡ outcome_of x → l ≡ x.lent
+unfolding outcome_of
 lent_of x q = ap (λ (o : Outcome). o.lent) q
 
 module _ (p : Params) (w s m h : List ℕ) (e : lent_tests p (lend w s m h) ≡ Passed) where
   pub passed_kept : (c : Option Call) {said : Said} {w' s' m' h' : List ℕ}
       → length w' ≡ length w → length s' ≡ length s → length m' ≡ length m → length h' ≡ length h
-      → outcome said (lend w' s' m' h') ≡ outcomeOf (made p (lend w s m h) c) → lent_tests p (lend w' s' m' h') ≡ Passed
+      → outcome said (lend w' s' m' h') ≡ outcome_of (made p (lend w s m h) c) → lent_tests p (lend w' s' m' h') ≡ Passed
   passed_kept c {said} {w'} {s'} {m'} {h'} lw ls lm lh q =
       let o = opened p w s m h e in
       let g : sound_on p (tables_in (made p (lend w s m h) c).lent) (made p (lend w s m h) c).lent.heap ≡ true =
@@ -172,9 +172,9 @@ said_laid said us i b =
 -- one round: an entry made and its answer put, then the rest
 module _ (p : Params) (calls : List ℕ) where
   round_suc : (n from to : ℕ) (answers : List ℕ) (l : Lent) {l' : Lent} {said : Said}
-      → outcome said l' ≡ outcomeOf (made p l (call_at calls from))
+      → outcome said l' ≡ outcome_of (made p l (call_at calls from))
       → laid (to + 5) (overwrite to (said_words said) answers) (run_from n p l' calls (from + 6)) ≡ laid to answers (run_from (suc n) p l calls from)
-  unfolding laid run_from outcomeOf
+  unfolding laid run_from outcome_of
   round_suc n from to answers l {l'} {said} q =
       let r : Result = made p l (call_at calls from) in
       let es : said ≡ said_of r.reply = ap (λ (o : Outcome). o.said) q in
@@ -182,7 +182,7 @@ module _ (p : Params) (calls : List ℕ) where
       rw (el, es) (ap (λ (x : List ℕ). ran x (run_from n p r.lent calls (from + 6)).lent) (said_laid (said_of r.reply) (run_from n p r.lent calls (from + 6)).answers to answers))
 
   pub round : (left from to : ℕ) (answers : List ℕ) (l : Lent) {l' : Lent} {answers' : List ℕ} {said : Said} → 0 < left
-      → outcome said l' ≡ outcomeOf (made p l (call_at calls from)) → answers' ≡ overwrite to (said_words said) answers
+      → outcome said l' ≡ outcome_of (made p l (call_at calls from)) → answers' ≡ overwrite to (said_words said) answers
       → laid (to + 5) answers' (run_from (left - 1) p l' calls (from + 6)) ≡ laid to answers (run_from left p l calls from)
   round zero from to answers l z q a = absurd (not-suc-le-zero z)
   round (suc n) from to answers l z q a =

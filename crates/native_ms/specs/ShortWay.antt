@@ -5,7 +5,7 @@ use Rattle.model.specs.declared.AllocAnswer.{AllocAnswer}
 use Rattle.model.specs.declared.Tested.TheVariants.{Passed}
 use Rattle.model.specs.Tables.{tables_of, view}
 use Rattle.model.specs.Calls.{Call}
-use Rattle.model.specs.Answers.{allocReply}
+use Rattle.model.specs.Answers.{alloc_reply}
 use Rattle.model.specs.Promise.{lend}
 use Rattle.native_ms.specs.declared.free_list_allocator.Short.{Short}
 use Rattle.native_ms.specs.declared.free_list_allocator.Short.TheVariants.{Ends, Searches}
@@ -21,7 +21,7 @@ pub record Passes (p : Params) (w st h : List ℕ) : Type 0 where
 -- call, whatever the marks; else nothing is changed, and a block of the bin is to be searched for
 pub record Shortly (p : Params) (w st h : List ℕ) (c : Call) (n : ℕ) (r : Short) (w₁ h₁ : List ℕ) : Type 0 where
   pub ends : (answer : AllocAnswer) → r ≡ Ends answer → (ms : List ℕ)
-      → Does p (tables_of (view w) st ms) h c (allocReply answer) (tables_of (view w₁) st ms) h₁
+      → Does p (tables_of (view w) st ms) h c (alloc_reply answer) (tables_of (view w₁) st ms) h₁
   pub searches : (bin : ℕ) → r ≡ Searches bin → Serves p (view w) st c n bin
   pub words : (bin : ℕ) → r ≡ Searches bin → w₁ ≡ w
   pub heap : (bin : ℕ) → r ≡ Searches bin → h₁ ≡ h

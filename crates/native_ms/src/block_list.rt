@@ -5,7 +5,7 @@ ghost use Rattle.model.specs.Params.{good_params, bins, last_bin, lists};
 ghost use Rattle.model.specs.Tables.{view};
 ghost use Rattle.model.specs.BlockList.{popped, push, pop, remove, relabel, link, walk};
 ghost use Rattle.model.specs.Calls.{pages};
-ghost use Rattle.model.specs.Answers.{pagesReply};
+ghost use Rattle.model.specs.Answers.{pages_reply};
 ghost use Rattle.native_ms.specs.Counted.{counted_from, counted_bins, count_of, counted_more, set_fits, bins_in, pages_said};
 ghost use Rattle.native_ms.specs.Moved.{moved, append_moves};
 ghost use Rattle.native_ms.specs.Records.{with_record, record_at, beside, on_record, beside_popped, pop_on, beside_both, append_on, firsts};
@@ -440,7 +440,7 @@ fn count_more(p: Params, words: &[usize], list: BlockList, count: Counted) -> Co
 // What is answered of a set of so many records whose blocks were counted.
 fn pages_answer(p: Params, words: &[usize], records: usize, count: Counted) -> PagesAnswer
     requires { count_of count ≤ last_bin * p.blocks }
-    ensures { pagesReply result ≡ pages_said p (set_fits p words.now records) count }
+    ensures { pages_reply result ≡ pages_said p (set_fits p words.now records) count }
 {
     if !set_fits(p, words, records) {
         return PagesAnswer::Refused(Refusal::BadSetup);
@@ -453,7 +453,7 @@ fn pages_answer(p: Params, words: &[usize], records: usize, count: Counted) -> P
 
 // The pages of the blocks on the 49 lists of one set, by the records the caller lends. Bin 0 is not counted.
 pub fn pages_used(p: Params, words: &[usize], records: &[BlockList]) -> PagesAnswer
-    ensures { pagesReply result ≡ pages p words.now (firsts records.now) }
+    ensures { pages_reply result ≡ pages p words.now (firsts records.now) }
 {
     let given = records.len();
     let mut bin = bins_in(p, words, given);
@@ -467,7 +467,7 @@ pub fn pages_used(p: Params, words: &[usize], records: &[BlockList]) -> PagesAns
 
 // The same for a caller that holds the first blocks and no records.
 pub fn pages_of_firsts(p: Params, words: &[usize], firsts: &[usize]) -> PagesAnswer
-    ensures { pagesReply result ≡ pages p words.now firsts.now }
+    ensures { pages_reply result ≡ pages p words.now firsts.now }
 {
     let given = firsts.len();
     if !set_fits(p, words, given) {

@@ -5,7 +5,7 @@ ghost use Rattle.model.specs.Params.{good_params};
 ghost use Rattle.model.specs.SizeClasses.{no_rows, covers};
 ghost use Rattle.model.specs.Classes.{row_fits, bad_count, bad_row, classes_fit};
 ghost use Rattle.model.specs.Calls.{check_classes};
-ghost use Rattle.model.specs.Answers.{classesReply};
+ghost use Rattle.model.specs.Answers.{classes_reply};
 ghost use Rattle.native_ms.specs.Borders.{Bordered, Surveyed, Sizes};
 
 use crate::{params, size_class};
@@ -178,7 +178,7 @@ pub(crate) fn class_sizes(p: Params) -> [usize; BINS]
 
 // Names the least count of words that is missed or covered twice, or, where there is none, the first unfit row.
 pub fn check_classes(p: Params) -> ClassesAnswer
-    ensures { classesReply result ≡ check_classes p }
+    ensures { classes_reply result ≡ check_classes p }
 {
     if !params::good_params(p) {
         return ClassesAnswer::Refused(Refusal::BadSetup);

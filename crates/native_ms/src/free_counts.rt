@@ -6,7 +6,7 @@ ghost use Rattle.model.specs.Tables.{view, tables_of};
 ghost use Rattle.model.specs.Classes.{classes_fit};
 ghost use Rattle.model.specs.Sound.{list_named, chain_counts, chain_ok, chained, sound_on};
 ghost use Rattle.model.specs.Calls.{free_cells, cells_of, ask};
-ghost use Rattle.model.specs.Answers.{cellsReply};
+ghost use Rattle.model.specs.Answers.{cells_reply};
 ghost use Rattle.model.specs.Promise.{lend};
 ghost use Rattle.native_ms.specs.SoundLent.{Lengths};
 ghost use Rattle.native_ms.specs.FewCells.{FewCells, cells_in};
@@ -135,7 +135,7 @@ pub fn free_cells(
     heap: &[u8],
     bin: usize,
 ) -> CellsAnswer
-    ensures { cellsReply result ≡ ask p (lend words.now states.now marks.now heap.now) (free_cells bin) }
+    ensures { cells_reply result ≡ ask p (lend words.now states.now marks.now heap.now) (free_cells bin) }
 {
     match checks::check_lent(p, words, states, marks, heap) {
         Tested::Refused(r) => CellsAnswer::Refused(r),

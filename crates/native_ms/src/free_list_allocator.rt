@@ -10,7 +10,7 @@ ghost use Rattle.model.specs.BlockList.{popped};
 ghost use Rattle.model.specs.SizeClasses.{bin_of, raised};
 ghost use Rattle.model.specs.FreeListAllocator.{find_free_block_with, recycle_local_blocks, acquire_abandoned, find_block};
 ghost use Rattle.model.specs.Calls.{alloc, take_cell};
-ghost use Rattle.model.specs.Answers.{allocReply};
+ghost use Rattle.model.specs.Answers.{alloc_reply};
 ghost use Rattle.native_ms.specs.Closing.{Filed, skimmed, reached, closed, Searched};
 ghost use Rattle.model.specs.Promise.{lend, Promised};
 ghost use Rattle.native_ms.specs.Abandoned.{next_of, pop_abandoned, TakenOver};
@@ -355,7 +355,7 @@ fn serve_searched(
     wanted: Wanted,
 ) -> AllocAnswer
     requires { (Ready p (view words.old) wanted.holder wanted.bin wanted.align wanted.offset) × (Known p (length words.old) (length marks.now) (length heap.old)) × Offered p wanted.bin wanted.offer }
-    ensures { stepped (allocReply result) (tables_of (view words.new) states.new marks.now) heap.new ≡ ServedBy p wanted.align wanted.offset heap.old (find_block p wanted.holder wanted.bin wanted.offer (tables_of (view words.old) states.old marks.now)) }
+    ensures { stepped (alloc_reply result) (tables_of (view words.new) states.new marks.now) heap.new ≡ ServedBy p wanted.align wanted.offset heap.old (find_block p wanted.holder wanted.bin wanted.offer (tables_of (view words.old) states.old marks.now)) }
 {
     let search = find_block(p, words, states, marks, heap, wanted);
     let at = search.at;
@@ -412,7 +412,7 @@ fn serve_head(
     offset: usize,
 ) -> AllocAnswer
     requires { (Takeable p (view words.old) (length words.old) (length heap.old) b.0) × Shiftable align offset }
-    ensures { (st ms : List ℕ) → stepped (allocReply result) (tables_of (view words.new) st ms) heap.new ≡ shown (take_cell p (tables_of (view words.old) st ms) [] heap.old b.0 align offset false) }
+    ensures { (st ms : List ℕ) → stepped (alloc_reply result) (tables_of (view words.new) st ms) heap.new ≡ shown (take_cell p (tables_of (view words.old) st ms) [] heap.old b.0 align offset false) }
 {
     let taken = block::take_head(p, words, heap, b);
     let address = allocator::align_allocation(taken.at, align, offset);
@@ -470,7 +470,7 @@ pub(crate) fn alloc_searched(
     bin: usize,
 ) -> AllocAnswer
     requires { (lent_tests p (lend words.old states.old marks.now heap.old) ≡ Passed) × Serves p (view words.old) states.old (alloc holder request.size request.align request.offset request.offer) (bin_of p (raised p request.size request.align)) bin }
-    ensures { Does p (tables_of (view words.old) states.old marks.now) heap.old (alloc holder request.size request.align request.offset request.offer) (allocReply result) (tables_of (view words.new) states.new marks.now) heap.new }
+    ensures { Does p (tables_of (view words.old) states.old marks.now) heap.old (alloc holder request.size request.align request.offset request.offer) (alloc_reply result) (tables_of (view words.new) states.new marks.now) heap.new }
 {
     let offer = request.offer;
     let wanted = Wanted {
@@ -494,7 +494,7 @@ pub(crate) fn do_alloc(
     request: Request,
 ) -> AllocAnswer
     requires { lent_tests p (lend words.old states.old marks.now heap.old) ≡ Passed }
-    ensures { Does p (tables_of (view words.old) states.old marks.now) heap.old (alloc holder request.size request.align request.offset request.offer) (allocReply result) (tables_of (view words.new) states.new marks.now) heap.new }
+    ensures { Does p (tables_of (view words.old) states.old marks.now) heap.old (alloc holder request.size request.align request.offset request.offer) (alloc_reply result) (tables_of (view words.new) states.new marks.now) heap.new }
 {
     match alloc_short(p, words, states, heap, holder, request) {
         Short::Ends(answer) => answer,
@@ -512,7 +512,7 @@ pub fn alloc(
     holder: usize,
     request: Request,
 ) -> AllocAnswer
-    ensures { Promised p (lend words.old states.old marks.now heap.old) (alloc holder request.size request.align request.offset request.offer) (allocReply result) (lend words.new states.new marks.now heap.new) }
+    ensures { Promised p (lend words.old states.old marks.now heap.old) (alloc holder request.size request.align request.offset request.offer) (alloc_reply result) (lend words.new states.new marks.now heap.new) }
 {
     match checks::check_lent(p, words, states, marks, heap) {
         Tested::Refused(r) => AllocAnswer::Refused(r),

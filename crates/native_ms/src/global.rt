@@ -16,7 +16,7 @@ ghost use Rattle.model.specs.Params.{good_params, bins, lists, holders, parts, h
 ghost use Rattle.model.specs.Tables.{view, tables_of, with_released};
 ghost use Rattle.model.specs.Global.{freed, unmarked_state, release_from, release_bin, release_holder, sweep_later_bin, sweep_later, is_holder, is_bound, has_released, all_released};
 ghost use Rattle.model.specs.Calls.{bind, destroy, prepare, mark, release, shared_release};
-ghost use Rattle.model.specs.Answers.{replyOf, destroyReply, markReply, releaseReply};
+ghost use Rattle.model.specs.Answers.{reply_of, destroy_reply, mark_reply, release_reply};
 ghost use Rattle.model.specs.Promise.{lend, Promised, SetUpPromised};
 ghost use Rattle.native_ms.specs.Moved.{moved, bin_moves, bins_move, end_moves, part_moves};
 ghost use Rattle.native_ms.specs.Ending.{Does};
@@ -111,7 +111,7 @@ pub fn set_up(
     marks: &mut [u8],
     heap: &[u8],
 ) -> Answer
-    ensures { SetUpPromised p (lend words.old states.old marks.old heap.now) (replyOf result) (lend words.new states.new marks.new heap.now) }
+    ensures { SetUpPromised p (lend words.old states.old marks.old heap.now) (reply_of result) (lend words.new states.new marks.new heap.now) }
 {
     if !checks::lent_fits(p, words, states, marks, heap) {
         return Answer::Refused(Refusal::BadSetup);
@@ -129,7 +129,7 @@ pub fn set_up(
 
 // Gives a holder its lists, which are empty.
 pub(crate) fn do_bind(w: &mut [usize], holder: usize) -> Answer
-    ensures { (p : Params) (s m h : List ℕ) → Does p (tables_of (view w.old) s m) h (bind holder) (replyOf result) (tables_of (view w.new) s m) h }
+    ensures { (p : Params) (s m h : List ℕ) → Does p (tables_of (view w.old) s m) h (bind holder) (reply_of result) (tables_of (view w.new) s m) h }
 {
     match checks::check_bind(w, holder) {
         Tested::Refused(r) => Answer::Refused(r),
@@ -148,7 +148,7 @@ pub fn bind(
     heap: &[u8],
     holder: usize,
 ) -> Answer
-    ensures { Promised p (lend words.old states.now marks.now heap.now) (bind holder) (replyOf result) (lend words.new states.now marks.now heap.now) }
+    ensures { Promised p (lend words.old states.now marks.now heap.now) (bind holder) (reply_of result) (lend words.new states.now marks.now heap.now) }
 {
     match checks::check_lent(p, words, states, marks, heap) {
         Tested::Refused(r) => Answer::Refused(r),
@@ -191,7 +191,7 @@ fn abandon_blocks(p: Params, w: &mut [usize], to: usize, from: usize) -> usize
 // blocks it left behind.
 pub(crate) fn do_destroy(p: Params, w: &mut [usize], holder: usize) -> DestroyAnswer
     requires { good_params p ≡ true }
-    ensures { (s m h : List ℕ) → Does p (tables_of (view w.old) s m) h (destroy holder) (destroyReply result) (tables_of (view w.new) s m) h }
+    ensures { (s m h : List ℕ) → Does p (tables_of (view w.old) s m) h (destroy holder) (destroy_reply result) (tables_of (view w.new) s m) h }
 {
     match checks::check_leave(w, holder) {
         Tested::Refused(r) => DestroyAnswer::Refused(r),
@@ -212,7 +212,7 @@ pub fn destroy(
     heap: &[u8],
     holder: usize,
 ) -> DestroyAnswer
-    ensures { Promised p (lend words.old states.now marks.now heap.now) (destroy holder) (destroyReply result) (lend words.new states.now marks.now heap.now) }
+    ensures { Promised p (lend words.old states.now marks.now heap.now) (destroy holder) (destroy_reply result) (lend words.new states.now marks.now heap.now) }
 {
     match checks::check_lent(p, words, states, marks, heap) {
         Tested::Refused(r) => DestroyAnswer::Refused(r),
@@ -246,7 +246,7 @@ fn unmark_blocks(st: &mut [u8])
 // Starts a collection.
 pub(crate) fn do_prepare(w: &mut [usize], st: &mut [u8], m: &mut [u8]) -> Answer
     requires { head_words ≤ length w.old }
-    ensures { (p : Params) (h : List ℕ) → Does p (tables_of (view w.old) st.old m.old) h prepare (replyOf result) (tables_of (view w.new) st.new m.new) h }
+    ensures { (p : Params) (h : List ℕ) → Does p (tables_of (view w.old) st.old m.old) h prepare (reply_of result) (tables_of (view w.new) st.new m.new) h }
 {
     match checks::check_phase(w, RUNNING) {
         Tested::Refused(r) => Answer::Refused(r),
@@ -266,7 +266,7 @@ pub fn prepare(
     marks: &mut [u8],
     heap: &[u8],
 ) -> Answer
-    ensures { Promised p (lend words.old states.old marks.old heap.now) prepare (replyOf result) (lend words.new states.new marks.new heap.now) }
+    ensures { Promised p (lend words.old states.old marks.old heap.now) prepare (reply_of result) (lend words.new states.new marks.new heap.now) }
 {
     match checks::check_lent(p, words, states, marks, heap) {
         Tested::Refused(r) => Answer::Refused(r),
@@ -284,7 +284,7 @@ pub(crate) fn do_mark(
     b: Block,
 ) -> MarkAnswer
     requires { good_params p ≡ true }
-    ensures { (h : List ℕ) → Does p (tables_of (view w.now) st.old m.old) h (mark place.0 b.0) (markReply result) (tables_of (view w.now) st.new m.new) h }
+    ensures { (h : List ℕ) → Does p (tables_of (view w.now) st.old m.old) h (mark place.0 b.0) (mark_reply result) (tables_of (view w.now) st.new m.new) h }
 {
     match checks::check_mark(p, w, st, place, b) {
         Tested::Refused(r) => MarkAnswer::Refused(r),
@@ -308,7 +308,7 @@ pub fn mark(
     place: Address,
     block: Block,
 ) -> MarkAnswer
-    ensures { Promised p (lend words.now states.old marks.old heap.now) (mark place.0 block.0) (markReply result) (lend words.now states.new marks.new heap.now) }
+    ensures { Promised p (lend words.now states.old marks.old heap.now) (mark place.0 block.0) (mark_reply result) (lend words.now states.new marks.new heap.now) }
 {
     match checks::check_lent(p, words, states, marks, heap) {
         Tested::Refused(r) => MarkAnswer::Refused(r),
@@ -487,7 +487,7 @@ pub(crate) fn do_release(
     holder: usize,
 ) -> ReleaseAnswer
     requires { Known p (length w.old) (length m.now) (length heap.old) }
-    ensures { Does p (tables_of (view w.old) st.old m.now) heap.old (release holder) (releaseReply result) (tables_of (view w.new) st.new m.now) heap.new }
+    ensures { Does p (tables_of (view w.old) st.old m.now) heap.old (release holder) (release_reply result) (tables_of (view w.new) st.new m.now) heap.new }
 {
     match checks::check_release(w, holder) {
         Tested::Refused(r) => ReleaseAnswer::Refused(r),
@@ -512,7 +512,7 @@ pub fn release(
     heap: &mut [u8],
     holder: usize,
 ) -> ReleaseAnswer
-    ensures { Promised p (lend words.old states.old marks.now heap.old) (release holder) (releaseReply result) (lend words.new states.new marks.now heap.new) }
+    ensures { Promised p (lend words.old states.old marks.now heap.old) (release holder) (release_reply result) (lend words.new states.new marks.now heap.new) }
 {
     match checks::check_lent(p, words, states, marks, heap) {
         Tested::Refused(r) => ReleaseAnswer::Refused(r),
@@ -529,7 +529,7 @@ pub(crate) fn do_shared_release(
     heap: &mut [u8],
 ) -> ReleaseAnswer
     requires { Known p (length w.old) (length m.now) (length heap.old) }
-    ensures { Does p (tables_of (view w.old) st.old m.now) heap.old shared_release (releaseReply result) (tables_of (view w.new) st.new m.now) heap.new }
+    ensures { Does p (tables_of (view w.old) st.old m.now) heap.old shared_release (release_reply result) (tables_of (view w.new) st.new m.now) heap.new }
 {
     match checks::check_shared_release(w) {
         Tested::Refused(r) => ReleaseAnswer::Refused(r),
@@ -553,7 +553,7 @@ pub fn shared_release(
     marks: &[u8],
     heap: &mut [u8],
 ) -> ReleaseAnswer
-    ensures { Promised p (lend words.old states.old marks.now heap.old) shared_release (releaseReply result) (lend words.new states.new marks.now heap.new) }
+    ensures { Promised p (lend words.old states.old marks.now heap.old) shared_release (release_reply result) (lend words.new states.new marks.now heap.new) }
 {
     match checks::check_lent(p, words, states, marks, heap) {
         Tested::Refused(r) => ReleaseAnswer::Refused(r),

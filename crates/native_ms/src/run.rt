@@ -4,7 +4,7 @@ ghost use Rattle.std.specs.Prelude.{◌≡◌, ◌+◌, ◌*◌, ◌≤◌, leng
 ghost use Rattle.model.specs.declared.Tested.TheVariants.{Passed};
 ghost use Rattle.model.specs.Memory.{overwrite};
 ghost use Rattle.model.specs.Calls.{refused, call};
-ghost use Rattle.model.specs.Answers.{replyOf, call_of, said_of, outcome, outcomeOf};
+ghost use Rattle.model.specs.Answers.{reply_of, call_of, said_of, outcome, outcome_of};
 ghost use Rattle.model.specs.Exports.{offered_by};
 ghost use Rattle.model.specs.RunCalls.{call_at, made, said_words, run_from, run_result, run_calls};
 ghost use Rattle.model.specs.Promise.{lend};
@@ -81,7 +81,7 @@ fn make(
     ask: Ask,
 ) -> Said
     requires { lent_tests p (lend words.old states.old marks.old heap.old) ≡ Passed }
-    ensures { outcome result (lend words.new states.new marks.new heap.new) ≡ outcomeOf (call p (lend words.old states.old marks.old heap.old) (call_of ask)) }
+    ensures { outcome result (lend words.new states.new marks.new heap.new) ≡ outcome_of (call p (lend words.old states.old marks.old heap.old) (call_of ask)) }
 {
     match ask {
         Ask::Bind(h) => said::simple_said(global::do_bind(words, h)),
@@ -132,7 +132,7 @@ fn make_entry(
     entry: Entry,
 ) -> Said
     requires { lent_tests p (lend words.old states.old marks.old heap.old) ≡ Passed }
-    ensures { outcome result (lend words.new states.new marks.new heap.new) ≡ outcomeOf (made p (lend words.old states.old marks.old heap.old) (entry_call entry)) }
+    ensures { outcome result (lend words.new states.new marks.new heap.new) ≡ outcome_of (made p (lend words.old states.old marks.old heap.old) (entry_call entry)) }
 {
     match entry {
         Entry::Asks(ask) => make(p, words, states, marks, heap, ask),
@@ -217,7 +217,7 @@ pub fn run(
     marks: &mut [u8],
     heap: &mut [u8],
 ) -> Answer
-    ensures { run_result (replyOf result) answers.new (lend words.new states.new marks.new heap.new) ≡ run_calls p (lend words.old states.old marks.old heap.old) calls.now answers.old }
+    ensures { run_result (reply_of result) answers.new (lend words.new states.new marks.new heap.new) ≡ run_calls p (lend words.old states.old marks.old heap.old) calls.now answers.old }
 {
     let length = calls.len();
     let room = answers.len();

@@ -2,7 +2,7 @@
 ghost use Rattle.std.specs.Prelude.{◌≡◌};
 ghost use Rattle.model.specs.Base.{flag};
 ghost use Rattle.model.specs.Calls.{refusal_number, refused};
-ghost use Rattle.model.specs.Answers.{replyOf, destroyReply, allocReply, markReply, releaseReply, said_of};
+ghost use Rattle.model.specs.Answers.{reply_of, destroy_reply, alloc_reply, mark_reply, release_reply, said_of};
 
 use model::{AllocAnswer, Answer, DestroyAnswer, MarkAnswer, Refusal, ReleaseAnswer, Said};
 
@@ -40,7 +40,7 @@ pub fn refusal_said(x: Refusal) -> Said
 }
 
 pub fn simple_said(x: Answer) -> Said
-    ensures { result ≡ said_of (replyOf x) }
+    ensures { result ≡ said_of (reply_of x) }
 {
     let Answer::Refused(refusal) = x else {
         return Said {
@@ -61,7 +61,7 @@ fn flag_number(x: bool) -> usize
 }
 
 pub fn alloc_said(x: AllocAnswer) -> Said
-    ensures { result ≡ said_of (allocReply x) }
+    ensures { result ≡ said_of (alloc_reply x) }
 {
     match x {
         AllocAnswer::Refused(refusal) => refusal_said(refusal),
@@ -94,7 +94,7 @@ pub fn alloc_said(x: AllocAnswer) -> Said
 }
 
 pub fn mark_said(x: MarkAnswer) -> Said
-    ensures { result ≡ said_of (markReply x) }
+    ensures { result ≡ said_of (mark_reply x) }
 {
     match x {
         MarkAnswer::Refused(refusal) => refusal_said(refusal),
@@ -112,7 +112,7 @@ pub fn mark_said(x: MarkAnswer) -> Said
 }
 
 pub fn destroy_said(x: DestroyAnswer) -> Said
-    ensures { result ≡ said_of (destroyReply x) }
+    ensures { result ≡ said_of (destroy_reply x) }
 {
     match x {
         DestroyAnswer::Refused(refusal) => refusal_said(refusal),
@@ -127,7 +127,7 @@ pub fn destroy_said(x: DestroyAnswer) -> Said
 }
 
 pub fn release_said(x: ReleaseAnswer) -> Said
-    ensures { result ≡ said_of (releaseReply x) }
+    ensures { result ≡ said_of (release_reply x) }
 {
     match x {
         ReleaseAnswer::Refused(refusal) => refusal_said(refusal),

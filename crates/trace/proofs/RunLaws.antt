@@ -17,7 +17,7 @@ use Rattle.model.specs.Params.{Lent}
 use Rattle.model.specs.declared.Ask.{Ask}
 use Rattle.model.specs.declared.Said.{Said}
 use Rattle.model.specs.Calls.{Call, refusal_number, call}
-use Rattle.model.specs.Answers.{call_of, Outcome, outcome, outcomeOf}
+use Rattle.model.specs.Answers.{call_of, Outcome, outcome, outcome_of}
 use Rattle.model.specs.Census.{line_of, pieces, space, lines_of}
 use Rattle.model.specs.Census.{census_params, line_result, RefusedLine, Ran, run_lines}
 use Rattle.laws.proofs.Base.{if_cases}
@@ -36,8 +36,8 @@ use Rattle.trace.specs.Run.{Kept, LineRan, TraceRan, placed}
 
 -- a call on the space of the census
 pub ran_call : {p : Params} {l l' : Lent} {line : Kind} {ask : Ask} {s : Said} {n : ℕ} → p ≡ census_params → line ≡ Asks ask
-    → outcome s l' ≡ outcomeOf (call p l (call_of ask)) → n ≡ s.number → LineRan l (line_for line) n l'
-unfolding line_result line_for outcomeOf
+    → outcome s l' ≡ outcome_of (call p l (call_of ask)) → n ≡ s.number → LineRan l (line_for line) n l'
+unfolding line_result line_for outcome_of
 ran_call e k h f =
     let q = rw e at h in
     rw k (record { number = f ∙ ap (λ (x : Outcome). x.said.number) q; lent = ap (λ (x : Outcome). x.lent) q })

@@ -3,7 +3,7 @@
 use mathlib.Core.Path.{sym, ◌∙◌}
 use native.Mathlib.Omega.{arith}
 use Rattle.model.specs.Tables.{view}
-use Rattle.model.specs.Answers.{allocReply}
+use Rattle.model.specs.Answers.{alloc_reply}
 use Rattle.laws.proofs.Params.{good_bounds}
 use Rattle.native_ms.proofs.Search.{sets_low}
 use Rattle.native_ms.proofs.Ending.{serve_head}
@@ -31,7 +31,7 @@ pub returns-then-b-p : goal.returns-then-b-p
 returns-then-b-p c = short_ended c.args.p c.args.words.now c.args.states.now c.args.heap.now _ _ (λ ms. call_served c.args.p c.args.words.now c.args.states.now ms c.args.heap.now _ _ _ _ _ c.check_alloc.ensures c.in-Bin.is (serve_head c.args.p c.args.holder _ c.args.request.offer (view c.args.words.now) c.args.states.now ms c.args.heap.now c.local_sets-owner.ensures c.available-list.ensures.same (c.free_head-b.ensures c.if-b-p.true) (omega (arith, (good_bounds c.args.p (call_ready c.args.p c.args.words.now c.args.states.now c.requires.marks c.args.heap.now _ _ _ _ _ c.check_alloc.ensures c.in-Bin.is c.requires.passed).good).blocks_low)) c.args.request.align c.args.request.offset (c.serve_head.ensures _ ms)))
 
 pub returns-in-Refused : goal.returns-in-Refused
-unfolding allocReply
+unfolding alloc_reply
 returns-in-Refused c = short_ended c.args.p c.args.words.now c.args.states.now c.args.heap.now _ _ (λ ms. call_refused c.args.p c.args.words.now c.args.states.now ms c.args.heap.now _ _ _ _ _ c.check_alloc.ensures c.in-Refused.is)
 
 pub returns-else-b-p : goal.returns-else-b-p

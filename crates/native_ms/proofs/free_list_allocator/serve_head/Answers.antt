@@ -1,6 +1,6 @@
 -- `free_list_allocator::serve_head` takes the cell and answers it as the machine does.
 use Rattle.model.specs.Tables.{view}
-use Rattle.model.specs.Answers.{allocReply}
+use Rattle.model.specs.Answers.{alloc_reply}
 use borrow.Author.Rules.{rules}
 use Rattle.native_ms.proofs.Ending.{head_cell, cell_at}
 use Rattle.native_ms.proofs.ShortWay.{taken_low}
@@ -13,5 +13,5 @@ pub align_allocation-address-requires : goal.align_allocation-address-requires
 align_allocation-address-requires c = (c.requires.1.align_from, c.requires.1.align_to, taken_low c.args.p (view c.args.words.now) c.requires.0 (cell_at c.args.p c.args.b.0 (view c.args.words.now) c.args.heap.now c.take_head-taken.ensures), c.requires.1.offset_low)
 
 pub returns : goal.returns
-unfolding allocReply
+unfolding alloc_reply
 returns c = head_cell c.args.p c.args.b.0 c.args.align c.args.offset (view c.args.words.now) c.args.heap.now c.take_head-taken.ensures c.align_allocation-address.ensures

@@ -1,5 +1,5 @@
 -- `global::do_bind` steps as `sound_step` does, refused or not. Assumes nothing.
-use Rattle.model.specs.Answers.{replyOf}
+use Rattle.model.specs.Answers.{reply_of}
 use Rattle.laws.proofs.Tables.{put_bound_lem}
 use Rattle.native_ms.proofs.SpaceCalls.{bind_low, bind_done, bind_refused}
 use borrow.Author.Rules.{rules}
@@ -15,9 +15,9 @@ pub set_bound-requires : goal.set_bound-requires
 set_bound-requires c = tt
 
 pub returns-in-Refused : goal.returns-in-Refused
-unfolding replyOf
+unfolding reply_of
 returns-in-Refused c = bind_refused _ _ c.check_bind.ensures c.in-Refused.is
 
 pub returns-in-Passed : goal.returns-in-Passed
-unfolding replyOf
+unfolding reply_of
 returns-in-Passed c = bind_done _ _ c.check_bind.ensures c.in-Passed.is (put_bound_lem _ _ _ c.set_bound.ensures)

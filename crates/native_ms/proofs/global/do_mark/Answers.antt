@@ -1,5 +1,5 @@
 -- `global::do_mark` steps as `sound_step` does, refused or not. Assumes nothing.
-use Rattle.model.specs.Answers.{markReply}
+use Rattle.model.specs.Answers.{mark_reply}
 use Rattle.model.specs.Base.{flag}
 use Rattle.native_ms.proofs.SpaceCalls.{mark_refused, mark_old, mark_new}
 use borrow.Author.Rules.{rules}
@@ -12,16 +12,16 @@ pub is_marked-requires : goal.is_marked-requires
 is_marked-requires c = c.requires
 
 pub returns-then-is_marked : goal.returns-then-is_marked
-unfolding markReply flag
+unfolding mark_reply flag
 returns-then-is_marked c = mark_old _ _ _ _ _ _ c.check_mark.ensures c.in-Passed.is c.is_marked.ensures c.if-is_marked.true
 
 pub set_state-requires : goal.set_state-requires
 set_state-requires c = tt
 
 pub returns-in-Refused : goal.returns-in-Refused
-unfolding markReply
+unfolding mark_reply
 returns-in-Refused c = mark_refused _ _ _ _ _ _ c.check_mark.ensures c.in-Refused.is
 
 pub returns-else-is_marked : goal.returns-else-is_marked
-unfolding markReply flag
+unfolding mark_reply flag
 returns-else-is_marked c = mark_new _ _ _ _ _ _ c.check_mark.ensures c.in-Passed.is c.is_marked.ensures c.if-is_marked.false c.set_state.ensures c.set_mark.ensures

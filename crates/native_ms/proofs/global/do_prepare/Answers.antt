@@ -1,5 +1,5 @@
 -- `global::do_prepare` steps as `sound_step` does, refused or not. Assumes nothing.
-use Rattle.model.specs.Answers.{replyOf}
+use Rattle.model.specs.Answers.{reply_of}
 use Rattle.laws.proofs.Tables.{put_phase_lem}
 use Rattle.native_ms.proofs.SpaceCalls.{prepare_done, prepare_refused}
 use borrow.Author.Rules.{rules}
@@ -18,9 +18,9 @@ pub clear_all-requires : goal.clear_all-requires
 clear_all-requires c = tt
 
 pub returns-in-Refused : goal.returns-in-Refused
-unfolding replyOf
+unfolding reply_of
 returns-in-Refused c = prepare_refused _ _ _ c.check_phase.ensures c.in-Refused.is
 
 pub returns-in-Passed : goal.returns-in-Passed
-unfolding replyOf
+unfolding reply_of
 returns-in-Passed c = prepare_done _ _ _ c.check_phase.ensures c.in-Passed.is (c.requires) (λ h. put_phase_lem _ _ h c.set_phase.ensures) c.unmark_blocks.ensures c.clear_all.ensures

@@ -1,7 +1,7 @@
 -- `global::do_release` steps as `sound_step` does, refused or not. Assumes nothing.
 use native.Mathlib.Omega.{arith}
 use mathlib.Core.Path.{refl, ◌∙◌}
-use Rattle.model.specs.Answers.{releaseReply}
+use Rattle.model.specs.Answers.{release_reply}
 use Rattle.native_ms.proofs.Offsets.{known_on, words_known}
 use Rattle.native_ms.proofs.SpaceCalls.{release_bound, release_refused, release_done}
 use borrow.Author.Rules.{rules}
@@ -20,7 +20,7 @@ pub part_released-merged-requires : goal.part_released-merged-requires
 part_released-merged-requires c = (c.requires.good, omega (arith, words_known _ c.requires.count, c.release_holder-count.auto.w, c.eagerly-swept.auto.w))
 
 pub returns-in-Refused : goal.returns-in-Refused
-unfolding releaseReply
+unfolding release_reply
 returns-in-Refused c = release_refused _ _ _ _ c.check_release.ensures c.in-Refused.is _ _
 
 pub shape_of-w-in-Passed : goal.shape_of-w-in-Passed
@@ -33,5 +33,5 @@ pub shape_of-heap : goal.shape_of-heap
 shape_of-heap c = c.eagerly-swept.auto.heap
 
 pub returns-in-Passed : goal.returns-in-Passed
-unfolding releaseReply
+unfolding release_reply
 returns-in-Passed c = release_done _ _ _ _ c.check_release.ensures _ _ c.in-Passed.is c.release_holder-count.ensures c.eagerly-swept.ensures c.part_released-merged.ensures

@@ -1,5 +1,5 @@
 -- `global::mark` promises `call`: refused by its first tests, or its step on sound tables. Assumes nothing.
-use Rattle.model.specs.Answers.{markReply}
+use Rattle.model.specs.Answers.{mark_reply}
 use Rattle.native_ms.proofs.Tests.{lent_refused, lent_passed, open_good}
 use mathlib.Core.Path.{refl, sym, ◌∙◌}
 use borrow.Author.Rules.{rules}
@@ -12,7 +12,7 @@ pub do_mark-requires : goal.do_mark-requires
 do_mark-requires c = open_good c.args.p _ _ _ _ (sym c.check_lent.ensures ∙ c.in-Passed.is)
 
 pub returns-in-Refused : goal.returns-in-Refused
-unfolding markReply
+unfolding mark_reply
 returns-in-Refused c = lent_refused c.args.p _ _ _ _ _ c.check_lent.ensures c.in-Refused.is
 
 pub returns-in-Passed : goal.returns-in-Passed

@@ -1,5 +1,5 @@
 -- `global::prepare` promises `call`: refused by its first tests, or its step on sound tables. Assumes nothing.
-use Rattle.model.specs.Answers.{replyOf}
+use Rattle.model.specs.Answers.{reply_of}
 use Rattle.native_ms.proofs.Tests.{lent_refused, lent_passed, open_long}
 use mathlib.Core.Path.{sym, ◌∙◌}
 use borrow.Author.Rules.{rules}
@@ -12,7 +12,7 @@ pub do_prepare-requires : goal.do_prepare-requires
 do_prepare-requires c = open_long c.args.p _ _ _ _ (sym c.check_lent.ensures ∙ c.in-Passed.is)
 
 pub returns-in-Refused : goal.returns-in-Refused
-unfolding replyOf
+unfolding reply_of
 returns-in-Refused c = lent_refused c.args.p _ _ _ _ _ c.check_lent.ensures c.in-Refused.is
 
 pub returns-in-Passed : goal.returns-in-Passed

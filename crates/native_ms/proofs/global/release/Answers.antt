@@ -1,5 +1,5 @@
 -- `global::release` promises `call`: refused by its first tests, or its step on sound tables. Assumes nothing.
-use Rattle.model.specs.Answers.{releaseReply}
+use Rattle.model.specs.Answers.{release_reply}
 use Rattle.native_ms.proofs.Tests.{lent_refused, lent_passed, open_known}
 use mathlib.Core.Path.{sym, ◌∙◌}
 use borrow.Author.Rules.{rules}
@@ -12,7 +12,7 @@ pub do_release-requires : goal.do_release-requires
 do_release-requires c = open_known c.args.p _ _ _ _ (sym c.check_lent.ensures ∙ c.in-Passed.is)
 
 pub returns-in-Refused : goal.returns-in-Refused
-unfolding releaseReply
+unfolding release_reply
 returns-in-Refused c = lent_refused c.args.p _ _ _ _ _ c.check_lent.ensures c.in-Refused.is
 
 pub returns-in-Passed : goal.returns-in-Passed

@@ -1,6 +1,6 @@
 -- `global::set_up` promises `set_up`: refused, or all tables and marks 0. Assumes nothing.
 use borrow.Author.Tests.{not-true, not-false}
-use Rattle.model.specs.Answers.{replyOf}
+use Rattle.model.specs.Answers.{reply_of}
 use Rattle.native_ms.proofs.SpaceCalls.{bad_set_up, bad_rows, set_up_done}
 use Rattle.native_ms.proofs.Tests.{fit_parts}
 use borrow.Author.Rules.{rules}
@@ -10,14 +10,14 @@ pub lent_fits-requires : goal.lent_fits-requires
 lent_fits-requires c = tt
 
 pub returns-then-not-lent_fits : goal.returns-then-not-lent_fits
-unfolding replyOf
+unfolding reply_of
 returns-then-not-lent_fits c = bad_set_up _ _ _ _ _ c.lent_fits.ensures c.if-not-lent_fits.true
 
 pub classes_fit-requires : goal.classes_fit-requires
 classes_fit-requires c = (fit_parts _ _ _ _ _ c.lent_fits.ensures c.if-not-lent_fits.false).good
 
 pub returns-then-not-classes_fit : goal.returns-then-not-classes_fit
-unfolding replyOf
+unfolding reply_of
 returns-then-not-classes_fit c = bad_rows _ _ _ _ _ c.lent_fits.ensures c.if-not-lent_fits.false c.classes_fit.ensures c.if-not-classes_fit.true
 
 pub clear_words-requires : goal.clear_words-requires
@@ -30,5 +30,5 @@ pub clear_all-requires-2 : goal.clear_all-requires-2
 clear_all-requires-2 c = tt
 
 pub returns : goal.returns
-unfolding replyOf
+unfolding reply_of
 returns c = set_up_done _ _ _ _ _ c.lent_fits.ensures c.if-not-lent_fits.false c.classes_fit.ensures c.if-not-classes_fit.false c.clear_words.ensures c.clear_all.ensures c.clear_all-2.ensures

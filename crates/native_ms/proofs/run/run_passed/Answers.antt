@@ -5,7 +5,7 @@ use native.Mathlib.Omega.{arith}
 use lib.ListN.{length}
 use Rattle.model.specs.declared.Tested.TheVariants.{Passed}
 use Rattle.model.specs.Calls.{Call}
-use Rattle.model.specs.Answers.{outcomeOf}
+use Rattle.model.specs.Answers.{outcome_of}
 use Rattle.model.specs.Promise.{lend}
 use Rattle.model.specs.RunCalls.{call_at, made, run_from}
 use Rattle.native_ms.specs.Checked.{lent_tests}
@@ -38,7 +38,7 @@ pub loop-left-smaller : goal.loop-left-smaller
 loop-left-smaller c = omega (arith, c.loop-left-test.true)
 
 pub loop-left-preserved : goal.loop-left-preserved
-loop-left-preserved c = (c.put_said.auto.answers ∙ c.loop-left.invariant.0, c.make_entry-said.auto.words ∙ c.loop-left.invariant.1, c.make_entry-said.auto.states ∙ c.loop-left.invariant.2, c.make_entry-said.auto.marks ∙ c.loop-left.invariant.3, c.make_entry-said.auto.heap ∙ c.loop-left.invariant.4, passed_kept c.args.p c.loop-left.words c.loop-left.states c.loop-left.marks c.loop-left.heap c.loop-left.invariant.5 (call_at c.args.calls.now c.loop-left.from) c.make_entry-said.auto.words c.make_entry-said.auto.states c.make_entry-said.auto.marks c.make_entry-said.auto.heap (c.make_entry-said.ensures ∙ ap (λ (e : Option Call). outcomeOf (made c.args.p (lend c.loop-left.words c.loop-left.states c.loop-left.marks c.loop-left.heap) e)) c.entry_at.ensures), omega (arith, c.loop-left.invariant.6, c.loop-left-test.true), omega (arith, c.loop-left.invariant.7, c.loop-left-test.true), omega (arith, c.loop-left.invariant.8), round c.args.p c.args.calls.now c.loop-left.left c.loop-left.from c.loop-left.to c.loop-left.answers (lend c.loop-left.words c.loop-left.states c.loop-left.marks c.loop-left.heap) c.loop-left-test.true (c.make_entry-said.ensures ∙ ap (λ (e : Option Call). outcomeOf (made c.args.p (lend c.loop-left.words c.loop-left.states c.loop-left.marks c.loop-left.heap) e)) c.entry_at.ensures) c.put_said.ensures ∙ c.loop-left.invariant.9)
+loop-left-preserved c = (c.put_said.auto.answers ∙ c.loop-left.invariant.0, c.make_entry-said.auto.words ∙ c.loop-left.invariant.1, c.make_entry-said.auto.states ∙ c.loop-left.invariant.2, c.make_entry-said.auto.marks ∙ c.loop-left.invariant.3, c.make_entry-said.auto.heap ∙ c.loop-left.invariant.4, passed_kept c.args.p c.loop-left.words c.loop-left.states c.loop-left.marks c.loop-left.heap c.loop-left.invariant.5 (call_at c.args.calls.now c.loop-left.from) c.make_entry-said.auto.words c.make_entry-said.auto.states c.make_entry-said.auto.marks c.make_entry-said.auto.heap (c.make_entry-said.ensures ∙ ap (λ (e : Option Call). outcome_of (made c.args.p (lend c.loop-left.words c.loop-left.states c.loop-left.marks c.loop-left.heap) e)) c.entry_at.ensures), omega (arith, c.loop-left.invariant.6, c.loop-left-test.true), omega (arith, c.loop-left.invariant.7, c.loop-left-test.true), omega (arith, c.loop-left.invariant.8), round c.args.p c.args.calls.now c.loop-left.left c.loop-left.from c.loop-left.to c.loop-left.answers (lend c.loop-left.words c.loop-left.states c.loop-left.marks c.loop-left.heap) c.loop-left-test.true (c.make_entry-said.ensures ∙ ap (λ (e : Option Call). outcome_of (made c.args.p (lend c.loop-left.words c.loop-left.states c.loop-left.marks c.loop-left.heap) e)) c.entry_at.ensures) c.put_said.ensures ∙ c.loop-left.invariant.9)
 
 pub shape_of-answers : goal.shape_of-answers
 shape_of-answers c = c.loop-left.invariant.0

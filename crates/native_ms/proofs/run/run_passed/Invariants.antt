@@ -7,7 +7,7 @@ use native.Mathlib.Omega.{arith}
 use lib.ListN.{length}
 use Rattle.model.specs.declared.Tested.TheVariants.{Passed}
 use Rattle.model.specs.Calls.{Call}
-use Rattle.model.specs.Answers.{outcomeOf}
+use Rattle.model.specs.Answers.{outcome_of}
 use Rattle.model.specs.Promise.{lend}
 use Rattle.model.specs.RunCalls.{call_at, made, run_from}
 use Rattle.native_ms.specs.Checked.{lent_tests}

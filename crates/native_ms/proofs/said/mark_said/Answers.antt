@@ -1,12 +1,12 @@
 -- `mark_said` meets its contract.
-use Rattle.model.specs.Answers.{markReply}
+use Rattle.model.specs.Answers.{mark_reply}
 use borrow.Author.Rules.{rules}
 use Rattle.native_ms.proofs.said.mark_said.Goals as goal
 
 pub returns-in-Refused : goal.returns-in-Refused
-unfolding markReply
+unfolding mark_reply
 returns-in-Refused c = rw c.in-Refused.is c.refusal_said.ensures
 
 pub returns-in-Marked : goal.returns-in-Marked
-unfolding markReply
+unfolding mark_reply
 returns-in-Marked c = rw (c.in-Marked.is, c.flag_number-first.ensures)

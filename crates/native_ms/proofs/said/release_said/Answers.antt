@@ -1,12 +1,12 @@
 -- `release_said` meets its contract.
-use Rattle.model.specs.Answers.{releaseReply}
+use Rattle.model.specs.Answers.{release_reply}
 use borrow.Author.Rules.{rules}
 use Rattle.native_ms.proofs.said.release_said.Goals as goal
 
 pub returns-in-Refused : goal.returns-in-Refused
-unfolding releaseReply
+unfolding release_reply
 returns-in-Refused c = rw c.in-Refused.is c.refusal_said.ensures
 
 pub returns-in-Released : goal.returns-in-Released
-unfolding releaseReply
+unfolding release_reply
 returns-in-Released c = rw c.in-Released.is
