@@ -5,7 +5,7 @@ use Prim.Native.Nat.{ℕ, ◌+◌, ◌*◌, ◌≤◌, ◌<◌}
 use native.Mathlib.Omega.{arith}
 use lib.ListN.{length, get_or, set}
 use Rattle.model.specs.Params.{head_words, block_tables}
-use Rattle.model.specs.Tables.{Words, view, blocks_in, put_in, put_free, put_size, put_tls, put_cells, set_free, set_size, set_tls, set_cells}
+use Rattle.model.specs.Tables.{view, blocks_in, put_in, put_free, put_size, put_tls, put_cells, set_free, set_size, set_tls, set_cells}
 use Rattle.laws.proofs.Tables.{put_in_in, put_in_out, get_d_part, get_d_part_out, put_free_lem, put_size_lem, put_tls_lem, put_cells_lem}
 
 module _ (w : List ℕ) {k : ℕ} (e : length w ≡ head_words + block_tables * k) (i : ℕ) where

@@ -1,29 +1,28 @@
 -- From border to border (02, R-5): up to the next border every row covers what it covers at a, so counts are bad as a is. And the loops
 -- over rows. Assumes nothing.
-use Prim.Native.Nat.{ℕ, zero, suc, ◌+◌, ◌-◌, ◌*◌, ◌/◌, ◌<◌, ◌≤◌}
+use Prim.Native.Nat.{ℕ, suc, ◌+◌, ◌-◌, ◌*◌, ◌/◌, ◌<◌, ◌≤◌}
 use mathlib.Core.Path.{◌≡◌, refl, sym, ap, ◌∙◌, subst}
-use mathlib.Core.Bool.{Bool, true, false, not, ◌&&◌}
+use mathlib.Core.Bool.{Bool, true, false, not}
 use mathlib.Core.List.{List}
-use mathlib.Core.Logic.{◌⊎◌, inl, inr, ⊎_elim, ◌≢◌}
-use native.Mathlib.Numerals.{add-one}
+use mathlib.Core.Logic.{◌⊎◌, inl, inr, ◌≢◌}
 use native.Mathlib.Omega.{arith}
 use lib.Dec.{eqb, ltb, leb}
 use native.Mathlib.Nat.{mul_comm, eq-zero-or-pos}
 use lib.ListN.{length, get_or, set, replicate, length-set, length-replicate, get_or-eq_default}
 use lib.Seq.{get_or-set_same, get_or-set_other}
-use borrow.Author.Tests.{eqb-true, eqb-false, leb-true, leb-false, eq-eqb, ne_eqb, lt-ltb, le-ltb, le-leb, lt-leb}
+use borrow.Author.Tests.{eqb-true, eqb-false, leb-true, leb-false, ne_eqb, lt-ltb, le-leb, lt-leb}
 use Rattle.model.specs.declared.Params.{Params}
 use Rattle.model.specs.declared.Row.{Row}
-use Rattle.model.specs.Base.{if◌then◌else◌, sum_below, least_from, flag}
+use Rattle.model.specs.Base.{sum_below, least_from, flag}
 use Rattle.model.specs.SizeClasses.{class_words, class_bytes, no_row, row_at, covers, cell_bytes}
-use Rattle.model.specs.Classes.{block_words, rows_over, is_bad_count, row_fits, is_bad_row, bad_count, bad_row, classes_fit}
+use Rattle.model.specs.Classes.{block_words, rows_over, is_bad_count, row_fits, bad_count, classes_fit}
 use Rattle.laws.proofs.Below.{test}
 use Rattle.laws.proofs.Pigeon.{sum_same}
 use Rattle.laws.proofs.Rows.{least_hit, least_miss, least_end, least_jump, none_least, covers_no, covers_yes, accepted_row}
 use Rattle.laws.proofs.Classes.{class_bytes_most, plain_cell, row_cell, rowless_cell, zero_cell}
 use Rattle.laws.proofs.Params.{Bounds}
 use Rattle.laws.proofs.Memory.{get_d_zeros}
-use Rattle.native_ms.specs.Borders.{Level, Bordered, Surveyed, Sizes}
+use Rattle.native_ms.specs.Borders.{Level, Surveyed, Sizes}
 
 module _ (r : Row) (a b : ℕ) where
   -- a row that begins later, from b on

@@ -12,7 +12,6 @@ use Rattle.model.specs.Params.{heap_bytes, biased}
 use Rattle.model.specs.SizeClasses.{words_in}
 use Rattle.laws.proofs.Params.{Bounds, good_bounds, mod_through}
 use Rattle.native_ms.specs.Block.{kept_by}
-use Rattle.native_ms.specs.Bits.{any_bit}
 use Rattle.native_ms.specs.Places.{Places, Inside, ByBits, Extends, Reach}
 use Rattle.native_ms.proofs.Span.{Span, span_any}
 use Rattle.native_ms.proofs.Offsets.{extends_twice}

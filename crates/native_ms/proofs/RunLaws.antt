@@ -2,7 +2,7 @@
 -- the first tests passes them again after each call. Leans on soundness (`sound_kept`); assumes nothing.
 use Prim.Native.Nat.{ℕ, zero, suc, ◌+◌, ◌-◌, ◌*◌, ◌/◌, ◌%◌, ◌≤◌, ◌<◌}
 use mathlib.Core.Path.{◌≡◌, refl, sym, ap, ◌∙◌, subst}
-use mathlib.Core.Bool.{Bool, true, false, ◌&&◌}
+use mathlib.Core.Bool.{true}
 use mathlib.Core.List.{List, [], ◌∷◌, ◌++◌}
 use mathlib.Core.Option.{Option, some, none}
 use native.Mathlib.Nat.{not-suc-le-zero}
@@ -18,18 +18,18 @@ use Rattle.model.specs.declared.Refusal.TheVariants.{BadSetup, BadLine}
 use Rattle.model.specs.declared.Tested.{Tested}
 use Rattle.model.specs.declared.Tested.TheVariants.{Passed, Refused}
 use Rattle.model.specs.Base.{if◌then◌else◌}
-use Rattle.model.specs.Params.{Lent, good_params, fits}
+use Rattle.model.specs.Params.{Lent, fits}
 use Rattle.model.specs.Memory.{overwrite}
 use Rattle.model.specs.Tables.{tables_of, view}
 use Rattle.model.specs.Classes.{classes_fit}
 use Rattle.model.specs.Sound.{sound_on}
 use Rattle.model.specs.Calls.{Reply, answered, refused, Call, bind, destroy, alloc, prepare, mark, release, shared_release, Result, tables_in, and_then, call}
 use Rattle.model.specs.Answers.{call_of, said_of, Outcome, outcome, outcome_of}
-use Rattle.model.specs.Promise.{lend, Promised}
+use Rattle.model.specs.Promise.{lend}
 use Rattle.model.specs.Refusals.{SoundKept}
 use Rattle.model.specs.Exports.{offered_by}
-use Rattle.model.specs.RunCalls.{call_words, answer_words, call_at, made, said_words, words_of, RowRan, run_from, lists_fit, RunResult, run_result, run_calls}
-use Rattle.laws.proofs.Memory.{length_overwrite, overwrite_nil, overwrite_set}
+use Rattle.model.specs.RunCalls.{call_at, made, said_words, words_of, RowRan, run_from, lists_fit, run_result, run_calls}
+use Rattle.laws.proofs.Memory.{overwrite_nil, overwrite_set}
 use Rattle.soundness.proofs.Kept.{sound_kept}
 use Rattle.native_ms.specs.declared.run.Entry.{Entry}
 use Rattle.native_ms.specs.declared.run.Entry.TheVariants as Entries

@@ -1,23 +1,22 @@
 -- Laws of the test of tables, on what it is lent: unions of words, words of blocks, the block size, whole sets of lists. Assumes nothing.
 use Prim.Native.Nat.{ℕ, zero, suc, ◌+◌, ◌-◌, ◌*◌, ◌/◌, ◌^◌, ◌<◌, ◌≤◌}
 use mathlib.Core.Path.{◌≡◌, refl, sym, ap, ◌∙◌}
-use mathlib.Core.Bool.{Bool, true, false, not, ◌&&◌, ◌||◌}
+use mathlib.Core.Bool.{Bool, true, false, ◌&&◌}
 use mathlib.Core.List.{List}
-use native.Mathlib.Nat.{mul_comm, mul-le-mul_right, lt-suc_self, le_step}
+use native.Mathlib.Nat.{mul-le-mul_right, lt-suc_self, le_step}
 use native.Mathlib.Numerals.{add-one}
 use native.Mathlib.Omega.{arith}
 use lib.Bits.{bit_or, or_add_and, and_le_l, and_le_r}
 use lib.Count.{count_trailing_zeros}
-use lib.Dec.{eqb, ltb, leb}
+use lib.Dec.{eqb, leb}
 use lib.ListN.{length, get_or, set}
 use lib.Seq.{get_or-set_same, get_or-set_other}
 use borrow.Author.Count.{below_more}
-use borrow.Author.Tests.{eqb-true, eq-eqb, ne_eqb, le-ltb, leb-true}
+use borrow.Author.Tests.{eqb-true, eq-eqb, leb-true}
 use Rattle.model.specs.declared.Params.{Params}
 use Rattle.model.specs.Base.{all_below}
-use Rattle.model.specs.Params.{good_params, power_of_two, is_start, block_at, start, list_of, head_words, block_tables}
+use Rattle.model.specs.Params.{good_params, power_of_two, is_start, block_at, list_of, head_words, block_tables}
 use Rattle.model.specs.Tables.{Words, view, blocks_in, block_table}
-use Rattle.model.specs.Census.{census_params}
 use Rattle.model.specs.Sound.{block_clear, owner_empty}
 use Rattle.laws.proofs.Below.{same_test, and_both, and_left, and_right, all_below_at, all_below_from}
 use Rattle.laws.proofs.Good.{each_power}

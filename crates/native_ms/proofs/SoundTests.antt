@@ -8,7 +8,7 @@ use native.Mathlib.Numerals.{add-one}
 use native.Mathlib.Omega.{arith}
 use lib.Dec.{eqb, leb, ltb}
 use lib.ListN.{get_or}
-use borrow.Author.Tests.{leb-true, eq-eqb, ne_eqb, lt-ltb, le-ltb, le-leb, lt-leb}
+use borrow.Author.Tests.{eq-eqb, ne_eqb, lt-ltb, le-ltb, le-leb, lt-leb}
 use Rattle.model.specs.declared.Params.{Params}
 use Rattle.model.specs.Base.{if◌then◌else◌, all_below, any_below, sum_below, flag}
 use Rattle.model.specs.Params.{start, block_at, is_start, list_of, list_word, local_sets}
@@ -17,7 +17,7 @@ use Rattle.model.specs.SizeClasses.{cell_bytes}
 use Rattle.model.specs.Block.{is_cell}
 use Rattle.model.specs.Global.{is_holder, is_bound, has_released, all_released}
 use Rattle.model.specs.Sound.{block_clear, list_named, bin_named, set_named, size_ok, link_ok, tls_ok, owner_empty, in_gc_empty, phase_known, released_some}
-use Rattle.laws.proofs.Below.{and_second, same_test}
+use Rattle.laws.proofs.Below.{and_second}
 use Rattle.laws.proofs.Pigeon.{sum_end, sum_step, flag_one, flag_none}
 use Rattle.native_ms.specs.declared.sound.Walked.{Walked}
 use Rattle.native_ms.specs.declared.sound.Walked.TheVariants.{Bad, Left}

@@ -6,7 +6,7 @@ use Rattle.model.specs.Base.{if◌then◌else◌, all_below, sum_below}
 use Rattle.model.specs.declared.Refusal.TheVariants.{BadSetup, BadTables}
 use Rattle.model.specs.Params.{good_params, bins, last_bin, word_count}
 use Rattle.model.specs.BlockList.{walk, ends}
-use Rattle.model.specs.Calls.{Reply, answered, refused, pages}
+use Rattle.model.specs.Calls.{Reply, answered, refused}
 use Rattle.native_ms.specs.declared.block_list.Counted.{Counted}
 use Rattle.native_ms.specs.declared.block_list.Counted.TheVariants.{Blocks, Bad}
 

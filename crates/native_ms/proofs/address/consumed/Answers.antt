@@ -1,6 +1,5 @@
 -- The number of the list is that of `consumed`, and there is such a list.
 use Rattle.native_ms.proofs.Search.{number_consumed}
-use borrow.Author.Rules.{rules}
 use Rattle.native_ms.proofs.address.consumed.Goals as goal
 
 pub returns : goal.returns

@@ -1,7 +1,6 @@
 -- `address::is_start`: in the heap, and a whole number of blocks from its start. Leans on `Bounds`.
 use mathlib.Core.Path.{sym, ◌∙◌}
 use Rattle.laws.proofs.Params.{good_bounds, some_bytes, in_heap_low, is_start_yes, is_start_inside, is_start_out}
-use borrow.Author.Rules.{rules}
 use Rattle.native_ms.proofs.address.is_start.Goals as goal
 
 pub overflow_sub-at : goal.overflow_sub-at

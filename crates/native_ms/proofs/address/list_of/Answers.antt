@@ -1,7 +1,6 @@
 -- `address::list_of` is the number of a list; below 1,470 it fits.
 use mathlib.Core.Path.{refl}
 use Rattle.model.specs.Params.{list_of}
-use borrow.Author.Rules.{rules}
 use Rattle.native_ms.proofs.address.list_of.Goals as goal
 
 pub returns : goal.returns

@@ -1,6 +1,5 @@
 -- The number of the list is that of `unswept`, and there is such a list.
 use Rattle.native_ms.proofs.Search.{number_unswept}
-use borrow.Author.Rules.{rules}
 use Rattle.native_ms.proofs.address.unswept.Goals as goal
 
 pub returns : goal.returns

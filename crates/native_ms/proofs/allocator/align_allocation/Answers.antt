@@ -1,6 +1,5 @@
 -- `allocator::align_allocation` meets its contract: nothing wraps in the ranges that alloc's checks give.
 use Rattle.native_ms.proofs.RaisedLaws.{rest_within, shift_none, shift_up}
-use borrow.Author.Rules.{rules}
 use Rattle.native_ms.proofs.allocator.align_allocation.Goals as goal
 
 pub returns-then-rest-eq0 : goal.returns-then-rest-eq0

@@ -3,7 +3,6 @@ use mathlib.Core.Path.{sym}
 use native.Mathlib.Omega.{arith}
 use Rattle.native_ms.proofs.RaisedLaws.{raised_past, raised_in}
 use Rattle.laws.proofs.Requests.{raised_size, raised_more, too_big_lem, too_big_raised}
-use borrow.Author.Rules.{rules}
 use Rattle.native_ms.proofs.allocator.get_maximum_aligned_size.Goals as goal
 
 pub returns-then-bytes-size : goal.returns-then-bytes-size

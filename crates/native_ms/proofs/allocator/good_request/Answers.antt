@@ -1,8 +1,6 @@
 -- `allocator::good_request` meets its contract: the tests stand in the definition's order.
 use Rattle.laws.proofs.Requests.{request_size, request_offset, request_far, request_align}
-use borrow.Author.Tests.{not-true, not-false}
 use Rattle.native_ms.proofs.RaisedLaws.{divides_no, divides_yes}
-use borrow.Author.Rules.{rules}
 use Rattle.native_ms.proofs.allocator.good_request.Goals as goal
 
 pub min_divides-requires : goal.min_divides-requires

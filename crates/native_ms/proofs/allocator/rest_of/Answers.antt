@@ -1,5 +1,4 @@
 -- `allocator::rest_of` meets its contract: each line is of its own align.
-use borrow.Author.Rules.{rules}
 use Rattle.native_ms.proofs.allocator.rest_of.Goals as goal
 
 pub returns-then-align-eq8 : goal.returns-then-align-eq8

@@ -1,6 +1,5 @@
 -- `allocator::shift_address` meets its contract, by its tests.
 use Rattle.native_ms.proofs.RaisedLaws.{shifted_none, shifted_wide, shifted_far, shifted_off, shifted_at}
-use borrow.Author.Rules.{rules}
 use Rattle.native_ms.proofs.allocator.shift_address.Goals as goal
 
 pub returns-then-align-lt1 : goal.returns-then-align-lt1

@@ -1,5 +1,4 @@
 -- `block::block_alloc` meets its contract: the link becomes the head, and the count is one less. Assumes nothing.
-use borrow.Author.Rules.{rules}
 use native.Mathlib.Omega.{arith}
 use Rattle.model.specs.Tables.{view}
 use Rattle.native_ms.proofs.Chains.{take}

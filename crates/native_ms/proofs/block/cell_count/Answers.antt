@@ -2,7 +2,6 @@
 use mathlib.Core.Path.{refl}
 use Rattle.model.specs.Block.{cell_count}
 use Rattle.native_ms.proofs.Chains.{count_none}
-use borrow.Author.Rules.{rules}
 use Rattle.native_ms.proofs.block.cell_count.Goals as goal
 
 pub returns-then-size-eq0 : goal.returns-then-size-eq0

@@ -1,6 +1,5 @@
 -- `block::cells_span` meets its contract: the block lies in the heap. Assumes nothing.
 use native.Mathlib.Omega.{arith}
-use borrow.Author.Rules.{rules}
 use mathlib.Core.Path.{refl}
 use Rattle.laws.proofs.Params.{good_bounds}
 use Rattle.native_ms.proofs.Offsets.{block_inside}

@@ -1,7 +1,6 @@
 -- `block::clear_block` meets its contract: seven words and the state, in the order of `clear_block`. Assumes nothing.
 use Rattle.laws.proofs.Tables.{put_next_lem, put_prev_lem, put_free_lem, put_size_lem, put_list_lem, put_tls_lem, put_cells_lem}
 use Rattle.native_ms.proofs.Chains.{cleared}
-use borrow.Author.Rules.{rules}
 use Rattle.native_ms.proofs.block.clear_block.Goals as goal
 
 pub returns : goal.returns

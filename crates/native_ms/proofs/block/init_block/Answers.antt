@@ -1,6 +1,4 @@
 -- `block::init_block` meets its contract: all whole cells are linked, then head, size, holder and count set. Assumes nothing.
-use borrow.Author.Rules.{rules}
-use mathlib.Core.Path.{refl, sym, ◌∙◌}
 use native.Mathlib.Omega.{arith}
 use Rattle.native_ms.proofs.Offsets.{block_places, words_known, initialised}
 use Rattle.native_ms.proofs.block.init_block.Goals as goal

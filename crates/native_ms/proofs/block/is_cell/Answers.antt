@@ -2,7 +2,6 @@
 use native.Mathlib.Omega.{arith}
 use Rattle.laws.proofs.Params.{good_bounds}
 use Rattle.native_ms.proofs.SoundTests.{cell_none, cell_before, cell_large, cell_past, cell_here}
-use borrow.Author.Rules.{rules}
 use Rattle.native_ms.proofs.block.is_cell.Goals as goal
 
 pub returns-then-size-eq0 : goal.returns-then-size-eq0

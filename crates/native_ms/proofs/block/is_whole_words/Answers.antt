@@ -1,8 +1,6 @@
 -- `block::is_whole_words` meets its contract. Assumes nothing.
-use borrow.Author.Rules.{rules}
-use mathlib.Core.Bool.{true, false}
-use mathlib.Core.Path.{◌≡◌, refl}
-use native.Mathlib.Omega.{arith}
+use mathlib.Core.Bool.{false}
+use mathlib.Core.Path.{refl}
 use borrow.Author.Tests.{eqb-true}
 use Rattle.laws.proofs.Base.{not_both}
 use Rattle.native_ms.proofs.block.is_whole_words.Goals as goal

@@ -1,6 +1,5 @@
 -- `block::link_ok` meets its contract.
 use Rattle.native_ms.proofs.SoundTests.{link_none, link_some}
-use borrow.Author.Rules.{rules}
 use Rattle.native_ms.proofs.block.link_ok.Goals as goal
 
 pub returns-then-a-eq0 : goal.returns-then-a-eq0

@@ -1,11 +1,6 @@
-use borrow.Author.Rules.{rules}
-use Prim.Native.Nat.{◌-◌}
 use mathlib.Core.Path.{sym, ◌∙◌}
 use native.Mathlib.Omega.{arith}
-use borrow.Author.Count.{falls}
-use borrow.Author.Tests.{not-true, not-false}
-use Rattle.native_ms.specs.Block.{kept_by}
-use Rattle.native_ms.proofs.Chains.{Linking, linking_start, linking_kept, linking_freed, linking_end, next_fits}
+use Rattle.native_ms.proofs.Chains.{linking_start, linking_kept, linking_freed, linking_end, next_fits}
 use Rattle.native_ms.proofs.block.link_unmarked.Goals as goal
 
 pub loop-seen-init : goal.loop-seen-init

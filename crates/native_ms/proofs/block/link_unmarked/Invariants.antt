@@ -1,12 +1,7 @@
 -- `block::link_unmarked` meets its contract. The loop's invariant: of the cells so far the unmarked ones are linked. Assumes nothing.
-use borrow.Author.Rules.{rules}
 use Prim.Native.Nat.{◌-◌}
-use mathlib.Core.Path.{sym, ◌∙◌}
-use native.Mathlib.Omega.{arith}
-use borrow.Author.Count.{falls}
-use borrow.Author.Tests.{not-true, not-false}
 use Rattle.native_ms.specs.Block.{kept_by}
-use Rattle.native_ms.proofs.Chains.{Linking, linking_start, linking_kept, linking_freed, linking_end, next_fits}
+use Rattle.native_ms.proofs.Chains.{Linking}
 use Rattle.native_ms.proofs.block.link_unmarked.Given as goal
 
 abbrev pub invariant-loop-seen : goal.invariant-loop-seen

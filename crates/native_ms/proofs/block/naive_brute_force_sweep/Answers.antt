@@ -1,6 +1,4 @@
 -- `block::naive_brute_force_sweep` meets its contract: the free cells are linked then head and count are set. Assumes nothing.
-use borrow.Author.Rules.{rules}
-use mathlib.Core.Path.{refl, sym, ◌∙◌}
 use native.Mathlib.Omega.{arith}
 use mathlib.Core.Bool.{false}
 use Rattle.native_ms.specs.Block.{kept_by}

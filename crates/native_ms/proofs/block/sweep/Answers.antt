@@ -1,9 +1,6 @@
 -- `block::sweep` meets its contract: each way out is the sweep that the parameters choose. Assumes nothing.
-use borrow.Author.Rules.{rules}
-use mathlib.Core.Path.{refl, sym, ◌∙◌}
-use native.Mathlib.Omega.{arith}
+use mathlib.Core.Path.{sym, ◌∙◌}
 use mathlib.Core.Bool.{true, false}
-use borrow.Author.Tests.{not-false}
 use Rattle.model.specs.Tables.{view}
 use Rattle.laws.proofs.Tables.{sized_view}
 use Rattle.native_ms.proofs.Chains.{swept}

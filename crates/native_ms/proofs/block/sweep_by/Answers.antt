@@ -2,7 +2,6 @@
 use Rattle.laws.proofs.Tables.{put_free_lem, put_cells_lem}
 use Rattle.native_ms.specs.Block.{kept_by}
 use Rattle.native_ms.proofs.Chains.{block_room, swept_by}
-use borrow.Author.Rules.{rules}
 use Rattle.native_ms.proofs.block.sweep_by.Goals as goal
 
 pub link_unmarked-chain-requires : goal.link_unmarked-chain-requires

@@ -1,5 +1,4 @@
 -- `block::take_head` meets its contract: as `block_alloc`, at places that are known to be there. Assumes nothing.
-use borrow.Author.Rules.{rules}
 use native.Mathlib.Omega.{arith}
 use Rattle.model.specs.Tables.{view}
 use Rattle.model.specs.Memory.{load, zeroed}

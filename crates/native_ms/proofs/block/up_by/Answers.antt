@@ -1,5 +1,4 @@
 -- `block::up_by` is L + 64, in the signed numbers of a word. Assumes nothing.
-use borrow.Author.Rules.{rules}
 use mathlib.Core.Path.{ap, ◌∙◌}
 use Rattle.model.specs.Params.{lower_ok, biased}
 use Rattle.laws.proofs.Good.{good}

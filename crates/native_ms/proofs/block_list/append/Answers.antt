@@ -2,7 +2,6 @@
 use mathlib.Core.Path.{◌∙◌}
 use Rattle.laws.proofs.Tables.{put_first_lem, put_last_lem}
 use Rattle.native_ms.proofs.MovedLaws.{moves_none, moves_some}
-use borrow.Author.Rules.{rules}
 use Rattle.native_ms.proofs.block_list.append.Goals as goal
 
 pub first-first-requires : goal.first-first-requires

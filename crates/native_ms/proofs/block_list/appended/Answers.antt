@@ -1,6 +1,5 @@
 -- `block_list::appended` is `append` on the words that hold both records.
 use Rattle.native_ms.proofs.RecordsLaws.{append_on_lem}
-use borrow.Author.Rules.{rules}
 use Rattle.native_ms.proofs.block_list.appended.Goals as goal
 
 pub returns : goal.returns

@@ -1,7 +1,6 @@
 -- `block_list::bins_in` gives 48 or 0.
 use mathlib.Core.Path.{sym, ap, ◌∙◌}
 use Rattle.native_ms.specs.Counted.{bins_in}
-use borrow.Author.Rules.{rules}
 use Rattle.native_ms.proofs.block_list.bins_in.Goals as goal
 
 pub returns-then-set_fits : goal.returns-then-set_fits

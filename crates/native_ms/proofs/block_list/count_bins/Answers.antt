@@ -1,11 +1,6 @@
-use Prim.Native.Nat.{ℕ, ◌+◌, ◌*◌, ◌-◌, ◌<◌, ◌≤◌}
-use mathlib.Core.Path.{◌≡◌, refl, sym, ◌∙◌}
+use mathlib.Core.Path.{refl, ◌∙◌}
 use native.Mathlib.Omega.{arith}
-use borrow.Author.Count.{falls_down}
-use borrow.Author.Rules.{rules}
-use Rattle.model.specs.Tables.{view}
 use Rattle.laws.proofs.Params.{good_bounds}
-use Rattle.native_ms.specs.Counted.{counted_bins}
 use Rattle.native_ms.proofs.CountedLaws.{counted_few, bins_end, bins_bad, bins_step}
 use Rattle.native_ms.proofs.block_list.count_bins.Goals as goal
 

@@ -1,14 +1,9 @@
 -- `block_list::count_bins` counts the bins from 48 down. The invariant: what is counted and what remains is the whole,
 -- and each bin adds at most 1,024. The measure is the count of bins left.
-use Prim.Native.Nat.{ℕ, ◌+◌, ◌*◌, ◌-◌, ◌<◌, ◌≤◌}
-use mathlib.Core.Path.{◌≡◌, refl, sym, ◌∙◌}
-use native.Mathlib.Omega.{arith}
-use borrow.Author.Count.{falls_down}
-use borrow.Author.Rules.{rules}
+use Prim.Native.Nat.{◌+◌, ◌*◌, ◌≤◌}
+use mathlib.Core.Path.{◌≡◌}
 use Rattle.model.specs.Tables.{view}
-use Rattle.laws.proofs.Params.{good_bounds}
 use Rattle.native_ms.specs.Counted.{counted_bins}
-use Rattle.native_ms.proofs.CountedLaws.{counted_few, bins_end, bins_bad, bins_step}
 use Rattle.native_ms.proofs.block_list.count_bins.Given as goal
 
 abbrev pub invariant-loop-bin : goal.invariant-loop-bin

@@ -1,16 +1,9 @@
 -- `block_list::count_blocks` walks as `ends` and `walk` do. The invariant: what is counted and what remains is the whole,
 -- and the blocks counted with those left are all, so that the count fits. The measure is the count of blocks left.
 use Prim.Native.Nat.{◌+◌}
-use mathlib.Core.Path.{◌≡◌, refl, sym, ◌∙◌}
-use native.Mathlib.Nat.{zero-add}
-use native.Mathlib.Omega.{arith}
-use borrow.Author.Count.{falls_down}
-use borrow.Author.Tests.{not-true, not-false}
-use borrow.Author.Rules.{rules}
+use mathlib.Core.Path.{◌≡◌}
 use Rattle.model.specs.Tables.{view}
-use Rattle.laws.proofs.Params.{good_bounds}
 use Rattle.native_ms.specs.Counted.{counted_from}
-use Rattle.native_ms.proofs.CountedLaws.{count_again, counted_stop, counted_long, counted_bad, counted_step}
 use Rattle.native_ms.proofs.block_list.count_blocks.Given as goal
 
 abbrev pub invariant-loop-more : goal.invariant-loop-more

@@ -1,12 +1,6 @@
-use Prim.Native.Nat.{◌+◌}
-use mathlib.Core.Path.{◌≡◌, refl, ◌∙◌}
+use mathlib.Core.Path.{◌∙◌}
 use native.Mathlib.Nat.{zero-add}
 use native.Mathlib.Omega.{arith}
-use lib.ListN.{length}
-use borrow.Author.Count.{falls_down}
-use borrow.Author.Rules.{rules}
-use Rattle.model.specs.Tables.{view}
-use Rattle.model.specs.BlockList.{walk}
 use Rattle.laws.proofs.Params.{good_bounds}
 use Rattle.native_ms.proofs.CountedLaws.{count_again}
 use Rattle.native_ms.proofs.MovedLaws.{count_end, count_stop, count_step}

@@ -2,7 +2,6 @@
 use native.Mathlib.Omega.{arith}
 use Rattle.laws.proofs.Params.{good_bounds}
 use Rattle.native_ms.proofs.CountedLaws.{count_known, counted_few, more_bad, more_no, more_yes}
-use borrow.Author.Rules.{rules}
 use Rattle.native_ms.proofs.block_list.count_more.Goals as goal
 
 pub returns-in-Bad : goal.returns-in-Bad

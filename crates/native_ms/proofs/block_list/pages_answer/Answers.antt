@@ -1,11 +1,9 @@
 -- `block_list::pages_answer` answers as `pages_said` does.
 use mathlib.Core.Path.{sym, ◌∙◌}
 use native.Mathlib.Omega.{arith}
-use borrow.Author.Tests.{not-true, not-false}
 use Rattle.model.specs.Answers.{pages_reply}
 use Rattle.laws.proofs.Params.{good_bounds}
 use Rattle.native_ms.proofs.CountedLaws.{count_known, pages_fit, fits_good, said_off, said_bad, said_pages}
-use borrow.Author.Rules.{rules}
 use Rattle.native_ms.proofs.block_list.pages_answer.Goals as goal
 
 pub returns-then-not-set_fits : goal.returns-then-not-set_fits

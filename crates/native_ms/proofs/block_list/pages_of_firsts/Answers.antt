@@ -1,9 +1,7 @@
 -- `block_list::pages_of_firsts` answers as `pages` does: the count of all bins at once gives the answer.
 use mathlib.Core.Path.{sym, ◌∙◌}
-use borrow.Author.Tests.{not-true, not-false}
 use Rattle.model.specs.Answers.{pages_reply}
 use Rattle.native_ms.proofs.CountedLaws.{fits_good, fits_count, all_few, pages_off, pages_on}
-use borrow.Author.Rules.{rules}
 use Rattle.native_ms.proofs.block_list.pages_of_firsts.Goals as goal
 
 pub returns-then-not-set_fits : goal.returns-then-not-set_fits

@@ -1,12 +1,12 @@
-use Rattle.std.proofs.Common.{List, ◌≡◌, true, ◌<◌, ◌≤◌, ◌*◌, length, ℕ, ◌+◌, ◌-◌, get_or}
-use mathlib.Core.Path.{refl, sym, ap, ◌∙◌, subst}
+use Rattle.std.proofs.Common.{List, ◌≡◌, true, ◌≤◌, ◌*◌, length, ℕ, ◌+◌, ◌-◌, get_or}
+use mathlib.Core.Path.{sym, ap, ◌∙◌, subst}
 use native.Mathlib.Omega.{arith}
 use Rattle.model.specs.Tables.{view}
 use Rattle.native_ms.specs.declared.block_list.Counted.{Counted}
-use Rattle.native_ms.specs.Counted.{counted_bins, count_of, counted_more, set_fits, bins_in, pages_said}
+use Rattle.native_ms.specs.Counted.{counted_bins, count_of, counted_more, set_fits, bins_in}
 use Rattle.native_ms.specs.Records.{firsts}
 use Rattle.native_ms.proofs.CountedLaws.{counted_on, on_start, on_end, on_step, few_start, few_step, fits_good, fits_count, bins_some}
-use Rattle.native_ms.proofs.RecordsLaws.{no_list, firsts_at, records_said}
+use Rattle.native_ms.proofs.RecordsLaws.{firsts_at, records_said}
 use Rattle.native_ms.proofs.block_list.pages_used.Goals as goal
 
 pub loop-bin-init : goal.loop-bin-init
@@ -37,7 +37,7 @@ pub loop-bin-preserved : goal.loop-bin-preserved
 loop-bin-preserved c =
     let next : List ℕ = (view c.args.words.now).next in
     let step : c.count_more-count.result ≡ counted_more c.args.p next c.loop-bin.count (get_or (firsts c.args.records.now) c.loop-bin.bin 0)
-        = c.count_more-count.ensures ∙ ap (counted_more c.args.p next c.loop-bin.count) (sym (firsts_at c.args.records.now c.loop-bin.bin)) in
+    = c.count_more-count.ensures ∙ ap (counted_more c.args.p next c.loop-bin.count) (sym (firsts_at c.args.records.now c.loop-bin.bin)) in
     record {
       low = omega (arith, c.loop-bin.invariant.low);
       same = ap (counted_on (c.loop-bin.bin - 1) c.args.p next (firsts c.args.records.now)) step
@@ -54,6 +54,6 @@ returns c =
     let over : c.loop-bin.bin ≡ 0 = omega arith in
     let next : List ℕ = (view c.args.words.now).next in
     let whole : c.loop-bin.count ≡ counted_bins (bins_in (set_fits c.args.p c.args.words.now (length c.args.records.now))) c.args.p next (firsts c.args.records.now) 0
-        = on_end c.args.p next (firsts c.args.records.now) c.loop-bin.count
-          ∙ ap (λ (j : ℕ). counted_on j c.args.p next (firsts c.args.records.now) c.loop-bin.count) (sym over) ∙ c.loop-bin.invariant.same in
+    = on_end c.args.p next (firsts c.args.records.now) c.loop-bin.count
+    ∙ ap (λ (j : ℕ). counted_on j c.args.p next (firsts c.args.records.now) c.loop-bin.count) (sym over) ∙ c.loop-bin.invariant.same in
     c.pages_answer.ensures ∙ records_said c.args.p c.args.words.now c.args.records.now c.loop-bin.count whole

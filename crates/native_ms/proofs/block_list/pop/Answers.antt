@@ -2,7 +2,6 @@
 use mathlib.Core.Path.{◌∙◌}
 use Rattle.laws.proofs.BlockList.{pop_none, pop_only_lem, pop_ahead_lem}
 use Rattle.laws.proofs.Tables.{put_first_lem, put_last_lem, put_next_lem, put_prev_lem, put_list_lem}
-use borrow.Author.Rules.{rules}
 use Rattle.native_ms.proofs.block_list.pop.Goals as goal
 
 pub first-head-requires : goal.first-head-requires

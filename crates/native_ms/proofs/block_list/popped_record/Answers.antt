@@ -1,6 +1,5 @@
 -- `block_list::popped_record` is `pop` on the words that hold the record.
 use Rattle.native_ms.proofs.RecordsLaws.{pop_on_lem}
-use borrow.Author.Rules.{rules}
 use Rattle.native_ms.proofs.block_list.popped_record.Goals as goal
 
 pub returns : goal.returns

@@ -1,7 +1,6 @@
 -- `block_list::pushed` is `push` on the words that hold the record.
 use Rattle.model.specs.BlockList.{push}
 use Rattle.native_ms.proofs.RecordsLaws.{on_record_lem}
-use borrow.Author.Rules.{rules}
 use Rattle.native_ms.proofs.block_list.pushed.Goals as goal
 
 pub returns : goal.returns

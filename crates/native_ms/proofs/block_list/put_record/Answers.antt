@@ -1,7 +1,6 @@
 -- `block_list::put_record` makes the two stores of `with_record`.
 use Rattle.laws.proofs.Tables.{put_first_lem, put_last_lem}
 use Rattle.native_ms.proofs.RecordsLaws.{with_record_lem}
-use borrow.Author.Rules.{rules}
 use Rattle.native_ms.proofs.block_list.put_record.Goals as goal
 
 pub returns : goal.returns

@@ -1,6 +1,5 @@
 -- `block_list::record_at` makes the two reads of `record_at`.
 use Rattle.native_ms.proofs.RecordsLaws.{record_at_lem}
-use borrow.Author.Rules.{rules}
 use Rattle.native_ms.proofs.block_list.record_at.Goals as goal
 
 pub returns : goal.returns

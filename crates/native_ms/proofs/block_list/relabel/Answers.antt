@@ -1,11 +1,6 @@
-use mathlib.Core.Path.{◌≡◌, refl, ◌∙◌}
-use lib.ListN.{length}
-use Rattle.model.specs.Tables.{view}
-use Rattle.model.specs.BlockList.{relabel}
+use mathlib.Core.Path.{refl, ◌∙◌}
 use Rattle.laws.proofs.BlockList.{relabel_end, relabel_stop, relabel_step}
 use Rattle.laws.proofs.Tables.{put_list_lem}
-use borrow.Author.Count.{falls_down}
-use borrow.Author.Rules.{rules}
 use Rattle.native_ms.proofs.block_list.relabel.Goals as goal
 
 pub list_word-word-requires : goal.list_word-word-requires

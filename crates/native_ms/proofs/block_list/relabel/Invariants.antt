@@ -1,13 +1,9 @@
 -- `block_list::relabel` walks as `relabel` does. The invariant: what remains to be done from here is the whole.
 -- The measure is the count of blocks left.
-use mathlib.Core.Path.{◌≡◌, refl, ◌∙◌}
+use mathlib.Core.Path.{◌≡◌}
 use lib.ListN.{length}
 use Rattle.model.specs.Tables.{view}
 use Rattle.model.specs.BlockList.{relabel}
-use Rattle.laws.proofs.BlockList.{relabel_end, relabel_stop, relabel_step}
-use Rattle.laws.proofs.Tables.{put_list_lem}
-use borrow.Author.Count.{falls_down}
-use borrow.Author.Rules.{rules}
 use Rattle.native_ms.proofs.block_list.relabel.Given as goal
 
 abbrev pub invariant-loop-more : goal.invariant-loop-more

@@ -1,7 +1,6 @@
 -- `block_list::removed` is `remove` on the words that hold the record.
 use Rattle.model.specs.BlockList.{remove}
 use Rattle.native_ms.proofs.RecordsLaws.{on_record_lem}
-use borrow.Author.Rules.{rules}
 use Rattle.native_ms.proofs.block_list.removed.Goals as goal
 
 pub returns : goal.returns

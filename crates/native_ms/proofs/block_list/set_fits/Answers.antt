@@ -1,10 +1,8 @@
 -- `block_list::set_fits` tests what `set_fits` asks, in order.
 use mathlib.Core.Path.{sym, ◌∙◌}
 use native.Mathlib.Omega.{arith}
-use borrow.Author.Tests.{not-true, not-false}
 use Rattle.laws.proofs.Params.{good_bounds}
 use Rattle.native_ms.proofs.CountedLaws.{fits_params, fits_words, fits_records}
-use borrow.Author.Rules.{rules}
 use Rattle.native_ms.proofs.block_list.set_fits.Goals as goal
 
 pub returns-then-not-good_params : goal.returns-then-not-good_params

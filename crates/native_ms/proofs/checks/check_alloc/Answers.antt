@@ -2,7 +2,6 @@
 use Rattle.model.specs.Calls.{call_tests}
 use Rattle.native_ms.proofs.AllocCall.{bin_refused, bin_passed}
 use native.Mathlib.Omega.{arith}
-use borrow.Author.Rules.{rules}
 use Rattle.native_ms.proofs.checks.check_alloc.Goals as goal
 
 pub check_bound-requires : goal.check_bound-requires

@@ -1,9 +1,7 @@
 -- `checks::check_bind` makes the tests of `bind_tests`, in order. Assumes nothing.
-use borrow.Author.Tests.{not-true, not-false}
 use Rattle.model.specs.declared.Refusal.TheVariants.{BadHolder}
 use Rattle.model.specs.Calls.{bind_tests}
 use Rattle.native_ms.proofs.Tests.{either_no, either_yes, neither, then_refused, then_passed}
-use borrow.Author.Rules.{rules}
 use Rattle.native_ms.proofs.checks.check_bind.Goals as goal
 
 pub check_phase-requires : goal.check_phase-requires

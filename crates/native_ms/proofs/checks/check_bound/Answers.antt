@@ -1,8 +1,5 @@
 -- `checks::check_bound` makes the tests of `bound_tests`, in order. Assumes nothing.
-use native.Mathlib.Omega.{arith}
-use borrow.Author.Tests.{not-true, not-false}
 use Rattle.native_ms.proofs.Tests.{holder_range, bound_phase, bound_number, bound_not, bound_passed}
-use borrow.Author.Rules.{rules}
 use Rattle.native_ms.proofs.checks.check_bound.Goals as goal
 
 pub returns-then-phase-ne-RUNNING : goal.returns-then-phase-ne-RUNNING

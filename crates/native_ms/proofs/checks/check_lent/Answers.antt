@@ -1,6 +1,5 @@
 -- `checks::check_lent` makes the tests of `lent_tests`, in order. Assumes nothing.
 use mathlib.Core.Path.{refl, sym, ◌∙◌}
-use borrow.Author.Tests.{not-true, not-false}
 use Rattle.model.specs.declared.Refusal.TheVariants.{BadSetup, BadTables, BadClasses}
 use Rattle.native_ms.specs.Checked.{lent_tests}
 use Rattle.native_ms.proofs.Tests.{fit_parts, test_no, test_yes, then_refused, then_passed}

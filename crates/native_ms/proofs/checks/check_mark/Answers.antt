@@ -1,9 +1,7 @@
 -- `checks::check_mark` makes the tests of `mark_tests`, in order. Assumes nothing.
-use borrow.Author.Tests.{not-true, not-false}
 use Rattle.model.specs.declared.Refusal.TheVariants.{BadObject}
 use Rattle.model.specs.Calls.{mark_tests}
 use Rattle.native_ms.proofs.Tests.{test_no, test_yes, then_refused, then_passed}
-use borrow.Author.Rules.{rules}
 use Rattle.native_ms.proofs.checks.check_mark.Goals as goal
 
 pub check_phase-requires : goal.check_phase-requires

@@ -1,6 +1,5 @@
 -- `checks::check_release` makes the tests of `release_tests`, in order. Assumes nothing.
 use mathlib.Core.Path.{refl}
-use borrow.Author.Tests.{not-true, not-false}
 use Rattle.model.specs.declared.Refusal.TheVariants.{WrongPhase, BadHolder}
 use Rattle.model.specs.Calls.{release_tests}
 use Rattle.native_ms.proofs.Tests.{test_no, test_yes, either_no, either_yes, neither, then_refused, then_passed}

@@ -1,7 +1,5 @@
 -- `checks::check_request` makes the tests of `request_tests`, in order, and picks the bin. One law for each way out.
-use borrow.Author.Tests.{not-true, not-false}
 use Rattle.native_ms.proofs.AllocCall.{check_request, check_size, check_offer, check_bin}
-use borrow.Author.Rules.{rules}
 use Rattle.native_ms.proofs.checks.check_request.Goals as goal
 
 pub good_request-requires : goal.good_request-requires

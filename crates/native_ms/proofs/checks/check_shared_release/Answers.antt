@@ -1,5 +1,4 @@
 -- `checks::check_shared_release` makes the tests of `shared_tests`, in order. Assumes nothing.
-use borrow.Author.Tests.{not-true, not-false}
 use Rattle.model.specs.declared.Refusal.TheVariants.{WrongPhase}
 use Rattle.model.specs.Calls.{shared_tests}
 use Rattle.native_ms.proofs.Tests.{either_no, either_yes, neither}

@@ -1,10 +1,8 @@
 -- `checks::good_object` is `good_object`, of any words and marks. Assumes nothing.
 use native.Mathlib.Omega.{arith}
 use mathlib.Core.Path.{sym, ◌∙◌}
-use borrow.Author.Tests.{not-true, not-false}
 use Rattle.laws.proofs.Params.{good_bounds, in_heap_low, in_heap_high}
 use Rattle.native_ms.proofs.SpaceCalls.{object_out, object_odd, object_past, object_none, object_at}
-use borrow.Author.Rules.{rules}
 use Rattle.native_ms.proofs.checks.good_object.Goals as goal
 
 pub returns-then-not-inside : goal.returns-then-not-inside

@@ -1,7 +1,6 @@
 -- `checks::good_offer` tests the offer as `good_offer` does. One law for each way out.
 use Rattle.native_ms.proofs.AllocCall.{offer_none, offer_out, offer_in}
 use native.Mathlib.Omega.{arith}
-use borrow.Author.Rules.{rules}
 use Rattle.native_ms.proofs.checks.good_offer.Goals as goal
 
 pub state-state-requires : goal.state-state-requires

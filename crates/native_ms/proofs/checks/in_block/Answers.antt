@@ -1,7 +1,6 @@
 -- `checks::in_block` is `in_block`. Assumes nothing.
 use native.Mathlib.Omega.{arith}
 use Rattle.native_ms.proofs.SpaceCalls.{in_block_under, in_block_from, start_room}
-use borrow.Author.Rules.{rules}
 use Rattle.native_ms.proofs.checks.in_block.Goals as goal
 
 pub returns-then-x-v : goal.returns-then-x-v

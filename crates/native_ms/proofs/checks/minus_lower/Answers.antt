@@ -5,7 +5,6 @@ use Rattle.model.specs.Params.{lower_ok, biased, minus_lower}
 use Rattle.laws.proofs.Good.{good}
 use Rattle.laws.proofs.Params.{good_bounds}
 use Rattle.native_ms.proofs.Lower.{back}
-use borrow.Author.Rules.{rules}
 use Rattle.native_ms.proofs.checks.minus_lower.Goals as goal
 
 pub biased-requires : goal.biased-requires

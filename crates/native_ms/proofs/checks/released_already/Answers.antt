@@ -1,5 +1,4 @@
 -- `checks::released_already`: a holder that has released. Assumes nothing.
-use borrow.Author.Tests.{not-true, not-false}
 use Rattle.native_ms.proofs.SpaceCalls.{already_none, already_holder}
 use Rattle.native_ms.proofs.checks.released_already.Goals as goal
 

@@ -1,9 +1,5 @@
-use borrow.Author.Rules.{rules}
 use native.Mathlib.Omega.{arith}
-use mathlib.Core.Path.{◌≡◌, sym, ◌∙◌}
-use Prim.Native.Nat.{◌+◌, ◌-◌, ◌/◌, ◌≤◌}
-use Rattle.model.specs.Base.{least_from}
-use Rattle.model.specs.Classes.{is_bad_count, bad_count}
+use mathlib.Core.Path.{sym, ◌∙◌}
 use Rattle.laws.proofs.Params.{good_bounds}
 use Rattle.native_ms.proofs.Borders.{survey_start, survey_jump, survey_stop, survey_end}
 use Rattle.native_ms.proofs.classes.bad_count.Goals as goal

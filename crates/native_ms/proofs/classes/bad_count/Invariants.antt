@@ -1,12 +1,8 @@
 -- `classes::bad_count` meets its contract. The invariant: what remains from the border on is the whole. Leans on the laws of a survey.
-use borrow.Author.Rules.{rules}
-use native.Mathlib.Omega.{arith}
-use mathlib.Core.Path.{◌≡◌, sym, ◌∙◌}
-use Prim.Native.Nat.{◌+◌, ◌-◌, ◌/◌, ◌≤◌}
+use mathlib.Core.Path.{◌≡◌}
+use Prim.Native.Nat.{◌+◌, ◌-◌, ◌≤◌}
 use Rattle.model.specs.Base.{least_from}
 use Rattle.model.specs.Classes.{is_bad_count, bad_count}
-use Rattle.laws.proofs.Params.{good_bounds}
-use Rattle.native_ms.proofs.Borders.{survey_start, survey_jump, survey_stop, survey_end}
 use Rattle.native_ms.proofs.classes.bad_count.Given as goal
 
 abbrev pub invariant-loop-at : goal.invariant-loop-at

@@ -1,10 +1,6 @@
-use borrow.Author.Rules.{rules}
 use native.Mathlib.Omega.{arith}
-use mathlib.Core.Path.{◌≡◌, sym, ap, ◌∙◌}
-use mathlib.Core.Bool.{Bool, not}
-use Prim.Native.Nat.{◌+◌, ◌-◌, ◌≤◌}
-use borrow.Author.Tests.{not-true, not-false}
-use Rattle.model.specs.Base.{least_from}
+use mathlib.Core.Path.{sym, ap, ◌∙◌}
+use mathlib.Core.Bool.{not}
 use Rattle.model.specs.declared.Row.{Row}
 use Rattle.model.specs.Classes.{row_fits, is_bad_row, bad_row}
 use Rattle.laws.proofs.Params.{good_bounds}

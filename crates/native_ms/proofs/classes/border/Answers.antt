@@ -1,5 +1,4 @@
 -- `classes::border` meets its contract, by its tests. Leans on one law for each way out.
-use borrow.Author.Rules.{rules}
 use native.Mathlib.Omega.{arith}
 use Rattle.native_ms.proofs.Borders.{level_later, level_ended, level_none, level_in}
 use Rattle.native_ms.proofs.classes.border.Goals as goal

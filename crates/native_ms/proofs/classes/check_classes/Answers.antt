@@ -1,7 +1,6 @@
 -- `classes::check_classes` answers `check_classes`, by its tests. Assumes nothing.
-use borrow.Author.Rules.{rules}
 use mathlib.Core.Path.{sym, ◌∙◌}
-use borrow.Author.Tests.{not-true, not-false, eq-eqb, ne_eqb}
+use borrow.Author.Tests.{eq-eqb, ne_eqb}
 use Rattle.model.specs.Calls.{checked_rows, check_classes}
 use Rattle.model.specs.Answers.{classes_reply}
 use Rattle.native_ms.proofs.classes.check_classes.Goals as goal

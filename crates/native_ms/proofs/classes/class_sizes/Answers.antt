@@ -1,6 +1,4 @@
 -- `classes::class_sizes` meets its contract: 01's sizes, or those of the rows. Assumes nothing.
-use borrow.Author.Rules.{rules}
-use mathlib.Core.Path.{refl}
 use Rattle.model.specs.SizeClasses.{class_words, fours}
 use Rattle.native_ms.proofs.Borders.{plain_sizes}
 use Rattle.native_ms.proofs.classes.class_sizes.Goals as goal

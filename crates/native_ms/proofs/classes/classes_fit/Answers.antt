@@ -1,6 +1,4 @@
 -- `classes::classes_fit` meets its contract, by its tests. Assumes nothing.
-use borrow.Author.Rules.{rules}
-use mathlib.Core.Path.{sym, ◌∙◌}
 use borrow.Author.Tests.{eq-eqb, ne_eqb}
 use Rattle.model.specs.Classes.{classes_fit}
 use Rattle.native_ms.proofs.classes.classes_fit.Goals as goal

@@ -1,6 +1,5 @@
 -- `classes::one_if_covers` meets its contract, by its test.
 use mathlib.Core.Path.{sym, ap, ◌∙◌}
-use mathlib.Core.Bool.{Bool}
 use Rattle.model.specs.Base.{flag}
 use Rattle.native_ms.proofs.classes.one_if_covers.Goals as goal
 

@@ -1,5 +1,4 @@
 -- `classes::row_fits` meets its contract, by its tests. Leans on one law each.
-use borrow.Author.Rules.{rules}
 use Rattle.native_ms.proofs.Borders.{fits_none, fits_empty, fits_short, fits_block}
 use Rattle.native_ms.proofs.classes.row_fits.Goals as goal
 

@@ -1,9 +1,6 @@
-use borrow.Author.Rules.{rules}
 use native.Mathlib.Omega.{arith}
-use mathlib.Core.Path.{◌≡◌}
-use Prim.Native.Nat.{◌-◌, ◌≤◌}
 use Rattle.laws.proofs.Params.{good_bounds}
-use Rattle.native_ms.proofs.Borders.{Written, written_start, written_step, written_all, written_sizes}
+use Rattle.native_ms.proofs.Borders.{written_start, written_step, written_all, written_sizes}
 use Rattle.native_ms.proofs.classes.row_sizes.Goals as goal
 
 pub loop-n-init : goal.loop-n-init

@@ -1,13 +1,7 @@
-use borrow.Author.Rules.{rules}
 use native.Mathlib.Omega.{arith}
-use mathlib.Core.Path.{◌≡◌, refl, sym, ap, ◌∙◌, subst}
-use Prim.Native.Nat.{ℕ, suc, ◌+◌, ◌≤◌, ◌<◌}
-use lib.ListN.{get_or}
-use Rattle.model.specs.declared.Row.{Row}
-use Rattle.model.specs.SizeClasses.{no_row}
+use mathlib.Core.Path.{◌∙◌}
 use Rattle.laws.proofs.Params.{good_bounds}
-use Rattle.native_ms.specs.Borders.{Level}
-use Rattle.native_ms.proofs.Borders.{over, over_step, level_step, flag_low, surveyed}
+use Rattle.native_ms.proofs.Borders.{over_step, level_step, flag_low, surveyed}
 use Rattle.native_ms.proofs.classes.survey.Goals as goal
 
 pub loop-left-init : goal.loop-left-init

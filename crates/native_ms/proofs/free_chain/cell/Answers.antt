@@ -2,7 +2,6 @@
 use native.Mathlib.Omega.{arith}
 use Rattle.laws.proofs.Below.{and_left}
 use Rattle.native_ms.proofs.Chains.{cell_fits}
-use borrow.Author.Rules.{rules}
 use Rattle.native_ms.proofs.free_chain.cell.Goals as goal
 
 pub start-from-requires : goal.start-from-requires

@@ -1,8 +1,6 @@
 -- `free_chain::cell_at` meets its contract. Assumes nothing.
 use mathlib.Core.Path.{sym, ◌∙◌}
-use borrow.Author.Tests.{not-true, not-false}
 use Rattle.model.specs.Block.{cell_at}
-use borrow.Author.Rules.{rules}
 use Rattle.native_ms.proofs.free_chain.cell_at.Goals as goal
 
 pub returns-then-not-has_cell : goal.returns-then-not-has_cell

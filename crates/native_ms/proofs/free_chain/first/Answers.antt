@@ -1,6 +1,5 @@
 -- `free_chain::first` reads the free head and the cell size. Assumes nothing.
 use Rattle.model.specs.Block.{first_cell}
-use borrow.Author.Rules.{rules}
 use Rattle.native_ms.proofs.free_chain.first.Goals as goal
 
 pub returns : goal.returns

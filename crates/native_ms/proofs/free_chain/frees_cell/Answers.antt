@@ -1,11 +1,9 @@
 -- `free_chain::frees_cell` meets its contract: it keeps what the sweep keeps. Leans on `cell_fits` and `frees_kept`.
 use mathlib.Core.Path.{sym, ◌∙◌}
 use native.Mathlib.Omega.{arith}
-use borrow.Author.Tests.{not-true, not-false}
 use Rattle.model.specs.Block.{frees_cell}
 use Rattle.laws.proofs.Below.{and_left}
 use Rattle.native_ms.proofs.Chains.{cell_fits, frees_kept}
-use borrow.Author.Rules.{rules}
 use Rattle.native_ms.proofs.free_chain.frees_cell.Goals as goal
 
 pub returns-then-not-has_cell : goal.returns-then-not-has_cell

@@ -1,7 +1,5 @@
 -- `free_chain::has_cell` meets its contract: its tests are the definition's, in the same order. Assumes nothing.
 use mathlib.Core.Path.{sym, ◌∙◌}
-use borrow.Author.Tests.{not-true, not-false}
-use borrow.Author.Rules.{rules}
 use Rattle.native_ms.proofs.free_chain.has_cell.Goals as goal
 
 pub returns-then-not-good_params : goal.returns-then-not-good_params

@@ -1,9 +1,8 @@
 -- `free_chain::more` meets its contract: its tests are the definition's, in the same order. Assumes nothing.
 use mathlib.Core.Path.{sym, ◌∙◌}
 use native.Mathlib.Omega.{arith}
-use borrow.Author.Tests.{lt-ltb, not-true, not-false}
+use borrow.Author.Tests.{lt-ltb}
 use Rattle.model.specs.Block.{more_cells}
-use borrow.Author.Rules.{rules}
 use Rattle.native_ms.proofs.free_chain.more.Goals as goal
 
 pub returns-then-not-good_params : goal.returns-then-not-good_params

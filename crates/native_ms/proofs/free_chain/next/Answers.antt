@@ -1,6 +1,5 @@
 -- `free_chain::next` reads the cell's link. Assumes nothing.
 use Rattle.model.specs.Block.{next_cell}
-use borrow.Author.Rules.{rules}
 use Rattle.native_ms.proofs.free_chain.next.Goals as goal
 
 pub returns : goal.returns

@@ -1,5 +1,4 @@
 -- `free_counts::block_chained` meets its contract. Assumes nothing.
-use borrow.Author.Rules.{rules}
 use Rattle.native_ms.proofs.FreeCountLaws.{free_chained, used_chained}
 use Rattle.native_ms.proofs.free_counts.block_chained.Goals as goal
 

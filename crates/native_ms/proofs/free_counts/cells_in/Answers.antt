@@ -1,5 +1,4 @@
 -- `free_counts::cells_in` meets its contract. Assumes nothing.
-use borrow.Author.Rules.{rules}
 use Rattle.native_ms.proofs.FreeCountLaws.{in_none, in_some}
 use Rattle.native_ms.proofs.free_counts.cells_in.Goals as goal
 

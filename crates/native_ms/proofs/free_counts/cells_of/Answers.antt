@@ -1,10 +1,7 @@
-use borrow.Author.Rules.{rules}
 use native.Mathlib.Omega.{arith}
-use borrow.Author.Count.{falls_down}
-use Rattle.model.specs.Tables.{view}
 use Rattle.model.specs.Calls.{cells_of}
 use Rattle.laws.proofs.Params.{good_bounds}
-use Rattle.native_ms.proofs.FreeCountLaws.{Summed, summed_start, summed_next, summed_fits, summed_end}
+use Rattle.native_ms.proofs.FreeCountLaws.{summed_start, summed_next, summed_fits, summed_end}
 use Rattle.native_ms.proofs.free_counts.cells_of.Goals as goal
 
 pub loop-left-init : goal.loop-left-init

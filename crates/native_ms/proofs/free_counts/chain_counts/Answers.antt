@@ -1,8 +1,4 @@
-use borrow.Author.Rules.{rules}
-use mathlib.Core.Path.{◌≡◌, refl, sym, ◌∙◌}
-use borrow.Author.Count.{falls_down}
-use borrow.Author.Tests.{not-true, not-false}
-use Rattle.model.specs.Sound.{chain_counts}
+use mathlib.Core.Path.{refl, sym, ◌∙◌}
 use Rattle.native_ms.proofs.FreeCountLaws.{counts_stop, counts_on, counts_end}
 use Rattle.native_ms.proofs.free_counts.chain_counts.Goals as goal
 

@@ -1,10 +1,6 @@
 -- `free_counts::chain_counts` meets its contract: what is left to count from here is the whole. Assumes nothing.
-use borrow.Author.Rules.{rules}
-use mathlib.Core.Path.{◌≡◌, refl, sym, ◌∙◌}
-use borrow.Author.Count.{falls_down}
-use borrow.Author.Tests.{not-true, not-false}
+use mathlib.Core.Path.{◌≡◌}
 use Rattle.model.specs.Sound.{chain_counts}
-use Rattle.native_ms.proofs.FreeCountLaws.{counts_stop, counts_on, counts_end}
 use Rattle.native_ms.proofs.free_counts.chain_counts.Given as goal
 
 abbrev pub invariant-loop-left : goal.invariant-loop-left

@@ -1,5 +1,4 @@
 -- `free_counts::chain_ok` meets its contract: more than the block has are not counted, else the walk decides. Assumes nothing.
-use borrow.Author.Rules.{rules}
 use Rattle.native_ms.proofs.FreeCountLaws.{ok_many, ok_counts}
 use Rattle.native_ms.proofs.free_counts.chain_ok.Goals as goal
 

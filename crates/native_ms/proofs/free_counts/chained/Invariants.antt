@@ -1,12 +1,7 @@
 -- `free_counts::chained` meets its contract: the blocks passed are chained, and those to come decide. Assumes nothing.
-use borrow.Author.Rules.{rules}
-use mathlib.Core.Path.{◌≡◌, refl, sym, ◌∙◌}
-use borrow.Author.Count.{falls_down}
-use borrow.Author.Tests.{not-true, not-false}
+use mathlib.Core.Path.{◌≡◌}
 use Rattle.model.specs.Base.{all_below}
 use Rattle.model.specs.Tables.{view}
-use Rattle.model.specs.Sound.{state_of, chained}
-use Rattle.laws.proofs.Below.{all_end, all_stop, all_step}
 use Rattle.native_ms.proofs.FreeCountLaws.{chained_at}
 use Rattle.native_ms.proofs.free_counts.chained.Given as goal
 

@@ -1,5 +1,4 @@
 -- `free_counts::free_cells` promises `ask`: refused by what every call tests first, or by its bin, else the sum. Assumes nothing.
-use borrow.Author.Rules.{rules}
 use Rattle.model.specs.Answers.{cells_reply}
 use Rattle.native_ms.proofs.FreeCountLaws.{ask_refused, ask_good, ask_few, ask_low, ask_high, ask_answers}
 use Rattle.native_ms.proofs.free_counts.free_cells.Goals as goal

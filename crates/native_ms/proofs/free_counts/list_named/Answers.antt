@@ -1,5 +1,4 @@
 -- `free_counts::list_named` meets its contract. Assumes nothing.
-use borrow.Author.Rules.{rules}
 use Rattle.native_ms.proofs.FreeCountLaws.{named_none, named_some}
 use Rattle.native_ms.proofs.free_counts.list_named.Goals as goal
 

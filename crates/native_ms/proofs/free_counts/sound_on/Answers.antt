@@ -1,5 +1,4 @@
 -- `free_counts::sound_on` meets its contract: the tables, what the choice of sweeping asks, and then the chains. Assumes nothing.
-use borrow.Author.Tests.{not-true, not-false}
 use Rattle.native_ms.proofs.FreeCountLaws.{unsound_tables, unsound_choice, sound_chains}
 use Rattle.native_ms.proofs.free_counts.sound_on.Goals as goal
 

@@ -1,12 +1,6 @@
-use Prim.Native.Nat.{◌+◌, ◌≤◌}
-use mathlib.Core.Path.{◌≡◌, refl, ◌∙◌}
+use mathlib.Core.Path.{refl, ◌∙◌}
 use native.Mathlib.Omega.{arith}
-use lib.ListN.{length}
-use borrow.Author.Count.{falls_down}
-use Rattle.model.specs.Tables.{view}
 use Rattle.laws.proofs.Params.{good_bounds}
-use Rattle.model.specs.FreeListAllocator.{acquire_abandoned}
-use Rattle.native_ms.specs.Closing.{closed}
 use Rattle.native_ms.proofs.Abandoned.{flag_low, acquire_end, acquire_none, acquire_found, acquire_step}
 use borrow.Author.Rules.{rules}
 use Rattle.native_ms.proofs.Offsets.{known_on}

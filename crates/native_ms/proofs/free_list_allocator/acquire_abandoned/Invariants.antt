@@ -1,17 +1,11 @@
 -- `free_list_allocator::acquire_abandoned` takes blocks over as `acquire_abandoned` does. The invariant: what remains from here, after
 -- n sweeps, is the whole, and each sweep used up a block. The measure is the count of blocks left.
 use Prim.Native.Nat.{◌+◌, ◌≤◌}
-use mathlib.Core.Path.{◌≡◌, refl, ◌∙◌}
-use native.Mathlib.Omega.{arith}
+use mathlib.Core.Path.{◌≡◌}
 use lib.ListN.{length}
-use borrow.Author.Count.{falls_down}
 use Rattle.model.specs.Tables.{view}
-use Rattle.laws.proofs.Params.{good_bounds}
 use Rattle.model.specs.FreeListAllocator.{acquire_abandoned}
 use Rattle.native_ms.specs.Closing.{closed}
-use Rattle.native_ms.proofs.Abandoned.{flag_low, acquire_end, acquire_none, acquire_found, acquire_step}
-use borrow.Author.Rules.{rules}
-use Rattle.native_ms.proofs.Offsets.{known_on}
 use Rattle.native_ms.proofs.free_list_allocator.acquire_abandoned.Given as goal
 
 abbrev pub invariant-loop-left : goal.invariant-loop-left

@@ -2,7 +2,6 @@
 -- out.
 use Rattle.native_ms.proofs.Ending.{global_found, global_none, global_fresh}
 use Rattle.model.specs.Tables.{view}
-use borrow.Author.Rules.{rules}
 use Rattle.native_ms.proofs.Offsets.{known_standing}
 use Rattle.native_ms.proofs.free_list_allocator.acquire_global_block.Goals as goal
 

@@ -2,7 +2,6 @@
 use Rattle.model.specs.Answers.{alloc_reply}
 use Rattle.native_ms.proofs.Tests.{lent_refused, lent_passed}
 use mathlib.Core.Path.{sym, ◌∙◌}
-use borrow.Author.Rules.{rules}
 use Rattle.native_ms.proofs.free_list_allocator.alloc.Goals as goal
 
 pub check_lent-requires : goal.check_lent-requires

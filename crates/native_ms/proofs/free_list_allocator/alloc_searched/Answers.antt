@@ -1,7 +1,6 @@
 -- `free_list_allocator::alloc_searched` steps as `sound_step` does: what it is given passed the tests. Assumes nothing.
 use mathlib.Core.Path.{refl}
 use Rattle.native_ms.proofs.AllocCall.{call_ready, call_known, call_offered, call_served}
-use borrow.Author.Rules.{rules}
 use Rattle.native_ms.proofs.free_list_allocator.alloc_searched.Goals as goal
 
 pub serve_searched-requires : goal.serve_searched-requires

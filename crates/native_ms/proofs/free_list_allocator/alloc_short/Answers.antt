@@ -9,7 +9,6 @@ use Rattle.native_ms.proofs.Search.{sets_low}
 use Rattle.native_ms.proofs.Ending.{serve_head}
 use Rattle.native_ms.proofs.ShortWay.{head_takeable}
 use Rattle.native_ms.proofs.AllocCall.{call_lengths, call_refused, call_ready, call_known, call_served, short_ended, short_searches}
-use borrow.Author.Rules.{rules}
 use Rattle.native_ms.proofs.free_list_allocator.alloc_short.Goals as goal
 
 pub check_alloc-requires : goal.check_alloc-requires

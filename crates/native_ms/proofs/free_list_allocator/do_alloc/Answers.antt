@@ -1,6 +1,5 @@
 -- `free_list_allocator::do_alloc` steps as `sound_step` does, by the short way or by the search. Assumes nothing.
 use Rattle.native_ms.proofs.AllocCall.{short_passed, short_serves, short_then}
-use borrow.Author.Rules.{rules}
 use Rattle.native_ms.proofs.free_list_allocator.do_alloc.Goals as goal
 
 pub alloc_short-requires : goal.alloc_short-requires

@@ -1,6 +1,5 @@
 -- `free_list_allocator::file_block` puts the block on the list that its free head says. One law for each arm.
 use Rattle.native_ms.proofs.Search.{filed_full, filed_avail}
-use borrow.Author.Rules.{rules}
 use Rattle.native_ms.proofs.free_list_allocator.file_block.Goals as goal
 
 pub free-cell-requires : goal.free-cell-requires

@@ -5,7 +5,6 @@ use Rattle.laws.proofs.Params.{good_bounds}
 use Rattle.native_ms.proofs.Search.{sets_low}
 use Rattle.native_ms.proofs.Ending.{find_skimmed, find_recycled, find_global}
 use Rattle.model.specs.Tables.{view}
-use borrow.Author.Rules.{rules}
 use Rattle.native_ms.proofs.Offsets.{known_on}
 use Rattle.native_ms.proofs.free_list_allocator.find_block.Goals as goal
 

@@ -1,11 +1,6 @@
-use mathlib.Core.Path.{◌≡◌, refl, ap, ◌∙◌}
-use lib.ListN.{length}
-use borrow.Author.Count.{falls_down}
-use Rattle.model.specs.Tables.{view}
-use Rattle.model.specs.FreeListAllocator.{find_free_block_with}
+use mathlib.Core.Path.{refl, ap, ◌∙◌}
 use Rattle.native_ms.specs.Closing.{skimmed}
 use Rattle.native_ms.proofs.Search.{skim_end, skim_none, skim_found, skim_step}
-use borrow.Author.Rules.{rules}
 use Rattle.native_ms.proofs.free_list_allocator.find_free_block_with.Goals as goal
 
 pub loop-left-init : goal.loop-left-init

@@ -1,13 +1,10 @@
 -- `free_list_allocator::find_free_block_with` skims as `find_free_block_with` does. The invariant: what remains from here is the whole.
 -- The measure is the count of blocks left.
-use mathlib.Core.Path.{◌≡◌, refl, ap, ◌∙◌}
+use mathlib.Core.Path.{◌≡◌}
 use lib.ListN.{length}
-use borrow.Author.Count.{falls_down}
 use Rattle.model.specs.Tables.{view}
 use Rattle.model.specs.FreeListAllocator.{find_free_block_with}
 use Rattle.native_ms.specs.Closing.{skimmed}
-use Rattle.native_ms.proofs.Search.{skim_end, skim_none, skim_found, skim_step}
-use borrow.Author.Rules.{rules}
 use Rattle.native_ms.proofs.free_list_allocator.find_free_block_with.Given as goal
 
 abbrev pub invariant-loop-left : goal.invariant-loop-left

@@ -1,7 +1,6 @@
 -- `free_list_allocator::free_head` meets its contract: a number below the count is only given for a block with a free cell.
 use native.Mathlib.Omega.{arith}
 use Rattle.model.specs.Tables.{view}
-use borrow.Author.Rules.{rules}
 use Rattle.native_ms.proofs.Offsets.{words_known}
 use Rattle.native_ms.proofs.ShortWay.{head_free, none_past}
 use Rattle.native_ms.proofs.free_list_allocator.free_head.Goals as goal

@@ -1,12 +1,6 @@
-use Prim.Native.Nat.{◌+◌}
-use mathlib.Core.Path.{◌≡◌, refl, ◌∙◌}
+use mathlib.Core.Path.{refl, ◌∙◌}
 use native.Mathlib.Omega.{arith}
-use lib.ListN.{length}
-use borrow.Author.Count.{falls_down}
-use Rattle.model.specs.Tables.{view}
 use Rattle.laws.proofs.Params.{good_bounds}
-use Rattle.model.specs.FreeListAllocator.{recycle_local_blocks}
-use Rattle.native_ms.specs.Closing.{closed}
 use Rattle.native_ms.proofs.Search.{recycle_end, recycle_none, recycle_found, recycle_step}
 use borrow.Author.Rules.{rules}
 use Rattle.native_ms.proofs.Offsets.{known_on}

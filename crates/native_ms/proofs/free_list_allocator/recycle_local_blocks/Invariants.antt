@@ -1,17 +1,11 @@
 -- `free_list_allocator::recycle_local_blocks` sweeps as `recycle_local_blocks` does. The invariant: what remains from here, after n
 -- sweeps, is the whole, and n and the blocks left are all blocks. The measure is the count of blocks left.
 use Prim.Native.Nat.{◌+◌}
-use mathlib.Core.Path.{◌≡◌, refl, ◌∙◌}
-use native.Mathlib.Omega.{arith}
+use mathlib.Core.Path.{◌≡◌}
 use lib.ListN.{length}
-use borrow.Author.Count.{falls_down}
 use Rattle.model.specs.Tables.{view}
-use Rattle.laws.proofs.Params.{good_bounds}
 use Rattle.model.specs.FreeListAllocator.{recycle_local_blocks}
 use Rattle.native_ms.specs.Closing.{closed}
-use Rattle.native_ms.proofs.Search.{recycle_end, recycle_none, recycle_found, recycle_step}
-use borrow.Author.Rules.{rules}
-use Rattle.native_ms.proofs.Offsets.{known_on}
 use Rattle.native_ms.proofs.free_list_allocator.recycle_local_blocks.Given as goal
 
 abbrev pub invariant-loop-left : goal.invariant-loop-left

@@ -1,7 +1,6 @@
 -- `free_list_allocator::serve_head` takes the cell and answers it as the machine does.
 use Rattle.model.specs.Tables.{view}
 use Rattle.model.specs.Answers.{alloc_reply}
-use borrow.Author.Rules.{rules}
 use Rattle.native_ms.proofs.Ending.{head_cell, cell_at}
 use Rattle.native_ms.proofs.ShortWay.{taken_low}
 use Rattle.native_ms.proofs.free_list_allocator.serve_head.Goals as goal

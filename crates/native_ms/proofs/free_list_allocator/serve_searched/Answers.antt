@@ -5,7 +5,6 @@ use Rattle.model.specs.Answers.{alloc_reply}
 use Rattle.native_ms.proofs.Ending.{serve_none, serve_cell, cell_low}
 use Rattle.model.specs.FreeListAllocator.{find_block}
 use Rattle.model.specs.Tables.{tables_of, view}
-use borrow.Author.Rules.{rules}
 use Rattle.native_ms.proofs.free_list_allocator.serve_searched.Goals as goal
 
 pub find_block-search-requires : goal.find_block-search-requires

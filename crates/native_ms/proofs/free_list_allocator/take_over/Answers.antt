@@ -3,7 +3,6 @@ use mathlib.Core.Path.{refl}
 use Rattle.laws.proofs.Tables.{put_tls_lem}
 use Rattle.native_ms.proofs.Search.{sets_low}
 use Rattle.native_ms.proofs.Abandoned.{over_available, over_unswept}
-use borrow.Author.Rules.{rules}
 use Rattle.native_ms.proofs.Offsets.{known_on}
 use Rattle.native_ms.proofs.free_list_allocator.take_over.Goals as goal
 

@@ -1,7 +1,6 @@
 -- `global::abandon_bin` appends three lists as `abandon_bin` does, and counts as `abandoned_bin`. Assumes nothing.
 use Rattle.native_ms.proofs.MovedLaws.{moves_low, over_bin}
 use Rattle.native_ms.proofs.Releases.{two_fit, three_fit}
-use borrow.Author.Rules.{rules}
 use Rattle.native_ms.proofs.global.abandon_bin.Goals as goal
 
 pub append-free-requires : goal.append-free-requires

@@ -1,10 +1,6 @@
-use Prim.Native.Nat.{◌*◌, ◌-◌, ◌≤◌}
-use mathlib.Core.Path.{◌≡◌, refl, ◌∙◌}
+use mathlib.Core.Path.{refl, ◌∙◌}
 use native.Mathlib.Omega.{arith}
-use lib.ListN.{length}
-use Rattle.model.specs.Tables.{view}
 use Rattle.laws.proofs.Params.{good_bounds}
-use Rattle.native_ms.specs.Moved.{moved, bins_move}
 use Rattle.native_ms.proofs.MovedLaws.{over_few, over_none, over_more, over_end}
 use Rattle.native_ms.proofs.global.abandon_blocks.Goals as goal
 

@@ -1,12 +1,9 @@
 -- `global::abandon_blocks` goes through the 49 bins. The invariant: those passed are done and counted. Assumes nothing.
 use Prim.Native.Nat.{◌*◌, ◌-◌, ◌≤◌}
-use mathlib.Core.Path.{◌≡◌, refl, ◌∙◌}
-use native.Mathlib.Omega.{arith}
+use mathlib.Core.Path.{◌≡◌}
 use lib.ListN.{length}
 use Rattle.model.specs.Tables.{view}
-use Rattle.laws.proofs.Params.{good_bounds}
 use Rattle.native_ms.specs.Moved.{moved, bins_move}
-use Rattle.native_ms.proofs.MovedLaws.{over_few, over_none, over_more, over_end}
 use Rattle.native_ms.proofs.global.abandon_blocks.Given as goal
 
 abbrev pub invariant-loop-bin : goal.invariant-loop-bin

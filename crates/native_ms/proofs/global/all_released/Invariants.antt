@@ -1,12 +1,8 @@
 -- `global::all_released` meets its contract: holders from the last down, then the shared part.
-use mathlib.Core.Path.{◌≡◌, refl, sym, ◌∙◌}
-use borrow.Author.Rules.{rules}
-use borrow.Author.Tests.{not-true, not-false}
+use mathlib.Core.Path.{◌≡◌}
 use Rattle.model.specs.Tables.{view}
 use Rattle.model.specs.Base.{all_below}
-use borrow.Author.Count.{falls_down}
-use Rattle.laws.proofs.Below.{all_end, all_stop, all_step}
-use Rattle.native_ms.proofs.SoundTests.{not_due, due_at, all_due, none_due}
+use Rattle.native_ms.proofs.SoundTests.{not_due}
 use Rattle.native_ms.proofs.global.all_released.Given as goal
 
 abbrev pub invariant-loop-left : goal.invariant-loop-left

@@ -1,6 +1,5 @@
 -- `global::attempt_release` is `attempt_release`. Assumes nothing.
 use Rattle.native_ms.proofs.Releases.{attempt_no, attempt_yes}
-use borrow.Author.Rules.{rules}
 use Rattle.native_ms.proofs.global.attempt_release.Goals as goal
 
 pub state-state-requires : goal.state-state-requires

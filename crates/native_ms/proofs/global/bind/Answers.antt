@@ -1,7 +1,6 @@
 -- `global::bind` promises `call`: refused by its first tests, or its step on sound tables. Assumes nothing.
 use Rattle.model.specs.Answers.{reply_of}
 use Rattle.native_ms.proofs.Tests.{lent_refused, lent_passed}
-use borrow.Author.Rules.{rules}
 use Rattle.native_ms.proofs.global.bind.Goals as goal
 
 pub check_lent-requires : goal.check_lent-requires

@@ -1,10 +1,7 @@
-use Prim.Native.Nat.{◌-◌, ◌≤◌}
-use mathlib.Core.Path.{◌≡◌, refl, ◌∙◌}
+use mathlib.Core.Path.{refl, ◌∙◌}
 use native.Mathlib.Omega.{arith}
-use lib.ListN.{length}
-use Rattle.model.specs.Tables.{view}
 use Rattle.laws.proofs.Tables.{put_released_lem}
-use Rattle.native_ms.proofs.SpaceCalls.{unreleased, unreleased_none, unreleased_more, unreleased_end}
+use Rattle.native_ms.proofs.SpaceCalls.{unreleased_none, unreleased_more, unreleased_end}
 use Rattle.native_ms.proofs.global.clear_released.Goals as goal
 
 pub loop-i-init : goal.loop-i-init

@@ -1,11 +1,9 @@
 -- `global::clear_released` makes the nine released marks 0. The invariant: those passed are. Assumes nothing.
 use Prim.Native.Nat.{◌-◌, ◌≤◌}
-use mathlib.Core.Path.{◌≡◌, refl, ◌∙◌}
-use native.Mathlib.Omega.{arith}
+use mathlib.Core.Path.{◌≡◌}
 use lib.ListN.{length}
 use Rattle.model.specs.Tables.{view}
-use Rattle.laws.proofs.Tables.{put_released_lem}
-use Rattle.native_ms.proofs.SpaceCalls.{unreleased, unreleased_none, unreleased_more, unreleased_end}
+use Rattle.native_ms.proofs.SpaceCalls.{unreleased}
 use Rattle.native_ms.proofs.global.clear_released.Given as goal
 
 abbrev pub invariant-loop-i : goal.invariant-loop-i

@@ -1,10 +1,8 @@
-use Prim.Native.Nat.{ℕ, ◌-◌, ◌≤◌, ◌<◌}
-use mathlib.Core.Path.{◌≡◌, refl}
+use mathlib.Core.Path.{refl}
 use native.Mathlib.Nat.{not-suc-le-zero}
 use native.Mathlib.Omega.{arith}
-use lib.ListN.{length, get_or, length-set}
+use lib.ListN.{length-set}
 use Rattle.native_ms.proofs.SpaceCalls.{zeros_more, zeros_end}
-use borrow.Author.Rules.{rules}
 use Rattle.native_ms.proofs.global.clear_words.Goals as goal
 
 pub loop-i-init : goal.loop-i-init

@@ -1,11 +1,7 @@
 -- `global::clear_words` makes all words 0. The invariant: those passed are 0. Assumes nothing.
 use Prim.Native.Nat.{ℕ, ◌-◌, ◌≤◌, ◌<◌}
-use mathlib.Core.Path.{◌≡◌, refl}
-use native.Mathlib.Nat.{not-suc-le-zero}
-use native.Mathlib.Omega.{arith}
-use lib.ListN.{length, get_or, length-set}
-use Rattle.native_ms.proofs.SpaceCalls.{zeros_more, zeros_end}
-use borrow.Author.Rules.{rules}
+use mathlib.Core.Path.{◌≡◌}
+use lib.ListN.{length, get_or}
 use Rattle.native_ms.proofs.global.clear_words.Given as goal
 
 abbrev pub invariant-loop-i : goal.invariant-loop-i

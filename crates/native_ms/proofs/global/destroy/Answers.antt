@@ -2,7 +2,6 @@
 use Rattle.model.specs.Answers.{destroy_reply}
 use Rattle.native_ms.proofs.Tests.{lent_refused, lent_passed, open_good}
 use mathlib.Core.Path.{sym, ◌∙◌}
-use borrow.Author.Rules.{rules}
 use Rattle.native_ms.proofs.global.destroy.Goals as goal
 
 pub check_lent-requires : goal.check_lent-requires

@@ -2,7 +2,6 @@
 use Rattle.model.specs.Answers.{reply_of}
 use Rattle.laws.proofs.Tables.{put_bound_lem}
 use Rattle.native_ms.proofs.SpaceCalls.{bind_low, bind_done, bind_refused}
-use borrow.Author.Rules.{rules}
 use Rattle.native_ms.proofs.global.do_bind.Goals as goal
 
 pub check_bind-requires : goal.check_bind-requires

@@ -4,7 +4,6 @@ use mathlib.Core.Path.{◌∙◌}
 use Rattle.model.specs.Answers.{destroy_reply}
 use Rattle.laws.proofs.Tables.{put_bound_lem}
 use Rattle.native_ms.proofs.SpaceCalls.{sets_low, leaves_bound, destroy_done, destroy_refused}
-use borrow.Author.Rules.{rules}
 use Rattle.native_ms.proofs.global.do_destroy.Goals as goal
 
 pub check_leave-requires : goal.check_leave-requires

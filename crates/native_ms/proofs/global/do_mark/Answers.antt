@@ -2,7 +2,6 @@
 use Rattle.model.specs.Answers.{mark_reply}
 use Rattle.model.specs.Base.{flag}
 use Rattle.native_ms.proofs.SpaceCalls.{mark_refused, mark_old, mark_new}
-use borrow.Author.Rules.{rules}
 use Rattle.native_ms.proofs.global.do_mark.Goals as goal
 
 pub check_mark-requires : goal.check_mark-requires

@@ -2,7 +2,6 @@
 use Rattle.model.specs.Answers.{reply_of}
 use Rattle.laws.proofs.Tables.{put_phase_lem}
 use Rattle.native_ms.proofs.SpaceCalls.{prepare_done, prepare_refused}
-use borrow.Author.Rules.{rules}
 use Rattle.native_ms.proofs.global.do_prepare.Goals as goal
 
 pub check_phase-requires : goal.check_phase-requires

@@ -4,7 +4,6 @@ use mathlib.Core.Path.{refl, ◌∙◌}
 use Rattle.model.specs.Answers.{release_reply}
 use Rattle.native_ms.proofs.Offsets.{known_on, words_known}
 use Rattle.native_ms.proofs.SpaceCalls.{shared_refused, shared_done}
-use borrow.Author.Rules.{rules}
 use Rattle.native_ms.proofs.global.do_shared_release.Goals as goal
 
 pub check_shared_release-requires : goal.check_shared_release-requires

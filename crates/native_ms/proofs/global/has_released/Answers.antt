@@ -1,6 +1,5 @@
 -- `global::has_released` meets its contract.
 use Rattle.native_ms.proofs.SoundTests.{released_word}
-use borrow.Author.Rules.{rules}
 use Rattle.native_ms.proofs.global.has_released.Goals as goal
 
 pub returns : goal.returns

@@ -1,6 +1,5 @@
 -- `global::is_bound` meets its contract.
 use Rattle.native_ms.proofs.SoundTests.{bound_none, bound_past, bound_word}
-use borrow.Author.Rules.{rules}
 use Rattle.native_ms.proofs.global.is_bound.Goals as goal
 
 pub returns-then-holder-lt1 : goal.returns-then-holder-lt1

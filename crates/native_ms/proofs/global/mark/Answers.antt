@@ -2,7 +2,6 @@
 use Rattle.model.specs.Answers.{mark_reply}
 use Rattle.native_ms.proofs.Tests.{lent_refused, lent_passed, open_good}
 use mathlib.Core.Path.{refl, sym, ◌∙◌}
-use borrow.Author.Rules.{rules}
 use Rattle.native_ms.proofs.global.mark.Goals as goal
 
 pub check_lent-requires : goal.check_lent-requires

@@ -1,6 +1,5 @@
 -- `global::merge` is `abandon_blocks` from in-gc to abandoned. Assumes nothing.
 use lib.Dec.{lit≤}
-use borrow.Author.Rules.{rules}
 use Rattle.native_ms.proofs.global.merge.Goals as goal
 
 pub abandon_blocks-requires : goal.abandon_blocks-requires

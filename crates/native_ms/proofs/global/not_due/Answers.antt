@@ -1,7 +1,5 @@
 -- `global::not_due` meets its contract.
-use borrow.Author.Tests.{not-true, not-false}
 use Rattle.native_ms.proofs.SoundTests.{due_off, due_on}
-use borrow.Author.Rules.{rules}
 use Rattle.native_ms.proofs.global.not_due.Goals as goal
 
 pub returns-then-not-is_bound : goal.returns-then-not-is_bound

@@ -2,7 +2,6 @@
 use Rattle.model.specs.Answers.{reply_of}
 use Rattle.native_ms.proofs.Tests.{lent_refused, lent_passed, open_long}
 use mathlib.Core.Path.{sym, ◌∙◌}
-use borrow.Author.Rules.{rules}
 use Rattle.native_ms.proofs.global.prepare.Goals as goal
 
 pub check_lent-requires : goal.check_lent-requires

@@ -2,7 +2,6 @@
 use Rattle.model.specs.Answers.{release_reply}
 use Rattle.native_ms.proofs.Tests.{lent_refused, lent_passed, open_known}
 use mathlib.Core.Path.{sym, ◌∙◌}
-use borrow.Author.Rules.{rules}
 use Rattle.native_ms.proofs.global.release.Goals as goal
 
 pub check_lent-requires : goal.check_lent-requires

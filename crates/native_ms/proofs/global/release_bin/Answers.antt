@@ -2,7 +2,6 @@
 use mathlib.Core.Path.{◌∙◌}
 use Rattle.native_ms.proofs.Releases.{blocks_low, two_fit, bin_total}
 use Rattle.model.specs.Tables.{view}
-use borrow.Author.Rules.{rules}
 use Rattle.native_ms.proofs.global.release_bin.Goals as goal
 
 pub release_blocks-free-requires : goal.release_blocks-free-requires

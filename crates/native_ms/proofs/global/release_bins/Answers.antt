@@ -1,10 +1,6 @@
-use Prim.Native.Nat.{◌*◌, ◌-◌, ◌≤◌}
-use mathlib.Core.Path.{◌≡◌, refl, ◌∙◌}
+use mathlib.Core.Path.{refl, ◌∙◌}
 use native.Mathlib.Omega.{arith}
-use lib.ListN.{length}
-use Rattle.model.specs.Tables.{view}
 use Rattle.laws.proofs.Params.{good_bounds}
-use Rattle.native_ms.specs.Released.{out, total, released_bins}
 use Rattle.native_ms.proofs.Releases.{bins_none, bins_more, bins_end, bin_few}
 use Rattle.native_ms.proofs.global.release_bins.Goals as goal
 

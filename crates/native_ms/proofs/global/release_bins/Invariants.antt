@@ -1,12 +1,9 @@
 -- `global::release_bins` goes through the 49 bins. The invariant: those passed are done and counted. Assumes nothing.
 use Prim.Native.Nat.{◌*◌, ◌-◌, ◌≤◌}
-use mathlib.Core.Path.{◌≡◌, refl, ◌∙◌}
-use native.Mathlib.Omega.{arith}
+use mathlib.Core.Path.{◌≡◌}
 use lib.ListN.{length}
 use Rattle.model.specs.Tables.{view}
-use Rattle.laws.proofs.Params.{good_bounds}
 use Rattle.native_ms.specs.Released.{out, total, released_bins}
-use Rattle.native_ms.proofs.Releases.{bins_none, bins_more, bins_end, bin_few}
 use Rattle.native_ms.proofs.global.release_bins.Given as goal
 
 abbrev pub invariant-loop-bin : goal.invariant-loop-bin

@@ -1,13 +1,7 @@
-use Prim.Native.Nat.{◌+◌, ◌≤◌}
-use mathlib.Core.Path.{◌≡◌, refl, ◌∙◌}
+use mathlib.Core.Path.{refl, ◌∙◌}
 use native.Mathlib.Omega.{arith}
-use lib.ListN.{length}
-use borrow.Author.Count.{falls_down}
-use Rattle.model.specs.Tables.{view}
-use Rattle.model.specs.Global.{release_from}
 use Rattle.laws.proofs.Params.{good_bounds}
-use Rattle.native_ms.specs.Released.{total}
-use Rattle.native_ms.proofs.Releases.{plus, from_end, from_stop, from_start, from_step, from_at, attempt_few}
+use Rattle.native_ms.proofs.Releases.{from_end, from_stop, from_start, from_step, from_at, attempt_few}
 use Rattle.native_ms.proofs.global.release_blocks.Goals as goal
 
 pub first-link-requires : goal.first-link-requires

@@ -1,14 +1,11 @@
 -- `global::release_blocks` walks as `release_from` does. The invariant: what is left from here, and n, is the whole. Assumes nothing.
 use Prim.Native.Nat.{◌+◌, ◌≤◌}
-use mathlib.Core.Path.{◌≡◌, refl, ◌∙◌}
-use native.Mathlib.Omega.{arith}
+use mathlib.Core.Path.{◌≡◌}
 use lib.ListN.{length}
-use borrow.Author.Count.{falls_down}
 use Rattle.model.specs.Tables.{view}
 use Rattle.model.specs.Global.{release_from}
-use Rattle.laws.proofs.Params.{good_bounds}
 use Rattle.native_ms.specs.Released.{total}
-use Rattle.native_ms.proofs.Releases.{plus, from_end, from_stop, from_start, from_step, from_at, attempt_few}
+use Rattle.native_ms.proofs.Releases.{plus}
 use Rattle.native_ms.proofs.global.release_blocks.Given as goal
 
 abbrev pub invariant-loop-more : goal.invariant-loop-more

@@ -1,9 +1,7 @@
 -- `global::set_up` promises `set_up`: refused, or all tables and marks 0. Assumes nothing.
-use borrow.Author.Tests.{not-true, not-false}
 use Rattle.model.specs.Answers.{reply_of}
 use Rattle.native_ms.proofs.SpaceCalls.{bad_set_up, bad_rows, set_up_done}
 use Rattle.native_ms.proofs.Tests.{fit_parts}
-use borrow.Author.Rules.{rules}
 use Rattle.native_ms.proofs.global.set_up.Goals as goal
 
 pub lent_fits-requires : goal.lent_fits-requires

@@ -1,11 +1,7 @@
-use Prim.Native.Nat.{◌*◌, ◌-◌, ◌≤◌}
-use mathlib.Core.Path.{◌≡◌, refl, ◌∙◌}
+use mathlib.Core.Path.{refl, ◌∙◌}
 use native.Mathlib.Omega.{arith}
-use lib.ListN.{length}
-use Rattle.model.specs.Tables.{view}
 use Rattle.laws.proofs.Params.{good_bounds}
-use Rattle.native_ms.specs.Released.{out, total}
-use Rattle.native_ms.proofs.Releases.{later_bins, later_none, later_more, later_end, later_few}
+use Rattle.native_ms.proofs.Releases.{later_none, later_more, later_end, later_few}
 use Rattle.native_ms.proofs.global.sweep_later.Goals as goal
 
 pub loop-bin-init : goal.loop-bin-init

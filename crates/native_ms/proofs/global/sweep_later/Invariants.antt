@@ -1,12 +1,10 @@
 -- `global::sweep_later` is `sweep_later`, its events counted. The invariant: the bins passed are done and counted. Assumes nothing.
 use Prim.Native.Nat.{◌*◌, ◌-◌, ◌≤◌}
-use mathlib.Core.Path.{◌≡◌, refl, ◌∙◌}
-use native.Mathlib.Omega.{arith}
+use mathlib.Core.Path.{◌≡◌}
 use lib.ListN.{length}
 use Rattle.model.specs.Tables.{view}
-use Rattle.laws.proofs.Params.{good_bounds}
 use Rattle.native_ms.specs.Released.{out, total}
-use Rattle.native_ms.proofs.Releases.{later_bins, later_none, later_more, later_end, later_few}
+use Rattle.native_ms.proofs.Releases.{later_bins}
 use Rattle.native_ms.proofs.global.sweep_later.Given as goal
 
 abbrev pub invariant-loop-bin : goal.invariant-loop-bin

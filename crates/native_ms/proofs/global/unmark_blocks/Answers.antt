@@ -1,10 +1,7 @@
-use Prim.Native.Nat.{◌-◌, ◌≤◌}
-use mathlib.Core.Path.{◌≡◌, refl}
+use mathlib.Core.Path.{refl}
 use native.Mathlib.Omega.{arith}
-use lib.ListN.{length, length-set}
-use borrow.Author.Rules.{rules}
-use Rattle.model.specs.Global.{unmarked_state}
-use Rattle.native_ms.proofs.SpaceCalls.{Mapped, mapped_none, mapped_more, mapped_end, unmark_zero}
+use lib.ListN.{length-set}
+use Rattle.native_ms.proofs.SpaceCalls.{mapped_none, mapped_more, mapped_end, unmark_zero}
 use Rattle.native_ms.proofs.global.unmark_blocks.Goals as goal
 
 pub loop-i-init : goal.loop-i-init

@@ -1,5 +1,4 @@
 -- `memory::bit` meets its contract. Assumes nothing.
-use borrow.Author.Rules.{rules}
 use Rattle.native_ms.proofs.Offsets.{test_by_mask}
 use Rattle.native_ms.proofs.memory.bit.Goals as goal
 

@@ -1,7 +1,6 @@
 -- `memory::is_marked` reads the bit of a place in the heap, and no other. Leans on the laws of marks; assumes nothing.
 use mathlib.Core.Path.{sym, ◌∙◌}
 use Rattle.laws.proofs.Marks.{marked_inside, marked_out}
-use borrow.Author.Rules.{rules}
 use Rattle.native_ms.proofs.memory.is_marked.Goals as goal
 
 pub returns-then-inside : goal.returns-then-inside

@@ -1,7 +1,6 @@
 -- `memory::load` reads the word at an address. Assumes nothing.
 use mathlib.Core.Path.{ap, ◌∙◌}
 use Rattle.model.specs.Memory.{load_bytes, load}
-use borrow.Author.Rules.{rules}
 use Rattle.native_ms.proofs.memory.load.Goals as goal
 
 pub returns : goal.returns

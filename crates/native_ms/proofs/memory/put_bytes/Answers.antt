@@ -1,10 +1,6 @@
-use borrow.Author.Rules.{rules}
-use Prim.Native.Nat.{◌+◌, ◌≤◌}
-use mathlib.Core.Path.{◌≡◌, refl, ◌∙◌}
+use mathlib.Core.Path.{refl, ◌∙◌}
 use native.Mathlib.Omega.{arith}
-use lib.ListN.{length, length-set}
-use borrow.Author.Count.{falls_down}
-use Rattle.model.specs.Memory.{bytes_of, overwrite}
+use lib.ListN.{length-set}
 use Rattle.laws.proofs.Memory.{bytes_of_round, bytes_of_end}
 use Rattle.native_ms.proofs.memory.put_bytes.Goals as goal
 

@@ -1,12 +1,8 @@
 -- `memory::put_bytes` meets its contract. The loop's invariant: what is left to write makes the whole. Leans on the laws of bytes; assumes nothing.
-use borrow.Author.Rules.{rules}
 use Prim.Native.Nat.{◌+◌, ◌≤◌}
-use mathlib.Core.Path.{◌≡◌, refl, ◌∙◌}
-use native.Mathlib.Omega.{arith}
-use lib.ListN.{length, length-set}
-use borrow.Author.Count.{falls_down}
+use mathlib.Core.Path.{◌≡◌}
+use lib.ListN.{length}
 use Rattle.model.specs.Memory.{bytes_of, overwrite}
-use Rattle.laws.proofs.Memory.{bytes_of_round, bytes_of_end}
 use Rattle.native_ms.proofs.memory.put_bytes.Given as goal
 
 abbrev pub invariant-loop-more : goal.invariant-loop-more

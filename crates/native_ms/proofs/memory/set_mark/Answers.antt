@@ -3,7 +3,6 @@ use Prim.Native.Nat.{ℕ, ◌/◌, ◌%◌}
 use mathlib.Core.Path.{ap, ◌∙◌}
 use lib.ListN.{get_or, set}
 use Rattle.model.specs.Memory.{set_bit, mark_index, set_mark}
-use borrow.Author.Rules.{rules}
 use Rattle.native_ms.proofs.memory.set_mark.Goals as goal
 
 pub returns : goal.returns

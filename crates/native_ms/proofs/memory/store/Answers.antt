@@ -2,7 +2,6 @@
 use Prim.Native.Nat.{ℕ}
 use mathlib.Core.Path.{ap, ◌∙◌}
 use Rattle.model.specs.Memory.{overwrite, bytes_of, store}
-use borrow.Author.Rules.{rules}
 use Rattle.native_ms.proofs.memory.store.Goals as goal
 
 pub returns : goal.returns

@@ -3,7 +3,6 @@ use Prim.Native.Nat.{ℕ}
 use mathlib.Core.Path.{ap, ◌∙◌}
 use lib.ListN.{replicate}
 use Rattle.model.specs.Memory.{overwrite, zeroed}
-use borrow.Author.Rules.{rules}
 use Rattle.native_ms.proofs.memory.zero.Goals as goal
 
 pub returns : goal.returns

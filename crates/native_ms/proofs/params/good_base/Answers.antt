@@ -1,7 +1,6 @@
 -- `params::good_base` meets its contract. The heap is at most 2 ^ 26 bytes, so that nothing wraps.
 use Rattle.laws.proofs.Good.{heap_small, placed_none, placed_off, placed_in}
 use native.Mathlib.Omega.{arith}
-use borrow.Author.Rules.{rules}
 use Rattle.native_ms.proofs.params.good_base.Goals as goal
 
 pub returns-then-base-eq0 : goal.returns-then-base-eq0

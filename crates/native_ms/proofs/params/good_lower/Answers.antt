@@ -2,7 +2,6 @@
 use mathlib.Core.Bool.{false}
 use lib.Dec.{lit<}
 use mir.Facts.{to_z-of_z}
-use borrow.Author.Tests.{not-true, not-false}
 use Rattle.laws.proofs.Lower.{lower_below, lower_above, lower_odd, lower_apart, lower_unified, eighth_fits}
 use Rattle.native_ms.proofs.params.good_lower.Goals as goal
 

@@ -1,5 +1,4 @@
 -- `params::good_params` meets its contract: too many rows are off, and the rest is `good_values`.
-use borrow.Author.Rules.{rules}
 use Rattle.laws.proofs.Good.{good_rows_off}
 use Rattle.native_ms.proofs.params.good_params.Goals as goal
 

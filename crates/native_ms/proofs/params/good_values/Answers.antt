@@ -2,9 +2,7 @@
 use mir.Facts.{to_z-of_z}
 use mir.Syntax.{w64}
 use Rattle.laws.proofs.Lower.{lower_back}
-use borrow.Author.Tests.{not-true, not-false}
 use Rattle.laws.proofs.Good.{good_min_off, good_max_off, good_lower_off, good_bytes_off, good_blocks_off, good_rest, bytes_bounds, blocks_bound}
-use borrow.Author.Rules.{rules}
 use Rattle.native_ms.proofs.params.good_values.Goals as goal
 
 pub returns-then-not-good_min : goal.returns-then-not-good_min

@@ -1,6 +1,5 @@
 -- `params::power_between` meets its contract: the order of its tests is free.
 use Rattle.laws.proofs.Good.{between_under, between_over, between_in}
-use borrow.Author.Rules.{rules}
 use Rattle.native_ms.proofs.params.power_between.Goals as goal
 
 pub returns-then-number-low : goal.returns-then-number-low

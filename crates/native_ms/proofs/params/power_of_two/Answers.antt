@@ -1,9 +1,5 @@
-use Prim.Native.Nat.{◌^◌}
-use mathlib.Core.Path.{◌≡◌, refl, sym, ◌∙◌}
+use mathlib.Core.Path.{refl, sym, ◌∙◌}
 use native.Mathlib.Omega.{arith}
-use lib.Dec.{eqb}
-use borrow.Author.Count.{falls_down}
-use Rattle.model.specs.Base.{any_below}
 use Rattle.model.specs.Params.{power_of_two}
 use Rattle.laws.proofs.Good.{half_power, power_hit, power_miss}
 use Rattle.laws.proofs.Below.{any_none}

@@ -1,13 +1,9 @@
 -- `params::power_of_two` meets its contract: the powers from 2 ^ 17 downwards are tried, as the definition does.
 use Prim.Native.Nat.{◌^◌}
-use mathlib.Core.Path.{◌≡◌, refl, sym, ◌∙◌}
-use native.Mathlib.Omega.{arith}
+use mathlib.Core.Path.{◌≡◌}
 use lib.Dec.{eqb}
-use borrow.Author.Count.{falls_down}
 use Rattle.model.specs.Base.{any_below}
 use Rattle.model.specs.Params.{power_of_two}
-use Rattle.laws.proofs.Good.{half_power, power_hit, power_miss}
-use Rattle.laws.proofs.Below.{any_none}
 use Rattle.native_ms.proofs.params.power_of_two.Given as goal
 
 abbrev pub invariant-loop-more : goal.invariant-loop-more

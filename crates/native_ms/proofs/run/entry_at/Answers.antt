@@ -8,7 +8,6 @@ use Rattle.model.specs.Calls.{alloc}
 use Rattle.model.specs.Answers.{call_of}
 use Rattle.native_ms.specs.RunLoop.{entry_call}
 use Rattle.native_ms.proofs.RunLaws.{kind_is, kind_none}
-use borrow.Author.Rules.{rules}
 use Rattle.native_ms.proofs.run.entry_at.Goals as goal
 
 pub returns-in-1 : goal.returns-in-1

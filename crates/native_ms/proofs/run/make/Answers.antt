@@ -4,7 +4,6 @@ use Rattle.model.specs.Answers.{call_of}
 use Rattle.native_ms.proofs.Tests.{open_good, open_known, open_long}
 use Rattle.native_ms.proofs.AllocCall.{short_passed, short_serves, short_then}
 use Rattle.native_ms.proofs.RunLaws.{call_made}
-use borrow.Author.Rules.{rules}
 use Rattle.native_ms.proofs.run.make.Goals as goal
 
 pub do_destroy-requires : goal.do_destroy-requires

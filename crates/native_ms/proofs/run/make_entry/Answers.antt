@@ -1,7 +1,6 @@
 -- `run::make_entry`: a call, or 11. Assumes nothing.
 use Rattle.model.specs.Promise.{lend}
 use Rattle.native_ms.proofs.RunLaws.{entry_made, entry_none}
-use borrow.Author.Rules.{rules}
 use Rattle.native_ms.proofs.run.make_entry.Goals as goal
 
 pub returns-in-Asks : goal.returns-in-Asks

@@ -2,7 +2,6 @@
 use native.Mathlib.Omega.{arith}
 use lib.ListN.{length-set}
 use Rattle.native_ms.proofs.RunLaws.{put_said}
-use borrow.Author.Rules.{rules}
 use Rattle.native_ms.proofs.run.put_said.Goals as goal
 
 pub bounds-answers-at-2 : goal.bounds-answers-at-2

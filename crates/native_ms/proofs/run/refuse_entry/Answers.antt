@@ -1,6 +1,5 @@
 -- `run::refuse_entry`: the refusal of the first tests, or 11. Assumes nothing.
 use Rattle.native_ms.proofs.RunLaws.{refuse_asks, refuse_none}
-use borrow.Author.Rules.{rules}
 use Rattle.native_ms.proofs.run.refuse_entry.Goals as goal
 
 pub returns-in-Asks : goal.returns-in-Asks

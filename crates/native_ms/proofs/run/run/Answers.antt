@@ -4,7 +4,6 @@ use native.Mathlib.Omega.{arith}
 use Rattle.model.specs.Answers.{reply_of}
 use Rattle.model.specs.Promise.{lend}
 use Rattle.native_ms.proofs.RunLaws.{run_part, run_room, run_refused, run_done}
-use borrow.Author.Rules.{rules}
 use Rattle.native_ms.proofs.run.run.Goals as goal
 
 pub returns-then-length-ne0 : goal.returns-then-length-ne0

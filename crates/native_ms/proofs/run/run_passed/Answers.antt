@@ -1,15 +1,10 @@
-use Prim.Native.Nat.{◌+◌, ◌*◌, ◌≤◌}
-use mathlib.Core.Path.{◌≡◌, refl, sym, ap, ◌∙◌}
+use mathlib.Core.Path.{refl, sym, ap, ◌∙◌}
 use mathlib.Core.Option.{Option}
 use native.Mathlib.Omega.{arith}
-use lib.ListN.{length}
-use Rattle.model.specs.declared.Tested.TheVariants.{Passed}
 use Rattle.model.specs.Calls.{Call}
 use Rattle.model.specs.Answers.{outcome_of}
 use Rattle.model.specs.Promise.{lend}
-use Rattle.model.specs.RunCalls.{call_at, made, run_from}
-use Rattle.native_ms.specs.Checked.{lent_tests}
-use Rattle.native_ms.specs.RunLoop.{laid}
+use Rattle.model.specs.RunCalls.{call_at, made}
 use Rattle.native_ms.proofs.RunLaws.{passed_kept, round, round_end}
 use Rattle.native_ms.proofs.run.run_passed.Goals as goal
 

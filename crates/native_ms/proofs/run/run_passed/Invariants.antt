@@ -1,18 +1,13 @@
 -- `run::run_passed` makes the calls one after the other. The invariant: what is lent passes the first tests, and what remains from here is
 -- the whole. Assumes nothing.
 use Prim.Native.Nat.{◌+◌, ◌*◌, ◌≤◌}
-use mathlib.Core.Path.{◌≡◌, refl, sym, ap, ◌∙◌}
-use mathlib.Core.Option.{Option}
-use native.Mathlib.Omega.{arith}
+use mathlib.Core.Path.{◌≡◌}
 use lib.ListN.{length}
 use Rattle.model.specs.declared.Tested.TheVariants.{Passed}
-use Rattle.model.specs.Calls.{Call}
-use Rattle.model.specs.Answers.{outcome_of}
 use Rattle.model.specs.Promise.{lend}
-use Rattle.model.specs.RunCalls.{call_at, made, run_from}
+use Rattle.model.specs.RunCalls.{run_from}
 use Rattle.native_ms.specs.Checked.{lent_tests}
 use Rattle.native_ms.specs.RunLoop.{laid}
-use Rattle.native_ms.proofs.RunLaws.{passed_kept, round, round_end}
 use Rattle.native_ms.proofs.run.run_passed.Given as goal
 
 abbrev pub invariant-loop-left : goal.invariant-loop-left

@@ -1,12 +1,9 @@
-use Prim.Native.Nat.{◌+◌, ◌*◌, ◌≤◌}
-use mathlib.Core.Path.{◌≡◌, refl, sym, ap, ◌∙◌}
+use mathlib.Core.Path.{refl, sym, ap, ◌∙◌}
 use mathlib.Core.Option.{Option}
 use native.Mathlib.Omega.{arith}
-use lib.ListN.{length}
-use Rattle.model.specs.Memory.{overwrite}
 use Rattle.model.specs.Calls.{Call}
 use Rattle.model.specs.Answers.{said_of}
-use Rattle.native_ms.specs.RunLoop.{refused_reply, refused_from}
+use Rattle.native_ms.specs.RunLoop.{refused_reply}
 use Rattle.native_ms.proofs.RunLaws.{refuse_round, refuse_end}
 use Rattle.native_ms.proofs.run.run_refused.Goals as goal
 

@@ -1,14 +1,9 @@
 -- `run::run_refused` answers every entry alike. The invariant: what remains from here is the whole. Assumes nothing.
 use Prim.Native.Nat.{◌+◌, ◌*◌, ◌≤◌}
-use mathlib.Core.Path.{◌≡◌, refl, sym, ap, ◌∙◌}
-use mathlib.Core.Option.{Option}
-use native.Mathlib.Omega.{arith}
+use mathlib.Core.Path.{◌≡◌}
 use lib.ListN.{length}
 use Rattle.model.specs.Memory.{overwrite}
-use Rattle.model.specs.Calls.{Call}
-use Rattle.model.specs.Answers.{said_of}
-use Rattle.native_ms.specs.RunLoop.{refused_reply, refused_from}
-use Rattle.native_ms.proofs.RunLaws.{refuse_round, refuse_end}
+use Rattle.native_ms.specs.RunLoop.{refused_from}
 use Rattle.native_ms.proofs.run.run_refused.Given as goal
 
 abbrev pub invariant-loop-left : goal.invariant-loop-left

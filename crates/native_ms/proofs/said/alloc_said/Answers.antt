@@ -1,6 +1,5 @@
 -- `alloc_said` meets its contract.
 use Rattle.model.specs.Answers.{alloc_reply}
-use borrow.Author.Rules.{rules}
 use Rattle.native_ms.proofs.said.alloc_said.Goals as goal
 
 pub returns-in-Refused : goal.returns-in-Refused

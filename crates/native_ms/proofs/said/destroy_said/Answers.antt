@@ -1,6 +1,5 @@
 -- `destroy_said` meets its contract.
 use Rattle.model.specs.Answers.{destroy_reply}
-use borrow.Author.Rules.{rules}
 use Rattle.native_ms.proofs.said.destroy_said.Goals as goal
 
 pub returns-in-Refused : goal.returns-in-Refused

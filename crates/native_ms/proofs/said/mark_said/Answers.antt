@@ -1,6 +1,5 @@
 -- `mark_said` meets its contract.
 use Rattle.model.specs.Answers.{mark_reply}
-use borrow.Author.Rules.{rules}
 use Rattle.native_ms.proofs.said.mark_said.Goals as goal
 
 pub returns-in-Refused : goal.returns-in-Refused

@@ -1,7 +1,6 @@
 -- `refusal_said` meets its contract.
 use mathlib.Core.Path.{ap}
 use Prim.Native.Nat.{ℕ}
-use borrow.Author.Rules.{rules}
 use Rattle.native_ms.proofs.said.refusal_said.Goals as goal
 
 pub returns : goal.returns

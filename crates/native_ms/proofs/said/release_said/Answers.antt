@@ -1,6 +1,5 @@
 -- `release_said` meets its contract.
 use Rattle.model.specs.Answers.{release_reply}
-use borrow.Author.Rules.{rules}
 use Rattle.native_ms.proofs.said.release_said.Goals as goal
 
 pub returns-in-Refused : goal.returns-in-Refused

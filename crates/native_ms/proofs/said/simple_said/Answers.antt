@@ -1,6 +1,5 @@
 -- `simple_said` meets its contract.
 use Rattle.model.specs.Answers.{reply_of}
-use borrow.Author.Rules.{rules}
 use Rattle.native_ms.proofs.said.simple_said.Goals as goal
 
 pub returns-in_default : goal.returns-in_default

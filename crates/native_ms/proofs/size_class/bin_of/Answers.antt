@@ -1,10 +1,6 @@
 -- `size_class::bin_of` meets its contract: 01's bin without rows, the row of the words asked for with them. Assumes nothing.
-use borrow.Author.Rules.{rules}
-use mathlib.Core.Path.{sym, ap, ◌∙◌}
+use mathlib.Core.Path.{sym, ◌∙◌}
 use Rattle.laws.proofs.Classes.{plain_bin, row_bin}
-use borrow.Author.Tests.{eq-eqb, ne_eqb}
-use Rattle.model.specs.Base.{least_from}
-use Rattle.model.specs.SizeClasses.{row_at, covers, bin_of}
 use Rattle.native_ms.proofs.size_class.bin_of.Goals as goal
 
 pub mi_bin_from_size-requires : goal.mi_bin_from_size-requires

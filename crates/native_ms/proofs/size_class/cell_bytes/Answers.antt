@@ -1,8 +1,6 @@
 -- `size_class::cell_bytes` meets its contract: 01's size, none, or the row's. Leans on the laws of cell sizes.
-use borrow.Author.Rules.{rules}
 use native.Mathlib.Omega.{arith}
 use mathlib.Core.Path.{sym, ap, ◌∙◌}
-use Prim.Native.Nat.{ℕ, ◌-◌}
 use native.Mathlib.Nat.{mul_comm}
 use Rattle.model.specs.SizeClasses.{cell_bytes, row_at}
 use Rattle.laws.proofs.Classes.{plain_cell, row_cell, rowless_cell, zero_cell}

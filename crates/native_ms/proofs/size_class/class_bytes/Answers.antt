@@ -1,6 +1,5 @@
 -- `size_class::class_bytes` meets its contract. Leans on the computed test of all bins; assumes nothing.
 use mathlib.Core.Path.{sym}
-use borrow.Author.Rules.{rules}
 use Rattle.laws.proofs.Classes.{class_bytes_past}
 use Rattle.native_ms.proofs.ClassSizes.{bytes_none, bytes_low, bytes_high}
 use Rattle.native_ms.proofs.size_class.class_bytes.Goals as goal

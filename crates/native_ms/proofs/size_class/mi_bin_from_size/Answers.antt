@@ -2,7 +2,6 @@
 use mathlib.Core.Path.{refl}
 use Rattle.model.specs.SizeClasses.{words_in}
 use Rattle.laws.proofs.Requests.{bin_none, bin_one, bin_few, bin_many}
-use borrow.Author.Rules.{rules}
 use Rattle.native_ms.proofs.size_class.mi_bin_from_size.Goals as goal
 
 pub returns-then-size : goal.returns-then-size

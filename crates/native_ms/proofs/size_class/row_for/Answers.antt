@@ -1,10 +1,6 @@
-use borrow.Author.Rules.{rules}
 use native.Mathlib.Omega.{arith}
 use mathlib.Core.Path.{◌≡◌, sym, ◌∙◌}
-use Prim.Native.Nat.{◌+◌, ◌-◌, ◌≤◌}
-use borrow.Author.Tests.{not-true, not-false}
-use lib.ListN.{length, length-map}
-use Rattle.model.specs.Base.{least_from}
+use lib.ListN.{length}
 use Rattle.model.specs.SizeClasses.{row_at}
 use Rattle.native_ms.proofs.Borders.{walk_hit, walk_miss, walk_end, walk_start, in_row, in_next, rows_past}
 use Rattle.native_ms.proofs.size_class.row_for.Goals as goal

@@ -1,5 +1,4 @@
 -- `size_class::words_asked` meets its contract: rounded up, by whole words and a rest. Assumes nothing.
-use borrow.Author.Rules.{rules}
 use native.Mathlib.Omega.{arith}
 use borrow.Author.Tests.{eq-eqb, ne_eqb}
 use Rattle.model.specs.SizeClasses.{words_in, words_asked}

@@ -1,10 +1,7 @@
 -- `sound::sound` meets its contract: the code's soundness is the model's, for any marks.
-use borrow.Author.Rules.{rules}
 use mathlib.Core.Path.{refl, ◌∙◌}
-use borrow.Author.Tests.{not-true, not-false}
 use Rattle.native_ms.proofs.SoundLaws.{sound_walk_lem}
 use Rattle.native_ms.proofs.SoundTests.{walk_phase, walk_parts, walk_some, walk_holders, walk_gc, walk_blocks, walk_lists, bad_fit, left_fit, full_bad, full_left}
-use native.Mathlib.Omega.{arith}
 use Rattle.native_ms.proofs.sound.sound.Goals as goal
 
 pub returns-then-not-phase_known : goal.returns-then-not-phase_known

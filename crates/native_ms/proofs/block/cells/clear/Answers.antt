@@ -1,10 +1,6 @@
-use borrow.Author.Rules.{rules}
-use Prim.Native.Nat.{◌+◌, ◌≤◌}
-use mathlib.Core.Path.{◌≡◌, refl, ◌∙◌}
+use mathlib.Core.Path.{refl, ◌∙◌}
 use native.Mathlib.Omega.{arith}
-use lib.ListN.{length, replicate, length-set}
-use borrow.Author.Count.{falls_down}
-use Rattle.model.specs.Memory.{overwrite}
+use lib.ListN.{length-set}
 use Rattle.laws.proofs.Memory.{zeros_round, zeros_end}
 use Rattle.native_ms.proofs.block.cells.clear.Goals as goal
 

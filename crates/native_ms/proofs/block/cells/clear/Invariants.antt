@@ -1,12 +1,8 @@
 -- `cells::clear` meets its contract. The loop's invariant: what is left to zero makes the whole. Leans on the laws of bytes; assumes nothing.
-use borrow.Author.Rules.{rules}
 use Prim.Native.Nat.{◌+◌, ◌≤◌}
-use mathlib.Core.Path.{◌≡◌, refl, ◌∙◌}
-use native.Mathlib.Omega.{arith}
-use lib.ListN.{length, replicate, length-set}
-use borrow.Author.Count.{falls_down}
+use mathlib.Core.Path.{◌≡◌}
+use lib.ListN.{length, replicate}
 use Rattle.model.specs.Memory.{overwrite}
-use Rattle.laws.proofs.Memory.{zeros_round, zeros_end}
 use Rattle.native_ms.proofs.block.cells.clear.Given as goal
 
 abbrev pub invariant-loop-left : goal.invariant-loop-left

@@ -1,8 +1,6 @@
 use Prim.Native.Nat.{◌+◌, ◌-◌}
 use native.Mathlib.Omega.{arith}
-use borrow.Author.Count.{falls_down}
-use Rattle.laws.proofs.Memory.{ReadSoFar, read_start, read_round, read_end, read_room}
-use borrow.Author.Rules.{rules}
+use Rattle.laws.proofs.Memory.{read_start, read_round, read_end, read_room}
 use Rattle.native_ms.proofs.block.cells.word_at.Goals as goal
 
 pub loop-left-init : goal.loop-left-init

@@ -1,9 +1,5 @@
 -- `cells::word_at` meets its contract. The loop's invariant: v is what the bytes from i + k on make. Leans on the laws of bytes; assumes nothing.
-use Prim.Native.Nat.{◌+◌, ◌-◌}
-use native.Mathlib.Omega.{arith}
-use borrow.Author.Count.{falls_down}
-use Rattle.laws.proofs.Memory.{ReadSoFar, read_start, read_round, read_end, read_room}
-use borrow.Author.Rules.{rules}
+use Rattle.laws.proofs.Memory.{ReadSoFar}
 use Rattle.native_ms.proofs.block.cells.word_at.Given as goal
 
 abbrev pub invariant-loop-left : goal.invariant-loop-left

@@ -1,7 +1,5 @@
 -- `chain::link_brute` meets its contract: the cells with a place below the heap, then the others. Assumes nothing.
-use borrow.Author.Rules.{rules}
 use Prim.Native.Nat.{◌+◌, ◌-◌, ◌/◌}
-use mathlib.Core.Path.{refl, sym, ◌∙◌}
 use native.Mathlib.Omega.{arith}
 use Rattle.native_ms.proofs.Offsets.{few_cells}
 use Rattle.native_ms.proofs.Reaches.{reach_low, some_places, some_fits, rest_reach, joined, below_past}

@@ -1,11 +1,6 @@
 -- `chain::link_by_bit` meets its contract. The loop's invariant: of the cells so far those with a clear bit are linked. Assumes nothing.
-use borrow.Author.Rules.{rules}
 use Prim.Native.Nat.{◌-◌}
-use mathlib.Core.Path.{refl, sym, ◌∙◌}
-use native.Mathlib.Omega.{arith}
-use borrow.Author.Count.{falls}
-use borrow.Author.Tests.{not-true, not-false}
-use Rattle.native_ms.proofs.Offsets.{phase_running, few_cells, running_start, running_kept, running_freed, running_end, next_in, bit_there, run, one_bit}
+use Rattle.native_ms.proofs.Offsets.{phase_running}
 use Rattle.native_ms.proofs.block.chain.link_by_bit.Given as goal
 
 abbrev pub invariant-loop-seen : goal.invariant-loop-seen

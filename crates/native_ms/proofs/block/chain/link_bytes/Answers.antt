@@ -1,11 +1,7 @@
-use borrow.Author.Rules.{rules}
-use Prim.Native.Nat.{◌-◌, ◌/◌}
 use mathlib.Core.Path.{sym, ap, ◌∙◌}
 use native.Mathlib.Omega.{arith}
-use borrow.Author.Count.{falls}
-use borrow.Author.Tests.{not-true, not-false}
 use Rattle.native_ms.specs.Bits.{any_bit}
-use Rattle.native_ms.proofs.Offsets.{phase_running, few_cells, running_start, running_kept, running_freed, running_end, next_in, run, eight_words, stepped_on, alike}
+use Rattle.native_ms.proofs.Offsets.{few_cells, running_start, running_kept, running_freed, running_end, next_in, run, eight_words, stepped_on, alike}
 use Rattle.native_ms.proofs.block.chain.link_bytes.Goals as goal
 
 pub loop-seen-init : goal.loop-seen-init

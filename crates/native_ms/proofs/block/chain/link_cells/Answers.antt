@@ -1,10 +1,6 @@
-use borrow.Author.Rules.{rules}
-use Prim.Native.Nat.{◌-◌}
-use mathlib.Core.Path.{refl, sym, ◌∙◌}
-use mathlib.Core.Bool.{true, false}
+use mathlib.Core.Path.{refl}
 use native.Mathlib.Omega.{arith}
-use borrow.Author.Count.{falls}
-use Rattle.native_ms.proofs.Offsets.{Linking, linking_start, linking_freed, linking_end, next_in}
+use Rattle.native_ms.proofs.Offsets.{linking_start, linking_freed, linking_end, next_in}
 use Rattle.native_ms.proofs.block.chain.link_cells.Goals as goal
 
 pub loop-seen-init : goal.loop-seen-init

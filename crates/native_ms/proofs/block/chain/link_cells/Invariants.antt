@@ -1,11 +1,7 @@
 -- `chain::link_cells` meets its contract. The loop's invariant: the cells so far are linked. Assumes nothing.
-use borrow.Author.Rules.{rules}
 use Prim.Native.Nat.{◌-◌}
-use mathlib.Core.Path.{refl, sym, ◌∙◌}
-use mathlib.Core.Bool.{true, false}
-use native.Mathlib.Omega.{arith}
-use borrow.Author.Count.{falls}
-use Rattle.native_ms.proofs.Offsets.{Linking, linking_start, linking_freed, linking_end, next_in}
+use mathlib.Core.Bool.{false}
+use Rattle.native_ms.proofs.Offsets.{Linking}
 use Rattle.native_ms.proofs.block.chain.link_cells.Given as goal
 
 abbrev pub invariant-loop-seen : goal.invariant-loop-seen

@@ -1,12 +1,6 @@
-use borrow.Author.Rules.{rules}
-use Prim.Native.Nat.{◌-◌}
-use mathlib.Core.Path.{refl, sym, ◌∙◌}
-use mathlib.Core.Bool.{false}
+use mathlib.Core.Path.{◌∙◌}
 use native.Mathlib.Omega.{arith}
-use borrow.Author.Count.{falls}
-use borrow.Author.Tests.{not-true, not-false}
-use Rattle.native_ms.specs.Block.{kept_by}
-use Rattle.native_ms.proofs.Offsets.{Walking, few_cells, walking_start, walking_kept, walking_freed, walking_end, next_in, kept_brute}
+use Rattle.native_ms.proofs.Offsets.{few_cells, walking_start, walking_kept, walking_freed, walking_end, next_in, kept_brute}
 use Rattle.native_ms.proofs.block.chain.link_edge.Goals as goal
 
 pub loop-seen-init : goal.loop-seen-init

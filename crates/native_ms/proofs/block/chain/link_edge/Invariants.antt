@@ -1,13 +1,8 @@
 -- `chain::link_edge` meets its contract. The loop's invariant: of the cells so far the unmarked ones are linked. Assumes nothing.
-use borrow.Author.Rules.{rules}
 use Prim.Native.Nat.{◌-◌}
-use mathlib.Core.Path.{refl, sym, ◌∙◌}
 use mathlib.Core.Bool.{false}
-use native.Mathlib.Omega.{arith}
-use borrow.Author.Count.{falls}
-use borrow.Author.Tests.{not-true, not-false}
 use Rattle.native_ms.specs.Block.{kept_by}
-use Rattle.native_ms.proofs.Offsets.{Walking, few_cells, walking_start, walking_kept, walking_freed, walking_end, next_in, kept_brute}
+use Rattle.native_ms.proofs.Offsets.{Walking}
 use Rattle.native_ms.proofs.block.chain.link_edge.Given as goal
 
 abbrev pub invariant-loop-seen : goal.invariant-loop-seen

@@ -1,10 +1,6 @@
-use borrow.Author.Rules.{rules}
-use Prim.Native.Nat.{◌-◌, ◌/◌}
-use mathlib.Core.Path.{refl, sym, ◌∙◌}
+use mathlib.Core.Path.{sym, ◌∙◌}
 use native.Mathlib.Omega.{arith}
-use borrow.Author.Count.{falls}
-use borrow.Author.Tests.{not-true, not-false}
-use Rattle.native_ms.proofs.Offsets.{phase_running, few_cells, running_start, running_kept, running_freed, running_end, next_in, run}
+use Rattle.native_ms.proofs.Offsets.{few_cells, running_start, running_kept, running_freed, running_end, next_in, run}
 use Rattle.native_ms.proofs.block.chain.link_few.Goals as goal
 
 pub loop-seen-init : goal.loop-seen-init

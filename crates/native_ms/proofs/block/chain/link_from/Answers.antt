@@ -1,6 +1,4 @@
 -- `chain::link_from` meets its contract: the cells whose places lie in the heap, then those at its end. Assumes nothing.
-use borrow.Author.Rules.{rules}
-use mathlib.Core.Path.{refl, sym, ◌∙◌}
 use native.Mathlib.Omega.{arith}
 use Rattle.native_ms.proofs.Offsets.{few_cells}
 use Rattle.native_ms.proofs.Reaches.{reach_low, some_fits, rest_places, from_inside, from_part, by_places, inner_few, joined}

@@ -1,6 +1,4 @@
 -- `chain::link_inner` meets its contract: a loop for each kind of cell. Assumes nothing.
-use borrow.Author.Rules.{rules}
-use mathlib.Core.Path.{refl}
 use native.Mathlib.Omega.{arith}
 use Rattle.native_ms.proofs.Offsets.{one_word}
 use Rattle.native_ms.proofs.block.chain.link_inner.Goals as goal

@@ -1,12 +1,6 @@
 -- `chain::link_windows` meets its contract. The loop's invariant: of the cells so far those with clear bits are linked. Assumes nothing.
-use borrow.Author.Rules.{rules}
 use Prim.Native.Nat.{◌-◌, ◌/◌}
-use mathlib.Core.Path.{sym, ap, ◌∙◌}
-use native.Mathlib.Omega.{arith}
-use borrow.Author.Count.{falls}
-use borrow.Author.Tests.{not-true, not-false}
-use Rattle.native_ms.specs.Bits.{any_bit}
-use Rattle.native_ms.proofs.Offsets.{phase_running, few_cells, running_start, running_kept, running_freed, running_end, next_in, run, eight_words, stepped_on, alike}
+use Rattle.native_ms.proofs.Offsets.{phase_running}
 use Rattle.native_ms.proofs.block.chain.link_windows.Given as goal
 
 abbrev pub invariant-loop-seen : goal.invariant-loop-seen

@@ -1,5 +1,4 @@
 -- `known::cells` reads its block's word, which is there; 0 where there is no such block. Assumes nothing.
-use borrow.Author.Rules.{rules}
 use Rattle.native_ms.proofs.BlockWords.{cells_at, cells_none}
 use Rattle.native_ms.proofs.block.known.cells.Goals as goal
 

@@ -1,5 +1,4 @@
 -- `known::free` reads its block's word, which is there; 0 where there is no such block. Assumes nothing.
-use borrow.Author.Rules.{rules}
 use Rattle.native_ms.proofs.BlockWords.{free_at_lem, free_none}
 use Rattle.native_ms.proofs.block.known.free.Goals as goal
 

@@ -1,5 +1,4 @@
 -- `known::set_cells` writes its block's word, and nothing where there is no such block. Assumes nothing.
-use borrow.Author.Rules.{rules}
 use Rattle.native_ms.proofs.BlockWords.{cells_put, cells_left}
 use Rattle.native_ms.proofs.block.known.set_cells.Goals as goal
 

@@ -1,5 +1,4 @@
 -- `known::set_size` writes its block's word, and nothing where there is no such block. Assumes nothing.
-use borrow.Author.Rules.{rules}
 use Rattle.native_ms.proofs.BlockWords.{size_put, size_left}
 use Rattle.native_ms.proofs.block.known.set_size.Goals as goal
 

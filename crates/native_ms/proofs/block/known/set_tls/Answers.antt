@@ -1,5 +1,4 @@
 -- `known::set_tls` writes its block's word, and nothing where there is no such block. Assumes nothing.
-use borrow.Author.Rules.{rules}
 use Rattle.native_ms.proofs.BlockWords.{tls_put, tls_left}
 use Rattle.native_ms.proofs.block.known.set_tls.Goals as goal
 

@@ -1,10 +1,5 @@
-use borrow.Author.Rules.{rules}
-use borrow.Author.Count.{falls}
-use Prim.Native.Nat.{ℕ, ◌+◌, ◌-◌, ◌≤◌, ◌<◌}
-use mathlib.Core.Path.{◌≡◌, sym, ◌∙◌}
-use mathlib.Core.Bool.{true, false}
+use mathlib.Core.Path.{sym}
 use native.Mathlib.Omega.{arith}
-use lib.ListN.{get_or}
 use Rattle.native_ms.proofs.Span.{byte_from, bytes_from, zero_on}
 use Rattle.native_ms.proofs.block.marks.any_byte.Goals as goal
 

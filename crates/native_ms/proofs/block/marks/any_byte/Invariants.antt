@@ -1,12 +1,7 @@
 -- `marks::any_byte` meets its contract: every byte passed is 0, and a byte that is not has a bit that is set.
-use borrow.Author.Rules.{rules}
-use borrow.Author.Count.{falls}
-use Prim.Native.Nat.{ℕ, ◌+◌, ◌-◌, ◌≤◌, ◌<◌}
-use mathlib.Core.Path.{◌≡◌, sym, ◌∙◌}
-use mathlib.Core.Bool.{true, false}
-use native.Mathlib.Omega.{arith}
+use Prim.Native.Nat.{ℕ, ◌-◌, ◌≤◌, ◌<◌}
+use mathlib.Core.Path.{◌≡◌}
 use lib.ListN.{get_or}
-use Rattle.native_ms.proofs.Span.{byte_from, bytes_from, zero_on}
 use Rattle.native_ms.proofs.block.marks.any_byte.Given as goal
 
 abbrev pub invariant-loop-byte : goal.invariant-loop-byte

@@ -1,5 +1,4 @@
 -- `marks::any_few` meets its contract. Leans on the laws of the window; assumes nothing.
-use borrow.Author.Rules.{rules}
 use Prim.Native.Nat.{◌/◌}
 use native.Mathlib.Omega.{arith}
 use Rattle.native_ms.proofs.Window.{mask_some, few_none, few_some}

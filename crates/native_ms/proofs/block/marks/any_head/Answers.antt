@@ -1,5 +1,4 @@
 -- `marks::any_head` meets its contract: what a shift leaves of a byte is 0 if its bits are clear. Assumes nothing.
-use borrow.Author.Rules.{rules}
 use Prim.Native.Nat.{◌/◌}
 use native.Mathlib.Omega.{arith}
 use Rattle.native_ms.proofs.Span.{head_none, head_some}

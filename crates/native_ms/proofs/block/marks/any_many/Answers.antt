@@ -1,5 +1,4 @@
 -- `marks::any_many` meets its contract: the run's three parts. Leans on the laws of runs; assumes nothing.
-use borrow.Author.Rules.{rules}
 use native.Mathlib.Omega.{arith}
 use mathlib.Core.Path.{sym, ◌∙◌}
 use Rattle.native_ms.proofs.Span.{many_first, many_bytes, many_none, many_rest}

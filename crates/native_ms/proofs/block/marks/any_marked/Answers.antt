@@ -1,7 +1,6 @@
 -- `marks::any_marked` meets its contract: the bits of the places that lie in the heap are one run of mark bits. Assumes nothing.
-use borrow.Author.Rules.{rules}
-use Prim.Native.Nat.{ℕ, ◌+◌, ◌-◌, ◌*◌, ◌/◌, min}
-use mathlib.Core.Path.{refl, sym, ap, ◌∙◌}
+use Prim.Native.Nat.{ℕ, ◌+◌, ◌/◌, min}
+use mathlib.Core.Path.{refl, ap, ◌∙◌}
 use native.Mathlib.Omega.{arith}
 use Rattle.model.specs.SizeClasses.{words_in}
 use Rattle.laws.proofs.Params.{good_bounds}

@@ -1,5 +1,4 @@
 -- `marks::any_set` meets its contract. Assumes nothing.
-use borrow.Author.Rules.{rules}
 use native.Mathlib.Omega.{arith}
 use Rattle.native_ms.proofs.Span.{no_bits}
 use Rattle.native_ms.proofs.block.marks.any_set.Goals as goal

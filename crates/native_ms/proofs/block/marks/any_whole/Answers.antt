@@ -1,5 +1,4 @@
 -- `marks::any_whole` meets its contract. Leans on the laws of bytes; assumes nothing.
-use borrow.Author.Rules.{rules}
 use Prim.Native.Nat.{◌/◌}
 use native.Mathlib.Omega.{arith}
 use Rattle.native_ms.proofs.Window.{whole_none, whole_some}

@@ -1,5 +1,4 @@
 -- `marks::pair` meets its contract; past the end a byte reads as 0. Assumes nothing.
-use borrow.Author.Rules.{rules}
 use Prim.Native.Nat.{◌+◌}
 use native.Mathlib.Omega.{arith}
 use lib.ListN.{get_or-eq_default}

@@ -1,7 +1,6 @@
 -- `eager::eagerly` is `eagerly`, its sweeps counted and made: nothing with the choice off, nothing before the last part. Assumes nothing.
 use native.Mathlib.Omega.{arith}
 use mathlib.Core.Path.{◌∙◌}
-use borrow.Author.Rules.{rules}
 use borrow.Author.Tests.{not-true, not-false}
 use Rattle.native_ms.proofs.Offsets.{words_known}
 use Rattle.native_ms.proofs.EagerLaws.{eager_off, eager_early, eager_last}

@@ -1,14 +1,9 @@
 -- `eager::is_last` meets its contract: holders from the last down, then the shared part, as once the part has released. Assumes nothing.
-use mathlib.Core.Path.{◌≡◌, refl, sym, ◌∙◌}
-use borrow.Author.Rules.{rules}
-use borrow.Author.Tests.{not-true, not-false}
-use borrow.Author.Count.{falls_down}
+use mathlib.Core.Path.{◌≡◌}
 use Rattle.model.specs.Base.{all_below}
 use Rattle.model.specs.Tables.{view}
-use Rattle.laws.proofs.Below.{all_end, all_stop, all_step}
 use Rattle.native_ms.specs.Eager.{after_part}
-use Rattle.native_ms.proofs.SoundTests.{not_due, due_at, all_due, none_due}
-use Rattle.native_ms.proofs.EagerLaws.{last_is_lem}
+use Rattle.native_ms.proofs.SoundTests.{not_due}
 use Rattle.native_ms.proofs.global.eager.is_last.Given as goal
 
 abbrev pub invariant-loop-left : goal.invariant-loop-left

@@ -1,5 +1,4 @@
 -- `eager::not_due_with` meets its contract. Assumes nothing.
-use borrow.Author.Tests.{not-true, not-false}
 use Rattle.native_ms.proofs.SoundTests.{due_off, due_on}
 use Rattle.native_ms.proofs.EagerLaws.{bound_with}
 use Rattle.native_ms.proofs.global.eager.not_due_with.Goals as goal

@@ -1,5 +1,4 @@
 -- `eager::recycle_bin` is `recycle_bin`. Assumes nothing.
-use borrow.Author.Rules.{rules}
 use Rattle.native_ms.proofs.EagerLaws.{bin_recycled}
 use Rattle.native_ms.proofs.global.eager.recycle_bin.Goals as goal
 

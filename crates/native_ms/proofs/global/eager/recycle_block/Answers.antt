@@ -1,6 +1,5 @@
 -- `eager::recycle_block` is `recycle_block`. Assumes nothing.
 use mathlib.Core.Path.{◌∙◌}
-use borrow.Author.Rules.{rules}
 use Rattle.native_ms.proofs.EagerLaws.{recycle_no, recycle_yes}
 use Rattle.native_ms.proofs.global.eager.recycle_block.Goals as goal
 

@@ -1,10 +1,5 @@
-use Prim.Native.Nat.{◌-◌, ◌≤◌}
-use mathlib.Core.Path.{◌≡◌, refl, ◌∙◌}
+use mathlib.Core.Path.{refl, ◌∙◌}
 use native.Mathlib.Omega.{arith}
-use lib.ListN.{length}
-use Rattle.model.specs.Base.{each_below}
-use Rattle.model.specs.Tables.{view}
-use Rattle.model.specs.Global.{recycle_bin}
 use Rattle.native_ms.proofs.SpaceCalls.{each_none, each_more}
 use Rattle.native_ms.proofs.EagerLaws.{bins_recycled}
 use Rattle.native_ms.proofs.global.eager.recycle_blocks.Goals as goal

@@ -1,13 +1,10 @@
 -- `eager::recycle_blocks` goes through the 49 bins. The invariant: those passed are done. Assumes nothing.
 use Prim.Native.Nat.{◌-◌, ◌≤◌}
-use mathlib.Core.Path.{◌≡◌, refl, ◌∙◌}
-use native.Mathlib.Omega.{arith}
+use mathlib.Core.Path.{◌≡◌}
 use lib.ListN.{length}
 use Rattle.model.specs.Base.{each_below}
 use Rattle.model.specs.Tables.{view}
 use Rattle.model.specs.Global.{recycle_bin}
-use Rattle.native_ms.proofs.SpaceCalls.{each_none, each_more}
-use Rattle.native_ms.proofs.EagerLaws.{bins_recycled}
 use Rattle.native_ms.proofs.global.eager.recycle_blocks.Given as goal
 
 abbrev pub invariant-loop-bin : goal.invariant-loop-bin

@@ -1,8 +1,4 @@
-use mathlib.Core.Path.{◌≡◌, refl, ◌∙◌}
-use lib.ListN.{length}
-use borrow.Author.Count.{falls_down}
-use Rattle.model.specs.Tables.{view}
-use Rattle.model.specs.Global.{recycle_from}
+use mathlib.Core.Path.{refl, ◌∙◌}
 use Rattle.native_ms.proofs.EagerLaws.{list_end, list_stop, list_step, list_at}
 use Rattle.native_ms.proofs.global.eager.recycle_list.Goals as goal
 

@@ -1,10 +1,8 @@
 -- `eager::recycle_list` walks as `recycle_from` does. The invariant: what is left from here is the whole. Assumes nothing.
-use mathlib.Core.Path.{◌≡◌, refl, ◌∙◌}
+use mathlib.Core.Path.{◌≡◌}
 use lib.ListN.{length}
-use borrow.Author.Count.{falls_down}
 use Rattle.model.specs.Tables.{view}
 use Rattle.model.specs.Global.{recycle_from}
-use Rattle.native_ms.proofs.EagerLaws.{list_end, list_stop, list_step, list_at}
 use Rattle.native_ms.proofs.global.eager.recycle_list.Given as goal
 
 abbrev pub invariant-loop-more : goal.invariant-loop-more

@@ -1,15 +1,11 @@
 -- `eager::sweep_all` is `sweep_all`. The invariant: the blocks passed are swept and counted. Assumes nothing.
 use Prim.Native.Nat.{◌-◌, ◌≤◌}
-use mathlib.Core.Path.{◌≡◌, refl, ◌∙◌}
-use native.Mathlib.Omega.{arith}
+use mathlib.Core.Path.{◌≡◌}
 use lib.ListN.{length}
 use Rattle.model.specs.Base.{each_below}
 use Rattle.model.specs.Tables.{view}
 use Rattle.model.specs.Global.{freed, sweep_block}
-use Rattle.laws.proofs.Params.{good_bounds}
 use Rattle.native_ms.specs.Eager.{done, swept_in}
-use Rattle.native_ms.proofs.Offsets.{known_on}
-use Rattle.native_ms.proofs.EagerLaws.{all_none, block_few, all_more, all_end}
 use Rattle.native_ms.proofs.global.eager.sweep_all.Given as goal
 
 abbrev pub invariant-loop-number : goal.invariant-loop-number

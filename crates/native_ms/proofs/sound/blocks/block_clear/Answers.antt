@@ -1,5 +1,4 @@
 -- `blocks::block_clear` meets its contract: the union of seven words is 0 if each is.
-use borrow.Author.Rules.{rules}
 use Rattle.native_ms.proofs.SoundLent.{clear_words}
 use Rattle.native_ms.proofs.sound.blocks.block_clear.Goals as goal
 

@@ -1,7 +1,5 @@
 -- `blocks::block_fits` meets its contract: the tests stand in the definition's order.
-use borrow.Author.Tests.{not-true, not-false}
 use Rattle.native_ms.proofs.SoundTests.{fits_free, fits_state, fits_list, fits_size, fits_link, fits_tls, link_sized}
-use borrow.Author.Rules.{rules}
 use Rattle.native_ms.proofs.sound.blocks.block_fits.Goals as goal
 
 pub returns-then-state-eq-UNALLOCATED : goal.returns-then-state-eq-UNALLOCATED

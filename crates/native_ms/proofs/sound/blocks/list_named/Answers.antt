@@ -1,6 +1,5 @@
 -- `blocks::list_named` meets its contract.
 use Rattle.native_ms.proofs.SoundTests.{named_none, named_some}
-use borrow.Author.Rules.{rules}
 use Rattle.native_ms.proofs.sound.blocks.list_named.Goals as goal
 
 pub returns-then-word-eq0 : goal.returns-then-word-eq0

@@ -1,7 +1,6 @@
 -- `blocks::names_list` meets its contract.
 use Rattle.model.specs.Tables.{view}
 use Rattle.native_ms.proofs.SoundTests.{names_none, names_some}
-use borrow.Author.Rules.{rules}
 use Rattle.native_ms.proofs.sound.blocks.names_list.Goals as goal
 
 pub returns-then-word-lt1 : goal.returns-then-word-lt1

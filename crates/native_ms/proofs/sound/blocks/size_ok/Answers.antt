@@ -1,7 +1,6 @@
 -- `blocks::size_ok` meets its contract: the lent sizes are the classes.
 use Prim.Native.Nat.{◌%◌}
 use Rattle.model.specs.Params.{bins}
-use borrow.Author.Rules.{rules}
 use Rattle.native_ms.proofs.SoundTests.{size_bin, size_none, size_class}
 use native.Mathlib.Omega.{arith}
 use Rattle.native_ms.proofs.sound.blocks.size_ok.Goals as goal

@@ -1,7 +1,5 @@
 -- `blocks::tls_ok` meets its contract.
-use borrow.Author.Tests.{not-true, not-false}
 use Rattle.native_ms.proofs.SoundTests.{tls_none, tls_shared, tls_local}
-use borrow.Author.Rules.{rules}
 use Rattle.native_ms.proofs.sound.blocks.tls_ok.Goals as goal
 
 pub returns-then-not-is_holder : goal.returns-then-not-is_holder

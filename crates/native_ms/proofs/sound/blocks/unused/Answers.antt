@@ -1,14 +1,7 @@
-use mathlib.Core.Path.{◌≡◌, refl, sym, ◌∙◌}
-use Prim.Native.Nat.{◌+◌, ◌≤◌}
-use borrow.Author.Tests.{not-true, not-false}
-use borrow.Author.Count.{falls_down}
-use Rattle.model.specs.Base.{all_below, sum_below}
-use Rattle.model.specs.Tables.{view}
+use mathlib.Core.Path.{refl, sym, ◌∙◌}
 use Rattle.laws.proofs.Below.{all_end, all_stop, all_step}
 use Rattle.laws.proofs.Params.{good_bounds}
-use Rattle.native_ms.specs.SoundWalk.{block_fits}
-use Rattle.native_ms.proofs.SoundTests.{free_at, unused_one, unused_more, unused_none, unused_all, fit_bad, fit_left}
-use borrow.Author.Rules.{rules}
+use Rattle.native_ms.proofs.SoundTests.{unused_one, unused_more, unused_none, unused_all, fit_bad, fit_left}
 use native.Mathlib.Omega.{arith}
 use Rattle.native_ms.proofs.sound.blocks.unused.Goals as goal
 

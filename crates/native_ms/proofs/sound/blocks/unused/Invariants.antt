@@ -1,16 +1,10 @@
 -- `blocks::unused` meets its contract: the blocks passed fit, and those passed and those to come are all.
-use mathlib.Core.Path.{◌≡◌, refl, sym, ◌∙◌}
+use mathlib.Core.Path.{◌≡◌}
 use Prim.Native.Nat.{◌+◌, ◌≤◌}
-use borrow.Author.Tests.{not-true, not-false}
-use borrow.Author.Count.{falls_down}
 use Rattle.model.specs.Base.{all_below, sum_below}
 use Rattle.model.specs.Tables.{view}
-use Rattle.laws.proofs.Below.{all_end, all_stop, all_step}
-use Rattle.laws.proofs.Params.{good_bounds}
 use Rattle.native_ms.specs.SoundWalk.{block_fits}
-use Rattle.native_ms.proofs.SoundTests.{free_at, unused_one, unused_more, unused_none, unused_all, fit_bad, fit_left}
-use borrow.Author.Rules.{rules}
-use native.Mathlib.Omega.{arith}
+use Rattle.native_ms.proofs.SoundTests.{free_at}
 use Rattle.native_ms.proofs.sound.blocks.unused.Given as goal
 
 abbrev pub invariant-loop-left : goal.invariant-loop-left

@@ -1,5 +1,4 @@
 -- `eager::eager_block` is `eager_block`, whatever the marks. Assumes nothing.
-use borrow.Author.Rules.{rules}
 use Rattle.native_ms.proofs.EagerTables.{block_free, block_waits, block_marked, block_unmarked}
 use Rattle.native_ms.proofs.sound.eager.eager_block.Goals as goal
 

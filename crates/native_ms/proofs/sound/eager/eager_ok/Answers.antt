@@ -1,13 +1,6 @@
-use Prim.Native.Nat.{ℕ, ◌≤◌}
-use mathlib.Core.Path.{◌≡◌, refl, sym, ◌∙◌}
-use mathlib.Core.List.{List}
+use mathlib.Core.Path.{refl, sym, ◌∙◌}
 use native.Mathlib.Omega.{arith}
-use borrow.Author.Rules.{rules}
-use borrow.Author.Count.{falls_down}
 use borrow.Author.Tests.{not-true, not-false}
-use Rattle.model.specs.Base.{all_below}
-use Rattle.model.specs.Tables.{view, tables_of}
-use Rattle.model.specs.Sound.{eager_block}
 use Rattle.laws.proofs.Below.{all_end, all_stop, all_step}
 use Rattle.native_ms.proofs.EagerTables.{not_asked, asked}
 use Rattle.native_ms.proofs.sound.eager.eager_ok.Goals as goal

@@ -1,16 +1,10 @@
 -- `eager::eager_ok` meets its contract: the blocks passed are as the choice asks, and those to come decide. Assumes nothing.
 use Prim.Native.Nat.{ℕ, ◌≤◌}
-use mathlib.Core.Path.{◌≡◌, refl, sym, ◌∙◌}
+use mathlib.Core.Path.{◌≡◌}
 use mathlib.Core.List.{List}
-use native.Mathlib.Omega.{arith}
-use borrow.Author.Rules.{rules}
-use borrow.Author.Count.{falls_down}
-use borrow.Author.Tests.{not-true, not-false}
 use Rattle.model.specs.Base.{all_below}
 use Rattle.model.specs.Tables.{view, tables_of}
 use Rattle.model.specs.Sound.{eager_block}
-use Rattle.laws.proofs.Below.{all_end, all_stop, all_step}
-use Rattle.native_ms.proofs.EagerTables.{not_asked, asked}
 use Rattle.native_ms.proofs.sound.eager.eager_ok.Given as goal
 
 abbrev pub invariant-loop-left : goal.invariant-loop-left

@@ -1,5 +1,4 @@
 -- `eager::released_before` is `passed`. Assumes nothing.
-use borrow.Author.Rules.{rules}
 use Rattle.native_ms.proofs.EagerTables.{passed_phase, passed_gc, passed_local, passed_shared}
 use Rattle.native_ms.proofs.sound.eager.released_before.Goals as goal
 

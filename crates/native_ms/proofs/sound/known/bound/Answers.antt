@@ -1,5 +1,4 @@
 -- `known::bound` reads its part of the words.
-use borrow.Author.Rules.{rules}
 use Rattle.native_ms.proofs.SoundLent.{bound_word}
 use Rattle.native_ms.proofs.sound.known.bound.Goals as goal
 

@@ -1,5 +1,4 @@
 -- `known::first` reads its part of the words.
-use borrow.Author.Rules.{rules}
 use Rattle.native_ms.proofs.SoundLent.{first_word}
 use Rattle.native_ms.proofs.sound.known.first.Goals as goal
 

@@ -1,10 +1,7 @@
-use mathlib.Core.Path.{◌≡◌, refl, ◌∙◌}
-use Prim.Native.Nat.{ℕ, ◌<◌, ◌≤◌, ◌-◌}
-use lib.ListN.{length, length-set}
+use mathlib.Core.Path.{refl, ◌∙◌}
+use lib.ListN.{length-set}
 use borrow.Author.Count.{below_none}
-use Rattle.native_ms.proofs.SoundLent.{set_is, firsts_step}
-use Rattle.model.specs.Params.{sets}
-use borrow.Author.Rules.{rules}
+use Rattle.native_ms.proofs.SoundLent.{firsts_step}
 use native.Mathlib.Omega.{arith}
 use Rattle.native_ms.proofs.sound.known.firsts.Goals as goal
 

@@ -1,12 +1,9 @@
 -- `known::firsts` meets its contract: what is said of each set passed.
-use mathlib.Core.Path.{◌≡◌, refl, ◌∙◌}
+use mathlib.Core.Path.{◌≡◌}
 use Prim.Native.Nat.{ℕ, ◌<◌, ◌≤◌, ◌-◌}
-use lib.ListN.{length, length-set}
-use borrow.Author.Count.{below_none}
-use Rattle.native_ms.proofs.SoundLent.{set_is, firsts_step}
+use lib.ListN.{length}
+use Rattle.native_ms.proofs.SoundLent.{set_is}
 use Rattle.model.specs.Params.{sets}
-use borrow.Author.Rules.{rules}
-use native.Mathlib.Omega.{arith}
 use Rattle.native_ms.proofs.sound.known.firsts.Given as goal
 
 abbrev pub invariant-loop-set : goal.invariant-loop-set

@@ -1,5 +1,4 @@
 -- `known::last` reads its part of the words.
-use borrow.Author.Rules.{rules}
 use Rattle.model.specs.Params.{lists}
 use Rattle.model.specs.Tables.{view}
 use Rattle.laws.proofs.Tables.{get_d_part}

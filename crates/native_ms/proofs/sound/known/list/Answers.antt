@@ -1,5 +1,4 @@
 -- `known::list` reads its block table.
-use borrow.Author.Rules.{rules}
 use Rattle.model.specs.Tables.{view}
 use Rattle.native_ms.proofs.sound.known.list.Goals as goal
 

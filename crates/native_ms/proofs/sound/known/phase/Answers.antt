@@ -1,5 +1,4 @@
 -- `known::phase` reads its part of the words.
-use borrow.Author.Rules.{rules}
 use Rattle.native_ms.proofs.SoundLent.{phase_word_lem}
 use Rattle.native_ms.proofs.sound.known.phase.Goals as goal
 

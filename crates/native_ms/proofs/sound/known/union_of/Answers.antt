@@ -1,10 +1,4 @@
-use mathlib.Core.Path.{◌≡◌}
-use Prim.Native.Nat.{◌≤◌, ◌-◌}
-use lib.Dec.{eqb}
-use Rattle.model.specs.Base.{all_below}
-use Rattle.native_ms.specs.SoundLent.{zero_at}
 use Rattle.native_ms.proofs.SoundLent.{words_none, words_step, words_all}
-use borrow.Author.Rules.{rules}
 use native.Mathlib.Omega.{arith}
 use Rattle.native_ms.proofs.sound.known.union_of.Goals as goal
 

@@ -1,5 +1,4 @@
 -- `lists::block_from` meets its contract.
-use borrow.Author.Rules.{rules}
 use Rattle.laws.proofs.Params.{good_bounds, block_small}
 use Prim.Native.Nat.{◌-◌, ◌/◌, ◌^◌}
 use Rattle.native_ms.proofs.SoundLent.{starts_low, starts_past, starts_off, starts_here}

@@ -1,7 +1,4 @@
-use mathlib.Core.Path.{◌≡◌, refl, ◌∙◌}
-use borrow.Author.Tests.{not-true, not-false}
-use Rattle.model.specs.Tables.{view}
-use Rattle.native_ms.specs.SoundWalk.{pass_from}
+use mathlib.Core.Path.{refl, ◌∙◌}
 use Rattle.native_ms.proofs.SoundTests.{stands_off, last_here, last_off, pass_last, pass_long, pass_bad, pass_step, pass_at}
 use native.Mathlib.Omega.{arith}
 use Rattle.native_ms.proofs.sound.lists.pass.Goals as goal

@@ -1,10 +1,7 @@
 -- `lists::pass` meets its contract: what remains of the walk is the whole.
-use mathlib.Core.Path.{◌≡◌, refl, ◌∙◌}
-use borrow.Author.Tests.{not-true, not-false}
+use mathlib.Core.Path.{◌≡◌}
 use Rattle.model.specs.Tables.{view}
 use Rattle.native_ms.specs.SoundWalk.{pass_from}
-use Rattle.native_ms.proofs.SoundTests.{stands_off, last_here, last_off, pass_last, pass_long, pass_bad, pass_step, pass_at}
-use native.Mathlib.Omega.{arith}
 use Rattle.native_ms.proofs.sound.lists.pass.Given as goal
 
 abbrev pub invariant-loop-a : goal.invariant-loop-a

@@ -1,10 +1,6 @@
-use mathlib.Core.Path.{◌≡◌, refl, ◌∙◌}
-use Prim.Native.Nat.{◌≤◌}
-use Rattle.model.specs.Tables.{view}
-use Rattle.native_ms.specs.SoundWalk.{passes}
+use mathlib.Core.Path.{refl, ◌∙◌}
 use Rattle.native_ms.proofs.SoundTests.{passes_bad, passes_step}
 use Rattle.native_ms.proofs.SoundLent.{list_skip, lists_end}
-use borrow.Author.Rules.{rules}
 use native.Mathlib.Omega.{arith}
 use Rattle.native_ms.proofs.sound.lists.pass_set.Goals as goal
 

@@ -1,12 +1,8 @@
 -- `lists::pass_set` meets its contract: what remains of the lists is all of them.
-use mathlib.Core.Path.{◌≡◌, refl, ◌∙◌}
+use mathlib.Core.Path.{◌≡◌}
 use Prim.Native.Nat.{◌≤◌}
 use Rattle.model.specs.Tables.{view}
 use Rattle.native_ms.specs.SoundWalk.{passes}
-use Rattle.native_ms.proofs.SoundTests.{passes_bad, passes_step}
-use Rattle.native_ms.proofs.SoundLent.{list_skip, lists_end}
-use borrow.Author.Rules.{rules}
-use native.Mathlib.Omega.{arith}
 use Rattle.native_ms.proofs.sound.lists.pass_set.Given as goal
 
 abbrev pub invariant-loop-list : goal.invariant-loop-list

@@ -1,12 +1,7 @@
-use mathlib.Core.Path.{◌≡◌, refl, ◌∙◌}
-use Prim.Native.Nat.{◌-◌, ◌*◌, ◌≤◌}
+use mathlib.Core.Path.{refl, ◌∙◌}
+use Prim.Native.Nat.{◌-◌}
 use lib.ListN.{get_or}
-use borrow.Author.Count.{falls_down}
-use Rattle.model.specs.Tables.{view}
-use Rattle.model.specs.Params.{sets, bins}
-use Rattle.native_ms.specs.SoundWalk.{passes}
 use Rattle.native_ms.proofs.SoundLent.{set_skip, set_up_lem, set_bad, set_step, passes_none}
-use borrow.Author.Rules.{rules}
 use native.Mathlib.Omega.{arith}
 use Rattle.native_ms.proofs.sound.lists.passes.Goals as goal
 

@@ -1,14 +1,9 @@
 -- `lists::passes` meets its contract: what remains of the sets is all of them.
-use mathlib.Core.Path.{◌≡◌, refl, ◌∙◌}
-use Prim.Native.Nat.{◌-◌, ◌*◌, ◌≤◌}
-use lib.ListN.{get_or}
-use borrow.Author.Count.{falls_down}
+use mathlib.Core.Path.{◌≡◌}
+use Prim.Native.Nat.{◌*◌, ◌≤◌}
 use Rattle.model.specs.Tables.{view}
 use Rattle.model.specs.Params.{sets, bins}
 use Rattle.native_ms.specs.SoundWalk.{passes}
-use Rattle.native_ms.proofs.SoundLent.{set_skip, set_up_lem, set_bad, set_step, passes_none}
-use borrow.Author.Rules.{rules}
-use native.Mathlib.Omega.{arith}
 use Rattle.native_ms.proofs.sound.lists.passes.Given as goal
 
 abbrev pub invariant-loop-set : goal.invariant-loop-set

@@ -1,5 +1,4 @@
 -- `lists::stands_on` meets its contract: the tests stand in the definition's order.
-use borrow.Author.Rules.{rules}
 use mathlib.Core.Path.{refl}
 use Rattle.model.specs.Params.{list_word}
 use Rattle.native_ms.proofs.SoundTests.{stands_free, stands_other, stands_here}

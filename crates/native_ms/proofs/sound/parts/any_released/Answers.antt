@@ -1,11 +1,5 @@
-use mathlib.Core.Path.{◌≡◌, refl, sym, ◌∙◌}
+use mathlib.Core.Path.{refl, sym, ◌∙◌}
 use native.Mathlib.Omega.{arith}
-use Prim.Native.Nat.{◌≤◌}
-use borrow.Author.Rules.{rules}
-use Rattle.model.specs.Tables.{view}
-use Rattle.model.specs.Base.{any_below}
-use borrow.Author.Count.{falls_down}
-use Rattle.model.specs.Global.{has_released}
 use Rattle.laws.proofs.Below.{any_none, any_stop, any_step}
 use Rattle.native_ms.proofs.sound.parts.any_released.Goals as goal
 

@@ -1,13 +1,9 @@
 -- `parts::any_released` meets its contract: from the last down, as the definition does.
-use mathlib.Core.Path.{◌≡◌, refl, sym, ◌∙◌}
-use native.Mathlib.Omega.{arith}
+use mathlib.Core.Path.{◌≡◌}
 use Prim.Native.Nat.{◌≤◌}
-use borrow.Author.Rules.{rules}
 use Rattle.model.specs.Tables.{view}
 use Rattle.model.specs.Base.{any_below}
-use borrow.Author.Count.{falls_down}
 use Rattle.model.specs.Global.{has_released}
-use Rattle.laws.proofs.Below.{any_none, any_stop, any_step}
 use Rattle.native_ms.proofs.sound.parts.any_released.Given as goal
 
 abbrev pub invariant-loop-left : goal.invariant-loop-left

@@ -1,7 +1,5 @@
 -- `parts::holder_fits` meets its contract.
-use borrow.Author.Tests.{not-true, not-false}
 use Rattle.native_ms.proofs.SoundTests.{holder_flag, holder_on, holder_done, holder_off}
-use borrow.Author.Rules.{rules}
 use Rattle.native_ms.proofs.sound.parts.holder_fits.Goals as goal
 
 pub returns-then-bound-gt1 : goal.returns-then-bound-gt1

@@ -1,13 +1,8 @@
 -- `parts::holders_fit` meets its contract: from the last down, as the definition does.
-use mathlib.Core.Path.{◌≡◌, refl, sym, ◌∙◌}
-use native.Mathlib.Omega.{arith}
-use borrow.Author.Rules.{rules}
-use borrow.Author.Tests.{not-true, not-false}
+use mathlib.Core.Path.{◌≡◌}
 use Rattle.model.specs.Tables.{view}
 use Rattle.model.specs.Base.{all_below}
-use borrow.Author.Count.{falls_down}
 use Prim.Native.Nat.{◌≤◌}
-use Rattle.laws.proofs.Below.{all_end, all_stop, all_step}
 use Rattle.native_ms.specs.SoundWalk.{holder_fits}
 use Rattle.native_ms.proofs.sound.parts.holders_fit.Given as goal
 

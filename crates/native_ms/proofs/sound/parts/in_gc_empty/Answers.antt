@@ -1,6 +1,5 @@
 -- `parts::in_gc_empty` meets its contract.
 use Rattle.native_ms.proofs.SoundTests.{gc_releasing, gc_empty}
-use borrow.Author.Rules.{rules}
 use Rattle.native_ms.proofs.sound.parts.in_gc_empty.Goals as goal
 
 pub returns-then-phase-eq-RELEASING : goal.returns-then-phase-eq-RELEASING

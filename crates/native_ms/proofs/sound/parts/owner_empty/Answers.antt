@@ -1,5 +1,4 @@
 -- `parts::owner_empty` meets its contract: the three sets of an owner are its 147 lists.
-use borrow.Author.Rules.{rules}
 use Rattle.native_ms.proofs.SoundLent.{owner_words}
 use Rattle.native_ms.proofs.sound.parts.owner_empty.Goals as goal
 

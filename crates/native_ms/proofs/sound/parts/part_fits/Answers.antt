@@ -1,6 +1,5 @@
 -- `parts::part_fits` meets its contract.
 use Rattle.native_ms.proofs.SoundTests.{part_flag, part_none, part_phase, part_shared, part_holder}
-use borrow.Author.Rules.{rules}
 use Rattle.native_ms.proofs.sound.parts.part_fits.Goals as goal
 
 pub returns-then-released-gt1 : goal.returns-then-released-gt1

@@ -1,13 +1,6 @@
-use mathlib.Core.Path.{◌≡◌, refl, sym, ◌∙◌}
+use mathlib.Core.Path.{refl, sym, ◌∙◌}
 use native.Mathlib.Omega.{arith}
-use Prim.Native.Nat.{◌≤◌}
-use borrow.Author.Rules.{rules}
-use borrow.Author.Tests.{not-true, not-false}
-use Rattle.model.specs.Tables.{view}
-use Rattle.model.specs.Base.{all_below}
-use borrow.Author.Count.{falls_down}
 use Rattle.laws.proofs.Below.{all_end, all_stop, all_step}
-use Rattle.native_ms.specs.SoundWalk.{part_fits}
 use Rattle.native_ms.proofs.sound.parts.parts_fit.Goals as goal
 
 pub loop-left-init : goal.loop-left-init

@@ -1,6 +1,5 @@
 -- `parts::phase_known` meets its contract.
 use Rattle.native_ms.proofs.SoundTests.{phase_running_lem, phase_marking_lem, phase_releasing_lem}
-use borrow.Author.Rules.{rules}
 use Rattle.native_ms.proofs.sound.parts.phase_known.Goals as goal
 
 pub returns-then-phase-eq-RUNNING : goal.returns-then-phase-eq-RUNNING

@@ -1,7 +1,5 @@
 -- `parts::released_some` meets its contract.
-use borrow.Author.Tests.{not-true, not-false}
 use Rattle.native_ms.proofs.SoundTests.{some_other, some_none, some_due}
-use borrow.Author.Rules.{rules}
 use Rattle.native_ms.proofs.sound.parts.released_some.Goals as goal
 
 pub returns-then-phase-ne-RELEASING : goal.returns-then-phase-ne-RELEASING
