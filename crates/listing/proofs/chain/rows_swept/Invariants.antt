@@ -1,0 +1,12 @@
+-- `chain::rows_swept` prints the cells that a sweep would free, from the highest down. The loop's invariant: the rows left,
+-- printed here, make all.
+use native.Mathlib.Omega.{arith}
+use Rattle.listing.proofs.SectionsLaws.{first_here, walk_count, SweptLeft, left_start, left_yes, left_no, left_end}
+use borrow.Author.Rules.{rules}
+use Rattle.listing.proofs.chain.rows_swept.Given as goal
+
+abbrev pub invariant-loop-left : goal.invariant-loop-left
+invariant-loop-left l = SweptLeft l.marks l.b.0 l.size l.initial.left l.left l.initial.out l.out l.at l.place
+
+abbrev pub decreases-loop-left : goal.decreases-loop-left
+decreases-loop-left l = l.left

@@ -1,0 +1,25 @@
+use Prim.Native.Nat.{◌-◌}
+use mathlib.Core.List.{[]}
+use mathlib.Core.Path.{sym, ◌∙◌}
+use borrow.Author.Count.{falls}
+use Rattle.model.specs.Census.{block_row}
+use Rattle.listing.specs.Sections.{tables_read, is_occupied, occupied_in}
+use Rattle.listing.proofs.SectionsLaws.{TextsLeft, texts_start, texts_yes, texts_no, texts_end}
+use borrow.Author.Rules.{rules}
+use Rattle.listing.proofs.sections.block_rows.Goals as goal
+
+pub loop-next-init : goal.loop-next-init
+loop-next-init c = texts_start _ _ _ _ _
+
+pub loop-next-preserved-then-is_occupied : goal.loop-next-preserved-then-is_occupied
+loop-next-preserved-then-is_occupied c = texts_yes _ _ _ _ c.loop-next.invariant c.loop-next-test.true (sym c.is_occupied.ensures ∙ c.if-is_occupied.true) c.block_row-place.ensures
+
+pub loop-next-preserved : goal.loop-next-preserved
+loop-next-preserved c = texts_no _ _ _ _ c.loop-next.invariant c.loop-next-test.true (sym c.is_occupied.ensures ∙ c.if-is_occupied.false)
+
+pub shape_of-out : goal.shape_of-out
+shape_of-out c = c.loop-next.invariant.same
+
+pub returns : goal.returns
+unfolding occupied_in
+returns c = texts_end _ _ _ _ c.loop-next.invariant c.loop-next-test.false

@@ -1,0 +1,13 @@
+-- `params` meets its contract. Assumes nothing.
+use mathlib.Core.Path.{refl}
+use mathlib.Core.List.{List}
+use Rattle.model.specs.declared.Row.{Row}
+use Rattle.model.specs.Census.{census_params}
+use Rattle.listing.proofs.space.params.Goals as goal
+
+pub no_rows-rows-requires : goal.no_rows-rows-requires
+no_rows-rows-requires c = tt
+
+pub returns : goal.returns
+unfolding census_params
+returns c = rw c.no_rows-rows.ensures
