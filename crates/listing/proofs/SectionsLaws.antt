@@ -19,7 +19,7 @@ use Rattle.model.specs.Base.{filter, any_below, member}
 use Rattle.model.specs.Params.{power_of_two, lower_ok, heap_bytes, heap_end, good_params, start}
 use Rattle.model.specs.Tables.{Words, view}
 use Rattle.model.specs.Memory.{load, marked}
-use Rattle.model.specs.Block.{state_unallocated, cell_count, is_cell, chain_from, free_chain, first_cell, more_cells, next_cell}
+use Rattle.model.specs.Block.{cell_count, is_cell, chain_from, free_chain, first_cell, more_cells, next_cell}
 use Rattle.model.specs.Block.{cells_down, keeps, sweep_chain, cell_at, frees_cell}
 use Rattle.model.specs.Sound.{state_of, set_named}
 use Rattle.model.specs.Census.{census_params, decimal, spaced, section, up_to, occupied, letter}

@@ -23,7 +23,7 @@ use Rattle.model.specs.Classes.{classes_fit}
 use Rattle.model.specs.Block.{cell_count, is_cell, cells_down, keeps, sweep_chain, chain_from, free_chain}
 use Rattle.model.specs.Global.{phase_marking, fresh_words, fresh_tables}
 use Rattle.model.specs.Sound.{state_of, bin_named, size_ok, sound_on}
-use Rattle.model.specs.Calls.{refusal_number, Call, says, step, Result, tables_in, call, set_up}
+use Rattle.model.specs.Calls.{refusal_number, Call, step, Result, tables_in, call, set_up}
 use Rattle.model.specs.Census.{digits, decimal, spaced, section, RefusedLine, refused_row, up_to, occupied, block_row, awaits_sweep, printed_chain, free_rows, free_section, census_params, lines_of, Ran, run_lines, line_result, line_of, pieces, newline, space, drop_blank_end, census_lent, listing, census}
 use Rattle.laws.proofs.Base.{if_cases, and_right, in_append, in_filter}
 use Rattle.laws.proofs.Below.{true_not_false, and_three}

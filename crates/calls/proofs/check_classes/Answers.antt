@@ -1,7 +1,6 @@
 -- `check_classes` meets its contract. Leans on the library's promise.
 use mathlib.Core.Path.{ap, ◌∙◌}
 use Rattle.model.specs.Answers.{said_of}
-use borrow.Author.Rules.{rules}
 use Rattle.calls.proofs.check_classes.Goals as goal
 
 pub returns : goal.returns

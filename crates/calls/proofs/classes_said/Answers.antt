@@ -1,6 +1,5 @@
 -- `classes_said` meets its contract.
 use Rattle.model.specs.Answers.{classes_reply}
-use borrow.Author.Rules.{rules}
 use Rattle.calls.proofs.classes_said.Goals as goal
 
 pub returns-in-Accepted : goal.returns-in-Accepted

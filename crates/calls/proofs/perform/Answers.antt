@@ -1,7 +1,6 @@
 -- `perform` meets its contract: a law for each call. Leans on the library's promises.
 use Rattle.model.specs.Answers.{call_of}
 use Rattle.calls.proofs.Outcome.{of_call}
-use borrow.Author.Rules.{rules}
 use Rattle.calls.proofs.perform.Goals as goal
 
 pub returns-in-Bind : goal.returns-in-Bind

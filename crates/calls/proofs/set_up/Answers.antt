@@ -1,6 +1,5 @@
 -- `set_up` meets its contract. Leans on the library's promise.
 use Rattle.calls.proofs.Outcome.{of_set_up}
-use borrow.Author.Rules.{rules}
 use Rattle.calls.proofs.set_up.Goals as goal
 
 pub returns : goal.returns

@@ -1,6 +1,5 @@
 use native.Mathlib.Omega.{arith}
-use Rattle.listing.proofs.SectionsLaws.{CellsCounted, first_here, more_here, next_here, cells_fall, count_start, count_room, count_round, count_end}
-use borrow.Author.Rules.{rules}
+use Rattle.listing.proofs.SectionsLaws.{first_here, more_here, next_here, cells_fall, count_start, count_room, count_round, count_end}
 use Rattle.listing.proofs.chain.count.Goals as goal
 
 pub loop-p-init : goal.loop-p-init

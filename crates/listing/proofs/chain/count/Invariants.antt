@@ -1,8 +1,6 @@
 -- `chain::count` counts the cells of a chain. The loop's invariant: those passed and those left are all. The measure is how
 -- many the walk may still meet.
-use native.Mathlib.Omega.{arith}
-use Rattle.listing.proofs.SectionsLaws.{CellsCounted, first_here, more_here, next_here, cells_fall, count_start, count_room, count_round, count_end}
-use borrow.Author.Rules.{rules}
+use Rattle.listing.proofs.SectionsLaws.{CellsCounted}
 use Rattle.listing.proofs.chain.count.Given as goal
 
 abbrev pub invariant-loop-p : goal.invariant-loop-p

@@ -1,6 +1,5 @@
 use native.Mathlib.Omega.{arith}
-use Rattle.listing.proofs.SectionsLaws.{first_here, walk_count, SweptCounted, swept_start, swept_room, swept_count_yes, swept_count_no, swept_count_end}
-use borrow.Author.Rules.{rules}
+use Rattle.listing.proofs.SectionsLaws.{first_here, walk_count, swept_start, swept_room, swept_count_yes, swept_count_no, swept_count_end}
 use Rattle.listing.proofs.chain.count_swept.Goals as goal
 
 pub loop-left-init : goal.loop-left-init

@@ -1,8 +1,6 @@
 -- `chain::count_swept` counts the cells that a sweep would free, from the highest down. The loop's invariant: those counted and
 -- those left are all.
-use native.Mathlib.Omega.{arith}
-use Rattle.listing.proofs.SectionsLaws.{first_here, walk_count, SweptCounted, swept_start, swept_room, swept_count_yes, swept_count_no, swept_count_end}
-use borrow.Author.Rules.{rules}
+use Rattle.listing.proofs.SectionsLaws.{SweptCounted}
 use Rattle.listing.proofs.chain.count_swept.Given as goal
 
 abbrev pub invariant-loop-left : goal.invariant-loop-left

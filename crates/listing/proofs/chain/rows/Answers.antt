@@ -1,5 +1,4 @@
-use Rattle.listing.proofs.SectionsLaws.{CellsLeft, first_here, more_here, next_here, cells_fall, cells_start, cells_round, cells_printed}
-use borrow.Author.Rules.{rules}
+use Rattle.listing.proofs.SectionsLaws.{first_here, more_here, next_here, cells_fall, cells_start, cells_round, cells_printed}
 use Rattle.listing.proofs.chain.rows.Goals as goal
 
 pub loop-b-init : goal.loop-b-init

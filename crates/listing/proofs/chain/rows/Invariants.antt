@@ -1,7 +1,6 @@
 -- `chain::rows` prints the cells of a chain. The loop's invariant: the rows left, printed here, make all. The measure is how
 -- many the walk may still meet.
-use Rattle.listing.proofs.SectionsLaws.{CellsLeft, first_here, more_here, next_here, cells_fall, cells_start, cells_round, cells_printed}
-use borrow.Author.Rules.{rules}
+use Rattle.listing.proofs.SectionsLaws.{CellsLeft}
 use Rattle.listing.proofs.chain.rows.Given as goal
 
 abbrev pub invariant-loop-b : goal.invariant-loop-b

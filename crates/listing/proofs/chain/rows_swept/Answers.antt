@@ -1,6 +1,5 @@
 use native.Mathlib.Omega.{arith}
-use Rattle.listing.proofs.SectionsLaws.{first_here, walk_count, SweptLeft, left_start, left_yes, left_no, left_end}
-use borrow.Author.Rules.{rules}
+use Rattle.listing.proofs.SectionsLaws.{first_here, walk_count, left_start, left_yes, left_no, left_end}
 use Rattle.listing.proofs.chain.rows_swept.Goals as goal
 
 pub loop-left-init : goal.loop-left-init

@@ -1,8 +1,6 @@
 -- `chain::rows_swept` prints the cells that a sweep would free, from the highest down. The loop's invariant: the rows left,
 -- printed here, make all.
-use native.Mathlib.Omega.{arith}
-use Rattle.listing.proofs.SectionsLaws.{first_here, walk_count, SweptLeft, left_start, left_yes, left_no, left_end}
-use borrow.Author.Rules.{rules}
+use Rattle.listing.proofs.SectionsLaws.{SweptLeft}
 use Rattle.listing.proofs.chain.rows_swept.Given as goal
 
 abbrev pub invariant-loop-left : goal.invariant-loop-left

@@ -1,6 +1,5 @@
 -- `block_row` meets its contract. Leans on the laws of rows.
 use Rattle.listing.proofs.PrintLaws.{row_more}
-use borrow.Author.Rules.{rules}
 use Rattle.listing.proofs.print.block_row.Goals as goal
 
 pub returns : goal.returns

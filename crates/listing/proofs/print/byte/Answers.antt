@@ -1,6 +1,5 @@
 -- `byte` meets its contract. Leans on the laws of printing.
 use Rattle.laws.proofs.Text.{printed_byte, printed_full}
-use borrow.Author.Rules.{rules}
 use Rattle.listing.proofs.print.byte.Goals as goal
 
 pub returns-then-at-out : goal.returns-then-at-out

@@ -1,7 +1,6 @@
 -- `head` meets its contract. Leans on the laws of rows.
 use Rattle.laws.proofs.Text.{printed_append}
 use Rattle.listing.proofs.PrintLaws.{row_more, row_last}
-use borrow.Author.Rules.{rules}
 use Rattle.listing.proofs.print.head.Goals as goal
 
 pub returns : goal.returns

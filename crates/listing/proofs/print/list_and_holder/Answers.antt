@@ -1,7 +1,6 @@
 -- `list_and_holder` meets its contract. Leans on the laws of rows.
 use Rattle.laws.proofs.Text.{printed_append}
 use Rattle.listing.proofs.PrintLaws.{row_more, row_last}
-use borrow.Author.Rules.{rules}
 use Rattle.listing.proofs.print.list_and_holder.Goals as goal
 
 pub returns : goal.returns

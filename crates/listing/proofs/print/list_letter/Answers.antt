@@ -3,7 +3,6 @@ use mathlib.Core.Path.{◌∙◌}
 use native.Mathlib.Omega.{arith}
 use borrow.Author.Tests.{lt-ltb, le-ltb}
 use Rattle.model.specs.Census.{letter}
-use borrow.Author.Rules.{rules}
 use Rattle.listing.proofs.print.list_letter.Goals as goal
 
 pub returns-then-set-ge-IN_GC : goal.returns-then-set-ge-IN_GC

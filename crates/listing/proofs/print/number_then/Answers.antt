@@ -1,6 +1,5 @@
 -- `number_then` meets its contract. Leans on the laws of printing.
 use Rattle.laws.proofs.Text.{printed_append}
-use borrow.Author.Rules.{rules}
 use Rattle.listing.proofs.print.number_then.Goals as goal
 
 pub returns : goal.returns

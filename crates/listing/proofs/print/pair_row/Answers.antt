@@ -1,6 +1,5 @@
 -- `pair_row` meets its contract. Leans on the laws of rows.
 use Rattle.listing.proofs.PrintLaws.{row_more, row_last}
-use borrow.Author.Rules.{rules}
 use Rattle.listing.proofs.print.pair_row.Goals as goal
 
 pub returns : goal.returns

@@ -1,8 +1,5 @@
-use Prim.Native.Nat.{◌-◌}
-use lib.ListN.{length}
 use Rattle.laws.proofs.Text.{remains_start}
-use Rattle.listing.proofs.PrintLaws.{RefusedLeft, refused_round, refused_over, refused_end}
-use borrow.Author.Rules.{rules}
+use Rattle.listing.proofs.PrintLaws.{refused_round, refused_over, refused_end}
 use Rattle.listing.proofs.print.refused_rows.Goals as goal
 
 pub loop-i-init : goal.loop-i-init

@@ -1,9 +1,7 @@
 -- `refused_rows` meets its contract. The loop's invariant: the rows from i on, printed here, make all. Leans on the laws of rows.
 use Prim.Native.Nat.{◌-◌}
 use lib.ListN.{length}
-use Rattle.laws.proofs.Text.{remains_start}
-use Rattle.listing.proofs.PrintLaws.{RefusedLeft, refused_round, refused_over, refused_end}
-use borrow.Author.Rules.{rules}
+use Rattle.listing.proofs.PrintLaws.{RefusedLeft}
 use Rattle.listing.proofs.print.refused_rows.Given as goal
 
 abbrev pub invariant-loop-i : goal.invariant-loop-i

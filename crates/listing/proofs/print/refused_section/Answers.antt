@@ -1,7 +1,6 @@
 -- `refused_section` meets its contract: the head, then the rows. Leans on the laws of rows.
 use mathlib.Core.Path.{◌∙◌}
 use Rattle.listing.proofs.PrintLaws.{print_section, refused_count}
-use borrow.Author.Rules.{rules}
 use Rattle.listing.proofs.print.refused_section.Goals as goal
 
 pub returns : goal.returns

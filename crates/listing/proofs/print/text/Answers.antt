@@ -1,9 +1,5 @@
-use Prim.Native.Nat.{◌-◌}
-use lib.ListN.{length, take}
-use Rattle.model.specs.Text.{Printed}
 use Rattle.laws.proofs.Text.{printed_nil, length_printed}
 use Rattle.listing.proofs.PrintLaws.{print_round, print_all}
-use borrow.Author.Rules.{rules}
 use Rattle.listing.proofs.print.text.Goals as goal
 
 pub loop-i-init : goal.loop-i-init

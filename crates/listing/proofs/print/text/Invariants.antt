@@ -2,9 +2,6 @@
 use Prim.Native.Nat.{◌-◌}
 use lib.ListN.{length, take}
 use Rattle.model.specs.Text.{Printed}
-use Rattle.laws.proofs.Text.{printed_nil, length_printed}
-use Rattle.listing.proofs.PrintLaws.{print_round, print_all}
-use borrow.Author.Rules.{rules}
 use Rattle.listing.proofs.print.text.Given as goal
 
 abbrev pub invariant-loop-i : goal.invariant-loop-i

@@ -2,7 +2,6 @@
 use mathlib.Core.Path.{ap, ◌∙◌}
 use Rattle.model.specs.Census.{letter}
 use Rattle.listing.proofs.SectionsLaws.{awaits_local, awaits_abandoned, awaits_gc, awaits_none}
-use borrow.Author.Rules.{rules}
 use Rattle.listing.proofs.sections.awaits_sweep.Goals as goal
 
 pub returns-then-list-eq85 : goal.returns-then-list-eq85

@@ -2,7 +2,6 @@
 use mathlib.Core.Path.{◌∙◌}
 use Rattle.listing.proofs.PrintLaws.{retext}
 use Rattle.listing.proofs.SectionsLaws.{block_text}
-use borrow.Author.Rules.{rules}
 use Rattle.listing.proofs.sections.block_row.Goals as goal
 
 pub returns : goal.returns

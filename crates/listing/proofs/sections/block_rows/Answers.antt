@@ -1,11 +1,6 @@
-use Prim.Native.Nat.{◌-◌}
-use mathlib.Core.List.{[]}
 use mathlib.Core.Path.{sym, ◌∙◌}
-use borrow.Author.Count.{falls}
-use Rattle.model.specs.Census.{block_row}
-use Rattle.listing.specs.Sections.{tables_read, is_occupied, occupied_in}
-use Rattle.listing.proofs.SectionsLaws.{TextsLeft, texts_start, texts_yes, texts_no, texts_end}
-use borrow.Author.Rules.{rules}
+use Rattle.listing.specs.Sections.{occupied_in}
+use Rattle.listing.proofs.SectionsLaws.{texts_start, texts_yes, texts_no, texts_end}
 use Rattle.listing.proofs.sections.block_rows.Goals as goal
 
 pub loop-next-init : goal.loop-next-init

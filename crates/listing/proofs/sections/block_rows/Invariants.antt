@@ -1,12 +1,9 @@
 -- `sections::block_rows` prints the occupied blocks' rows. The loop's invariant: the rows left, printed here, make all.
 use Prim.Native.Nat.{◌-◌}
 use mathlib.Core.List.{[]}
-use mathlib.Core.Path.{sym, ◌∙◌}
-use borrow.Author.Count.{falls}
 use Rattle.model.specs.Census.{block_row}
-use Rattle.listing.specs.Sections.{tables_read, is_occupied, occupied_in}
-use Rattle.listing.proofs.SectionsLaws.{TextsLeft, texts_start, texts_yes, texts_no, texts_end}
-use borrow.Author.Rules.{rules}
+use Rattle.listing.specs.Sections.{tables_read, is_occupied}
+use Rattle.listing.proofs.SectionsLaws.{TextsLeft}
 use Rattle.listing.proofs.sections.block_rows.Given as goal
 
 abbrev pub invariant-loop-next : goal.invariant-loop-next

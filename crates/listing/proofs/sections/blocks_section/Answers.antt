@@ -1,7 +1,6 @@
 -- `sections::blocks_section` meets its contract: the head, then the rows. Leans on the laws of rows.
 use Rattle.listing.proofs.PrintLaws.{retext, print_section}
 use Rattle.listing.proofs.SectionsLaws.{blocks_section, blocks_count}
-use borrow.Author.Rules.{rules}
 use Rattle.listing.proofs.sections.blocks_section.Goals as goal
 
 pub returns : goal.returns

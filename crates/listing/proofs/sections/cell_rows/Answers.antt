@@ -1,11 +1,8 @@
-use Prim.Native.Nat.{◌-◌}
 use mathlib.Core.Path.{sym, ◌∙◌}
-use borrow.Author.Count.{falls}
 use Rattle.listing.proofs.PrintLaws.{retext}
-use Rattle.listing.specs.Sections.{is_occupied, occupied_in}
-use Rattle.listing.proofs.SectionsLaws.{cell_text, texts_cells}
-use Rattle.listing.proofs.SectionsLaws.{TextsLeft, texts_start, texts_yes, texts_no, texts_end}
-use borrow.Author.Rules.{rules}
+use Rattle.listing.specs.Sections.{occupied_in}
+use Rattle.listing.proofs.SectionsLaws.{texts_cells}
+use Rattle.listing.proofs.SectionsLaws.{texts_start, texts_yes, texts_no, texts_end}
 use Rattle.listing.proofs.sections.cell_rows.Goals as goal
 
 pub loop-next-init : goal.loop-next-init

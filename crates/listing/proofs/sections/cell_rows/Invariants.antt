@@ -1,13 +1,9 @@
 -- `sections::cell_rows` prints the free cells of the occupied blocks. The loop's invariant: the rows left,
 -- printed here, make all.
 use Prim.Native.Nat.{◌-◌}
-use mathlib.Core.Path.{sym, ◌∙◌}
-use borrow.Author.Count.{falls}
-use Rattle.listing.proofs.PrintLaws.{retext}
-use Rattle.listing.specs.Sections.{is_occupied, occupied_in}
-use Rattle.listing.proofs.SectionsLaws.{cell_text, texts_cells}
-use Rattle.listing.proofs.SectionsLaws.{TextsLeft, texts_start, texts_yes, texts_no, texts_end}
-use borrow.Author.Rules.{rules}
+use Rattle.listing.specs.Sections.{is_occupied}
+use Rattle.listing.proofs.SectionsLaws.{cell_text}
+use Rattle.listing.proofs.SectionsLaws.{TextsLeft}
 use Rattle.listing.proofs.sections.cell_rows.Given as goal
 
 abbrev pub invariant-loop-next : goal.invariant-loop-next

@@ -1,11 +1,8 @@
-use Prim.Native.Nat.{◌-◌}
 use mathlib.Core.Path.{refl, sym, ◌∙◌}
 use native.Mathlib.Omega.{arith}
-use borrow.Author.Count.{falls}
-use Rattle.listing.specs.Sections.{is_occupied, occupied_in}
+use Rattle.listing.specs.Sections.{occupied_in}
 use Rattle.listing.proofs.SectionsLaws.{total_ones}
-use Rattle.listing.proofs.SectionsLaws.{Counted, counted_start, counted_room, counted_yes, counted_no, counted_end}
-use borrow.Author.Rules.{rules}
+use Rattle.listing.proofs.SectionsLaws.{counted_start, counted_room, counted_yes, counted_no, counted_end}
 use Rattle.listing.proofs.sections.count_blocks.Goals as goal
 
 pub loop-next-init : goal.loop-next-init

@@ -1,12 +1,7 @@
 -- `sections::count_blocks` counts the occupied blocks. The loop's invariant: those counted and those left are all.
 use Prim.Native.Nat.{◌-◌}
-use mathlib.Core.Path.{refl, sym, ◌∙◌}
-use native.Mathlib.Omega.{arith}
-use borrow.Author.Count.{falls}
-use Rattle.listing.specs.Sections.{is_occupied, occupied_in}
-use Rattle.listing.proofs.SectionsLaws.{total_ones}
-use Rattle.listing.proofs.SectionsLaws.{Counted, counted_start, counted_room, counted_yes, counted_no, counted_end}
-use borrow.Author.Rules.{rules}
+use Rattle.listing.specs.Sections.{is_occupied}
+use Rattle.listing.proofs.SectionsLaws.{Counted}
 use Rattle.listing.proofs.sections.count_blocks.Given as goal
 
 abbrev pub invariant-loop-next : goal.invariant-loop-next

@@ -1,11 +1,8 @@
-use Prim.Native.Nat.{◌-◌}
 use mathlib.Core.Path.{sym, ◌∙◌}
 use native.Mathlib.Omega.{arith}
-use borrow.Author.Count.{falls}
-use Rattle.listing.specs.Sections.{is_occupied, occupied_in}
-use Rattle.listing.proofs.SectionsLaws.{printed_few, cells_in, total_cells}
-use Rattle.listing.proofs.SectionsLaws.{Counted, counted_start, counted_room, counted_yes, counted_no, counted_end}
-use borrow.Author.Rules.{rules}
+use Rattle.listing.specs.Sections.{occupied_in}
+use Rattle.listing.proofs.SectionsLaws.{printed_few, total_cells}
+use Rattle.listing.proofs.SectionsLaws.{counted_start, counted_room, counted_yes, counted_no, counted_end}
 use Rattle.listing.proofs.sections.count_cells.Goals as goal
 
 pub loop-next-init : goal.loop-next-init

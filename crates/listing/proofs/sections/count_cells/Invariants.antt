@@ -1,13 +1,9 @@
 -- `sections::count_cells` counts the free cells of the occupied blocks. The loop's invariant: those counted and those left
 -- are all.
 use Prim.Native.Nat.{◌-◌}
-use mathlib.Core.Path.{sym, ◌∙◌}
-use native.Mathlib.Omega.{arith}
-use borrow.Author.Count.{falls}
-use Rattle.listing.specs.Sections.{is_occupied, occupied_in}
-use Rattle.listing.proofs.SectionsLaws.{printed_few, cells_in, total_cells}
-use Rattle.listing.proofs.SectionsLaws.{Counted, counted_start, counted_room, counted_yes, counted_no, counted_end}
-use borrow.Author.Rules.{rules}
+use Rattle.listing.specs.Sections.{is_occupied}
+use Rattle.listing.proofs.SectionsLaws.{cells_in}
+use Rattle.listing.proofs.SectionsLaws.{Counted}
 use Rattle.listing.proofs.sections.count_cells.Given as goal
 
 abbrev pub invariant-loop-next : goal.invariant-loop-next

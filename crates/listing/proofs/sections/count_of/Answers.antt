@@ -2,7 +2,6 @@
 use mathlib.Core.Path.{sym, ap, ◌∙◌}
 use lib.ListN.{length}
 use Rattle.listing.proofs.SectionsLaws.{printed_swept, printed_standing}
-use borrow.Author.Rules.{rules}
 use Rattle.listing.proofs.sections.count_of.Goals as goal
 
 pub returns-then-awaits_sweep : goal.returns-then-awaits_sweep

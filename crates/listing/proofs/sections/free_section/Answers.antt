@@ -1,7 +1,6 @@
 -- `sections::free_section` meets its contract: in Marking the head alone, else the head, then the rows. Leans on the laws of rows.
 use Rattle.listing.proofs.PrintLaws.{retext, print_section}
 use Rattle.listing.proofs.SectionsLaws.{free_section_lem, free_none}
-use borrow.Author.Rules.{rules}
 use Rattle.listing.proofs.sections.free_section.Goals as goal
 
 pub returns-then-phase-eq1 : goal.returns-then-phase-eq1

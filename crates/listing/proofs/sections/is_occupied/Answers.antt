@@ -1,6 +1,5 @@
 -- `sections::is_occupied` meets its contract. Assumes nothing.
 use Rattle.listing.specs.Sections.{is_occupied}
-use borrow.Author.Rules.{rules}
 use Rattle.listing.proofs.sections.is_occupied.Goals as goal
 
 pub returns : goal.returns

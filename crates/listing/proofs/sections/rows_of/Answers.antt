@@ -2,7 +2,6 @@
 use mathlib.Core.Path.{sym, ◌∙◌}
 use Rattle.listing.proofs.PrintLaws.{retext}
 use Rattle.listing.proofs.SectionsLaws.{printed_swept, printed_standing, rows_printed}
-use borrow.Author.Rules.{rules}
 use Rattle.listing.proofs.sections.rows_of.Goals as goal
 
 pub returns-then-awaits_sweep : goal.returns-then-awaits_sweep

@@ -1,6 +1,5 @@
 -- `sections::set_named` meets its contract: the list word's set, counted from 0. Assumes nothing.
 use Rattle.model.specs.Sound.{list_named, set_named}
-use borrow.Author.Rules.{rules}
 use Rattle.listing.proofs.sections.set_named.Goals as goal
 
 pub returns-then-list-eq0 : goal.returns-then-list-eq0

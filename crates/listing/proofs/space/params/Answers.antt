@@ -1,7 +1,4 @@
 -- `params` meets its contract. Assumes nothing.
-use mathlib.Core.Path.{refl}
-use mathlib.Core.List.{List}
-use Rattle.model.specs.declared.Row.{Row}
 use Rattle.model.specs.Census.{census_params}
 use Rattle.listing.proofs.space.params.Goals as goal
 

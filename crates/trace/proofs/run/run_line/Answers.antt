@@ -1,0 +1,10 @@
+-- `run_line` meets its contract: a call, or a line of another form. Leans on the laws of the run.
+use mathlib.Core.Path.{refl}
+use Rattle.trace.proofs.RunLaws.{ran_call, ran_bad}
+use Rattle.trace.proofs.run.run_line.Goals as goal
+
+pub returns-in_default : goal.returns-in_default
+returns-in_default c = ran_bad _ c.in_default.is c.refusal_number.ensures
+
+pub returns : goal.returns
+returns c = ran_call c.params-p.ensures c.in-Asks.is c.perform-s.ensures refl
