@@ -8,12 +8,11 @@ exports=$top/target/staticlib/libexports.a
 [ -f "$exports" ] || { echo "bench/exports.sh: run c/build.sh first" >&2; exit 1; }
 room=$(mktemp -d)
 trap 'rm -rf "$room"' EXIT
-cp -R "$top/crates" "$top/crates.txt" "$room"
-mkdir -p "$room/target" "$room/crates/inner/src"
-for part in rlib stamp; do [ ! -d "$top/target/$part" ] || cp -R "$top/target/$part" "$room/target"; done
+tar -C "$top" --exclude='crates/*/out' -cf - crates crates.txt | tar -C "$room" -xf -
+mkdir -p "$room/crates/inner/src"
 cp "$top/bench/inner.txt" "$room/crates/inner/src/lib.rt"
-echo "inner: model words native_ms calls" >> "$room/crates.txt"
+echo "inner staticlib: model native_ms calls" >> "$room/crates.txt"
+(cd "$room/crates/inner" && rt lib) > "$room/log" 2>&1 || { tail "$room/log"; exit 1; }
 cd "$room"
-rt staticlib inner > "$room/log" 2>&1 || { tail "$room/log"; exit 1; }
-"$cc" -std=c11 -Wall -Wextra -Werror -O2 -D_DEFAULT_SOURCE -I"$top/c" -o exports "$top/bench/exports.c" target/staticlib/libinner.a "$exports"
+"$cc" -std=c11 -Wall -Wextra -Werror -O2 -D_DEFAULT_SOURCE -I"$top/c" -o exports "$top/bench/exports.c" crates/inner/out/libinner.a "$exports"
 ./exports

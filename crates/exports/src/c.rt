@@ -230,8 +230,7 @@ fn check(g: Given, rows: &[u8], answer: &mut [u8]) -> usize
 }
 
 // Set-up. The answer: no numbers.
-#[unsafe(no_mangle)]
-pub extern "C" fn native_ms_set_up(
+pub fn native_ms_set_up(
     base: usize,
     bytes: usize,
     blocks: usize,
@@ -265,8 +264,7 @@ pub extern "C" fn native_ms_set_up(
 }
 
 // Bind. The answer: no numbers.
-#[unsafe(no_mangle)]
-pub extern "C" fn native_ms_bind(
+pub fn native_ms_bind(
     base: usize,
     bytes: usize,
     blocks: usize,
@@ -310,8 +308,7 @@ pub extern "C" fn native_ms_bind(
 }
 
 // Destroy. The answer: blocks that went over to abandoned.
-#[unsafe(no_mangle)]
-pub extern "C" fn native_ms_destroy(
+pub fn native_ms_destroy(
     base: usize,
     bytes: usize,
     blocks: usize,
@@ -355,8 +352,7 @@ pub extern "C" fn native_ms_destroy(
 }
 
 // Alloc. The answer: address, cell size, whether the offer was used, blocks swept.
-#[unsafe(no_mangle)]
-pub extern "C" fn native_ms_alloc(
+pub fn native_ms_alloc(
     base: usize,
     bytes: usize,
     blocks: usize,
@@ -412,8 +408,7 @@ pub extern "C" fn native_ms_alloc(
 }
 
 // Prepare. The answer: no numbers.
-#[unsafe(no_mangle)]
-pub extern "C" fn native_ms_prepare(
+pub fn native_ms_prepare(
     base: usize,
     bytes: usize,
     blocks: usize,
@@ -456,8 +451,7 @@ pub extern "C" fn native_ms_prepare(
 }
 
 // Mark. The answer: whether it is new.
-#[unsafe(no_mangle)]
-pub extern "C" fn native_ms_mark(
+pub fn native_ms_mark(
     base: usize,
     bytes: usize,
     blocks: usize,
@@ -502,8 +496,7 @@ pub extern "C" fn native_ms_mark(
 }
 
 // Release. The answer: blocks released, blocks merged.
-#[unsafe(no_mangle)]
-pub extern "C" fn native_ms_release(
+pub fn native_ms_release(
     base: usize,
     bytes: usize,
     blocks: usize,
@@ -547,8 +540,7 @@ pub extern "C" fn native_ms_release(
 }
 
 // Shared release. The answer: blocks released, blocks merged.
-#[unsafe(no_mangle)]
-pub extern "C" fn native_ms_shared_release(
+pub fn native_ms_shared_release(
     base: usize,
     bytes: usize,
     blocks: usize,
@@ -591,8 +583,7 @@ pub extern "C" fn native_ms_shared_release(
 }
 
 // The check of a class table. The answer: 0 and 0 if the rows are accepted; 1 and the least bad count; 2 and the first unfit row.
-#[unsafe(no_mangle)]
-pub extern "C" fn native_ms_check_classes(
+pub fn native_ms_check_classes(
     base: usize,
     bytes: usize,
     blocks: usize,

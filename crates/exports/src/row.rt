@@ -107,8 +107,7 @@ fn run_row(
 }
 
 // Run. The answer: five words for each call, 0 or its refusal's number and its values; nothing is written where BadSetup is returned.
-#[unsafe(no_mangle)]
-pub extern "C" fn native_ms_run(
+pub fn native_ms_run(
     base: usize,
     bytes: usize,
     blocks: usize,
