@@ -1,5 +1,6 @@
 -- A run through the exports is a run of the machine, and demand 3 holds of it. Between two calls the host's bytes carry what the
 -- machine has lent, its words encoded and each below 2^64. Leans on demand 3. Assumes nothing.
+use Rattle.std.specs.Prelude.{if◌then◌else◌}
 use mathlib.Core.Path.{◌≡◌, refl, sym, ap, ◌∙◌, subst}
 use mathlib.Core.Logic.{◌⊎◌, inl, inr}
 use mathlib.Core.Bool.{Bool, true, false, ◌&&◌}
@@ -11,7 +12,7 @@ use lib.ListN.{length}
 use borrow.Author.Tests.{eq-eqb}
 use Rattle.model.specs.declared.Params.{Params}
 use Rattle.model.specs.declared.Given.{Given}
-use Rattle.model.specs.Base.{if◌then◌else◌, In}
+use Rattle.model.specs.Base.{In}
 use Rattle.model.specs.Params.{Lent, fits, good_params}
 use Rattle.model.specs.Classes.{classes_fit}
 use Rattle.model.specs.Global.{fresh_tables}

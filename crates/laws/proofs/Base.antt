@@ -1,4 +1,5 @@
 -- Laws of tests, of what holds below a bound, and of lists as sets; those of Below.antt are passed on. Assumes nothing.
+use Rattle.std.specs.Prelude.{if◌then◌else◌}
 use mathlib.Core.Path.{◌≡◌, refl, sym, ap, ◌∙◌}
 use mathlib.Core.Logic.{◌⊎◌, inl, inr, ⊎_elim}
 use mathlib.Core.Bool.{Bool, true, false, ◌||◌}
@@ -10,7 +11,7 @@ use lib.Dec.{eqb}
 use borrow.Author.Tests.{eqb-true, eq-eqb}
 use Rattle.laws.proofs.Below.{true_not_false}
 pub use Rattle.laws.proofs.Below.{and_left, and_right, or_cases, or_left, or_right, same_test, test as Bool-cases, all_below_at as all-below, all_below_from as below_all, any_below_from as below-any, any_below_none as below-none-any}
-use Rattle.model.specs.Base.{if◌then◌else◌, all_below, any_below, member, filter, In, Pairwise}
+use Rattle.model.specs.Base.{all_below, any_below, member, filter, In, Pairwise}
 
 -- ---- tests
 

@@ -1,5 +1,6 @@
 -- The list operations step by step: what is read and stored, one value after the other, put together to the definition.
 -- One law for each way out of a function. Plain values alone stand here. Assumes nothing.
+use Rattle.std.specs.Prelude.{if◌then◌else◌}
 use Prim.Native.Nat.{ℕ, zero, suc, ◌-◌, ◌<◌, ◌≤◌}
 use mathlib.Core.Path.{◌≡◌, refl}
 use native.Mathlib.Omega.{arith}
@@ -8,7 +9,6 @@ use lib.Dec.{eqb}
 use lib.ListN.{get_or}
 use borrow.Author.Tests.{eq-eqb, ne_eqb}
 use Rattle.model.specs.declared.Params.{Params}
-use Rattle.model.specs.Base.{if◌then◌else◌}
 use Rattle.model.specs.Params.{start, block_at, list_word}
 use Rattle.model.specs.Tables.{Words, set_first, set_last, set_next, set_prev, set_list}
 use Rattle.model.specs.BlockList.{push, popped, pop_head, pop, remove_between, remove, relabel, link, append}

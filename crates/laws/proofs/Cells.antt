@@ -1,5 +1,6 @@
 -- Whole cells of a block, chains of them, and a chain that stands in the heap. Leans on the laws of bytes and of blocks'
 -- places; assumes nothing.
+use Rattle.std.specs.Prelude.{if◌then◌else◌}
 use mathlib.Core.Path.{◌≡◌, refl, sym, ap, ◌∙◌, subst}
 use mathlib.Core.Logic.{◌≢◌, ◌⊎◌, inl, inr, ⊎_elim}
 use mathlib.Core.Bool.{Bool, true, false, ◌&&◌}
@@ -13,7 +14,7 @@ use lib.Dec.{eqb, ltb, leb}
 use lib.ListN.{length}
 use borrow.Author.Tests.{leb-true, eqb-true, lt-ltb, le-leb, lt-leb, eq-eqb}
 use Rattle.model.specs.declared.Params.{Params}
-use Rattle.model.specs.Base.{if◌then◌else◌, In, Pairwise}
+use Rattle.model.specs.Base.{In, Pairwise}
 use Rattle.model.specs.Params.{start, block_at, in_heap, heap_bytes}
 use Rattle.model.specs.Memory.{load, store}
 use Rattle.model.specs.Block.{cell_count, is_cell, cells_down, link_all, chain_from, ChainStands}

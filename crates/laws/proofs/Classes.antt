@@ -1,5 +1,6 @@
 -- Laws of the size classes, of 01's from the model's computed table `classes_hold`, of rows from Rows.antt; of raised sizes; and of the least shift: an object
 -- lies in its cell. Assumes nothing.
+use Rattle.std.specs.Prelude.{if◌then◌else◌}
 use Prim.Native.Nat.{ℕ, suc, ◌+◌, ◌-◌, ◌*◌, ◌/◌, ◌%◌, ◌^◌, ◌<◌, ◌≤◌}
 use mathlib.Core.Path.{◌≡◌, refl, sym, ap, ◌∙◌, subst}
 use mathlib.Core.Bool.{Bool, true, false, ◌&&◌, ◌||◌}
@@ -10,7 +11,7 @@ use lib.Dec.{eqb, ltb, leb}
 use lib.ListN.{length, get_or, get_or-eq_default}
 use borrow.Author.Tests.{eqb-true, ltb-true, ltb-false, leb-true, leb-false, lt-ltb, le-ltb, eq-eqb, ne_eqb, le-leb, lt-leb}
 use Rattle.model.specs.declared.Params.{Params}
-use Rattle.model.specs.Base.{if◌then◌else◌, all_below, any_below, least_from}
+use Rattle.model.specs.Base.{all_below, any_below, least_from}
 use Rattle.model.specs.Params.{power_of_two}
 use Rattle.model.specs.SizeClasses.{fours, class_words, class_bytes, words_in, mi_bin, row_at, covers, words_asked, bin_of, cell_bytes, raised, shift, align_allocation}
 use Rattle.model.specs.Classes.{block_words, classes_fit, OnlyRow, AcceptedCovers}

@@ -1,4 +1,5 @@
 -- List operations change the links and list words alone: every other field of the words stays. Assumes nothing.
+use Rattle.std.specs.Prelude.{if◌then◌else◌}
 use Prim.Native.Nat.{ℕ, zero, suc, ◌<◌}
 use mathlib.Core.Path.{◌≡◌, refl, sym, ap, ◌∙◌, subst}
 use mathlib.Core.Logic.{◌≢◌}
@@ -11,7 +12,7 @@ use lib.ListN.{length, get_or, set, length-set}
 use lib.Seq.{get_or-set_same, get_or-set_other}
 use borrow.Author.Tests.{eq-eqb, ne_eqb}
 use Rattle.model.specs.declared.Params.{Params}
-use Rattle.model.specs.Base.{if◌then◌else◌, each_below}
+use Rattle.model.specs.Base.{each_below}
 use Rattle.model.specs.Params.{start, block_at, list_word}
 use Rattle.model.specs.Tables.{Words, set_first, set_last, set_next, set_prev, set_list}
 use Rattle.laws.proofs.Tables.{lengths, lengths_set_first, lengths_set_last, lengths_set_next, lengths_set_prev, lengths_set_list}

@@ -1,5 +1,6 @@
 -- Laws of a customer's class table (02, R-5): the least number that passes a test (`least_from`), a sum that is 1, what the checker names
 -- (`names_the_first`), and what accepted rows cover (`accepted_covers`). Assumes nothing.
+use Rattle.std.specs.Prelude.{if◌then◌else◌}
 use Prim.Native.Nat.{ℕ, zero, suc, ◌+◌, ◌-◌, ◌*◌, ◌/◌, ◌<◌, ◌≤◌}
 use mathlib.Core.Path.{◌≡◌, refl, sym, ap, ◌∙◌, subst}
 use mathlib.Core.Bool.{Bool, true, false, not, ◌&&◌, ◌||◌}
@@ -10,7 +11,7 @@ use lib.Dec.{eqb, ltb, leb}
 use borrow.Author.Tests.{eqb-true, ltb-true, leb-true, eq-eqb, ne_eqb, lt-ltb, le-leb, lt-leb}
 use Rattle.model.specs.declared.Params.{Params}
 use Rattle.model.specs.declared.Row.{Row}
-use Rattle.model.specs.Base.{if◌then◌else◌, sum_below, least_from, flag}
+use Rattle.model.specs.Base.{sum_below, least_from, flag}
 use Rattle.model.specs.SizeClasses.{row_at, covers}
 use Rattle.model.specs.Classes.{block_words, rows_over, is_bad_count, row_fits, is_bad_row, bad_count, bad_row, classes_fit, NamesTheFirst, OnlyRow, AcceptedCovers}
 use Rattle.laws.proofs.Below.{and_left, and_right, and_three, and_four, or_cases, test, true_not_false}

@@ -1,6 +1,7 @@
 -- The words of all tables in one list, taken apart by `view`: a store in one table is that table's store in the view, and
 -- changes no other; `view` and `flat` undo one another; no store changes how long a table is.
 -- The twelve parts follow each other, so all of it is one induction over their lengths (`cuts`). Assumes nothing.
+use Rattle.std.specs.Prelude.{if◌then◌else◌}
 use Prim.Native.Nat.{ℕ, zero, suc, ◌+◌, ◌-◌, ◌*◌, ◌/◌, ◌<◌, ◌≤◌}
 use mathlib.Core.Path.{◌≡◌, refl, sym, ap, ◌∙◌}
 use mathlib.Core.Bool.{Bool, true, false}
@@ -11,7 +12,6 @@ use lib.Dec.{ltb}
 use lib.ListN.{length, take, drop, get_or, set, replicate, length-append, length-set, length-take, length-drop, take-append-drop, get_or-eq_default}
 use lib.Seq.{set_out, set-get_or, get_or-take, get_or-drop, get_or-set_same, take-set-le, take-set-lt, drop-set-lt, drop-set-add, drop-drop, drop-cons, take_at, drop_at, take_all}
 use borrow.Author.Tests.{lt-ltb, le-ltb, ltb-true, ltb-false}
-use Rattle.model.specs.Base.{if◌then◌else◌}
 use Rattle.model.specs.Params.{lists, holders, parts, phase_word, bound_words, released_words, head_words, block_tables}
 use Rattle.model.specs.Tables.{Words, part, blocks_in, block_table, view, flat, put_in, put_first, put_last, put_bound, put_released, put_next, put_prev, put_free, put_size, put_list, put_tls, put_cells, put_phase, set_first, set_last, set_bound, set_released, set_next, set_prev, set_free, set_size, set_list, set_tls, set_cells, set_phase}
 use Rattle.laws.proofs.Memory.{get_d_zeros}

@@ -1,5 +1,6 @@
 -- Laws of the census program's text: numbers, pieces between separators, and bytes put one behind the other in a buffer.
 -- Assumes nothing.
+use Rattle.std.specs.Prelude.{if◌then◌else◌}
 use mathlib.Core.Path.{◌≡◌, refl, sym, ap, ◌∙◌}
 use mathlib.Core.Bool.{Bool, true, false, ◌&&◌}
 use mathlib.Core.List.{List, [], ◌∷◌, ◌++◌, foldl}
@@ -12,7 +13,7 @@ use borrow.Author.Tests.{ltb-true, ltb-false, lt-ltb, le-ltb, eq-eqb, ne_eqb, le
 use mathlib.Core.Logic.{◌⊎◌, inl, inr, ⊎_elim}
 use lib.ListN.{length, get_or, set, take, drop, length-append, length-take, length-drop, drop_of_length-le}
 use lib.Seq.{drop-cons, drop-drop}
-use Rattle.model.specs.Base.{if◌then◌else◌, all_below}
+use Rattle.model.specs.Base.{all_below}
 use Rattle.model.specs.Memory.{overwrite}
 use Rattle.model.specs.Census.{newline, before, pieces, drop_blank_end, is_digit}
 use Rattle.laws.proofs.Below.{all_below_at, all_below_from, same_test, and_both, and_left, and_right, test}

@@ -1,6 +1,7 @@
 -- The walks of the machine, each taken apart by induction once: the search of an alloc, the release of a list's blocks, and the
 -- rows of releases and appends. What holds before a walk and is kept by each of its steps holds after it. What is kept may speak
 -- of words, states and the events so far, and so of heap, book and counts, which go by events. Assumes nothing.
+use Rattle.std.specs.Prelude.{if◌then◌else◌}
 use Prim.Native.Nat.{ℕ, zero, suc, ◌*◌, ◌/◌, ◌%◌, ◌<◌}
 use mathlib.Core.Path.{◌≡◌, refl, ap, ◌∙◌, subst}
 use mathlib.Core.Bool.{true, ◌&&◌}
@@ -12,7 +13,7 @@ use lib.ListN.{get_or, set}
 use borrow.Author.Tests.{eqb-true, eqb-false, eq-eqb, ne_eqb}
 use Rattle.model.specs.declared.Params.{Params}
 use Rattle.model.specs.declared.Offer.{Offer}
-use Rattle.model.specs.Base.{if◌then◌else◌, each_below}
+use Rattle.model.specs.Base.{each_below}
 use Rattle.model.specs.Params.{block_at, list_of, local_sets, abandoned, in_gc, available, unswept, consumed, bins}
 use Rattle.model.specs.Tables.{Words, Tables, set_tls}
 use Rattle.model.specs.BlockList.{popped, push, pop, remove, append}

@@ -1,11 +1,11 @@
 -- "Block": states, whole cells, the chain of free cells, init, the two sweeps and the choice between them, release.
 -- A chain is the list of its cells' addresses, the free head first.
-use Rattle.std.specs.Prelude.{ℕ, zero, suc, ◌+◌, ◌-◌, ◌*◌, ◌/◌, ◌%◌, ◌≡◌, Bool, true, false, not, ◌&&◌, eqb, ltb, leb, get_or, set, length}
+use Rattle.std.specs.Prelude.{if◌then◌else◌, ℕ, zero, suc, ◌+◌, ◌-◌, ◌*◌, ◌/◌, ◌%◌, ◌≡◌, Bool, true, false, not, ◌&&◌, eqb, ltb, leb, get_or, set, length}
 use mathlib.Core.List.{List, [], ◌∷◌, head_d}
 use Rattle.model.specs.declared.Params.{Params}
 use Rattle.model.specs.declared.Block.{Block}
 use Rattle.model.specs.declared.ChainWalk.{ChainWalk}
-use Rattle.model.specs.Base.{if◌then◌else◌, any_below}
+use Rattle.model.specs.Base.{any_below}
 use Rattle.model.specs.Params.{good_params, start, plus_lower}
 use Rattle.model.specs.Memory.{load, store, marked}
 use Rattle.model.specs.SizeClasses.{words_in}

@@ -3,7 +3,7 @@
 --
 -- A call on sound tables is planned by the tables and marks alone (`plan_sound`). The heap is read by the test of chains before
 -- (`plan`) and by `finish`, at the link of the one cell taken.
-use Rattle.std.specs.Prelude.{ℕ, ◌+◌, ◌-◌, ◌%◌, Bool, true, not, ◌&&◌, ◌||◌, List, [], ◌∷◌, ◌++◌, eqb, ltb, leb, length, get_or}
+use Rattle.std.specs.Prelude.{if◌then◌else◌, ℕ, ◌+◌, ◌-◌, ◌%◌, Bool, true, not, ◌&&◌, ◌||◌, List, [], ◌∷◌, ◌++◌, eqb, ltb, leb, length, get_or}
 use Rattle.model.specs.declared.Params.{Params}
 use Rattle.model.specs.declared.Offer.{Offer}
 use Rattle.model.specs.declared.Offer.TheVariants.{Nothing, Fresh}
@@ -11,7 +11,7 @@ use Rattle.model.specs.declared.Refusal.{Refusal}
 use Rattle.model.specs.declared.Refusal.TheVariants.{BadSetup, BadTables, WrongPhase, BadHolder, BadRequest, TooBig, BadOffer, BadLink, Exhausted, BadObject, BadLine, BadClasses}
 use Rattle.model.specs.declared.Tested.{Tested}
 use Rattle.model.specs.declared.Tested.TheVariants.{Passed, Refused}
-use Rattle.model.specs.Base.{if◌then◌else◌, sum_below, flag}
+use Rattle.model.specs.Base.{sum_below, flag}
 use Rattle.model.specs.Params.{good_params, power_of_two, Lent, fits, word_count, in_heap, start, block_at, minus_lower, bins, last_bin, local_sets, abandoned}
 use Rattle.model.specs.Memory.{load, marked}
 use Rattle.model.specs.Tables.{Words, Tables, tables_of, with_words, view, flat, set_free, set_cells}

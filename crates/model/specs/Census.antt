@@ -1,12 +1,12 @@
 -- "The census program": from the bytes of a trace to the bytes of the listing, as R-4 of document 02 amends it.
-use Rattle.std.specs.Prelude.{ℕ, zero, suc, ◌+◌, ◌-◌, ◌*◌, ◌/◌, ◌%◌, ◌^◌, ◌≡◌, Bool, true, false, not, ◌&&◌, ◌||◌, eqb, ltb, leb, pos, length, get_or, take, replicate}
+use Rattle.std.specs.Prelude.{if◌then◌else◌, ℕ, zero, suc, ◌+◌, ◌-◌, ◌*◌, ◌/◌, ◌%◌, ◌^◌, ◌≡◌, Bool, true, false, not, ◌&&◌, ◌||◌, eqb, ltb, leb, pos, length, get_or, take, replicate}
 use mathlib.Core.List.{List, [], ◌∷◌, ◌++◌, map, foldl, flatten, flat_map}
 use Rattle.std.proofs.Math.Option.{Option, some, none}
 use Rattle.model.specs.declared.Params.{Params}
 use Rattle.model.specs.declared.Offer.{Offer}
 use Rattle.model.specs.declared.Offer.TheVariants.{Nothing, Fresh}
 use Rattle.model.specs.declared.Refusal.TheVariants.{BadLine}
-use Rattle.model.specs.Base.{if◌then◌else◌, filter, all_below, member, In}
+use Rattle.model.specs.Base.{filter, all_below, member, In}
 use Rattle.model.specs.Params.{Lent, word_count, heap_bytes, abandoned, in_gc}
 use Rattle.model.specs.Tables.{Words, Tables}
 use Rattle.model.specs.SizeClasses.{no_rows}

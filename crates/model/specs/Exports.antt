@@ -4,7 +4,7 @@
 -- A host lends table words as bytes. The machine works on what they decode to, and its words go back encoded. Each undoes the
 -- other (`Inverse`), so a run through the exports is a run of the machine (`RunThroughExports`), and demand 3 holds of it
 -- (`Demand3ThroughExports`). crates/exports proves all three.
-use Rattle.std.specs.Prelude.{ℕ, zero, suc, ◌+◌, ◌*◌, ◌/◌, ◌%◌, ◌^◌, ◌<◌, ◌≡◌, Bool, ◌&&◌, ◌||◌, List, [], ◌∷◌, ◌++◌, map, eqb, leb, ℤ, length, get_or}
+use Rattle.std.specs.Prelude.{if◌then◌else◌, ℕ, zero, suc, ◌+◌, ◌*◌, ◌/◌, ◌%◌, ◌^◌, ◌<◌, ◌≡◌, Bool, ◌&&◌, ◌||◌, List, [], ◌∷◌, ◌++◌, map, eqb, leb, ℤ, length, get_or}
 use Rattle.model.specs.declared.Params.{Params}
 use Rattle.model.specs.declared.Row.{Row}
 use Rattle.model.specs.declared.Given.{Given}
@@ -12,7 +12,7 @@ use Rattle.model.specs.declared.Said.{Said}
 use Rattle.model.specs.declared.Offer.{Offer}
 use Rattle.model.specs.declared.Offer.TheVariants.{Nothing, Fresh}
 use Rattle.model.specs.declared.Refusal.TheVariants.{BadSetup, Exhausted}
-use Rattle.model.specs.Base.{if◌then◌else◌, In}
+use Rattle.model.specs.Base.{In}
 use Rattle.model.specs.Params.{Lent, max_rows}
 use Rattle.model.specs.Memory.{load_bytes, bytes_of}
 use Rattle.model.specs.SizeClasses.{tabulated}

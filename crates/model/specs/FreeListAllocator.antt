@@ -1,10 +1,9 @@
 -- "Allocator": the search for a block with a free cell, by tables and marks alone. The heap is not looked at here: it is
 -- read where chains are tested and where the cell is taken (Calls.antt).
-use Rattle.std.specs.Prelude.{ℕ, zero, suc, Bool, true, false, List, [], ◌∷◌, ◌++◌, eqb, get_or, set}
+use Rattle.std.specs.Prelude.{if◌then◌else◌, ℕ, zero, suc, Bool, true, false, List, [], ◌∷◌, ◌++◌, eqb, get_or, set}
 use Rattle.model.specs.declared.Params.{Params}
 use Rattle.model.specs.declared.Offer.{Offer}
 use Rattle.model.specs.declared.Offer.TheVariants.{Nothing, Fresh}
-use Rattle.model.specs.Base.{if◌then◌else◌}
 use Rattle.model.specs.Params.{start, block_at, local_sets, abandoned, available, unswept, consumed}
 use Rattle.model.specs.Tables.{Words, Tables, tables_of, with_words, set_tls}
 use Rattle.model.specs.SizeClasses.{cell_bytes}

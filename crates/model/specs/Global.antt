@@ -14,9 +14,9 @@
 --
 -- With the choice of eager sweeping (02, R-8) nothing becomes unswept: what a release leaves stays available or consumed, and the last
 -- one sweeps every occupied block and moves consumed blocks that have a free cell to available before the merge.
-use Rattle.std.specs.Prelude.{ℕ, zero, suc, ◌+◌, ◌-◌, ◌*◌, ◌/◌, Bool, true, false, not, ◌&&◌, ◌||◌, List, [], ◌∷◌, ◌++◌, map, eqb, leb, get_or, set, replicate}
+use Rattle.std.specs.Prelude.{if◌then◌else◌, ℕ, zero, suc, ◌+◌, ◌-◌, ◌*◌, ◌/◌, Bool, true, false, not, ◌&&◌, ◌||◌, List, [], ◌∷◌, ◌++◌, map, eqb, leb, get_or, set, replicate}
 use Rattle.model.specs.declared.Params.{Params}
-use Rattle.model.specs.Base.{if◌then◌else◌, all_below, sum_below, each_below}
+use Rattle.model.specs.Base.{all_below, sum_below, each_below}
 use Rattle.model.specs.Params.{word_count, block_at, heap_bytes, bins, holders, parts, local_sets, abandoned, in_gc, available, unswept, consumed}
 use Rattle.model.specs.Memory.{marked, set_mark, cleared}
 use Rattle.model.specs.Tables.{Words, view, Tables, tables_of, with_words, set_phase, set_bound, set_released, with_released}

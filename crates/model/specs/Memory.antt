@@ -2,9 +2,8 @@
 -- Every access is total: what lies past the end of a list reads as 0 and is not written. An address below `base` is taken for
 -- `base`; no call asks for one.
 -- A place (01's term) is a heap address, a multiple of 8, at which a mark is or may be set.
-use Rattle.std.specs.Prelude.{ℕ, zero, suc, ◌+◌, ◌-◌, ◌*◌, ◌/◌, ◌%◌, ◌^◌, Bool, ◌&&◌, List, [], ◌∷◌, eqb, get_or, set, replicate, length}
+use Rattle.std.specs.Prelude.{if◌then◌else◌, ℕ, zero, suc, ◌+◌, ◌-◌, ◌*◌, ◌/◌, ◌%◌, ◌^◌, Bool, ◌&&◌, List, [], ◌∷◌, eqb, get_or, set, replicate, length}
 use Rattle.model.specs.declared.Params.{Params}
-use Rattle.model.specs.Base.{if◌then◌else◌}
 use Rattle.model.specs.Params.{in_heap}
 
 -- the number that the n bytes from i on make, low byte first; and the n bytes that hold v

@@ -1,9 +1,8 @@
 -- 02, R-5: "With 01's own sizes up to the block given as rows, every earlier answer returns on tables with no block in a higher bin",
 -- as one proposition, `OwnRows`. crates/soundness proves it.
-use Rattle.std.specs.Prelude.{ℕ, ◌+◌, ◌-◌, ◌<◌, ◌≤◌, ◌≡◌, ◌≢◌, List, eqb, get_or}
+use Rattle.std.specs.Prelude.{if◌then◌else◌, ℕ, ◌+◌, ◌-◌, ◌<◌, ◌≤◌, ◌≡◌, ◌≢◌, List, eqb, get_or}
 use Rattle.model.specs.declared.Params.{Params}
 use Rattle.model.specs.declared.Row.{Row}
-use Rattle.model.specs.Base.{if◌then◌else◌}
 use Rattle.model.specs.Params.{Lent, max_rows}
 use Rattle.model.specs.Tables.{view}
 use Rattle.model.specs.SizeClasses.{class_words, mi_bin, tabulated}

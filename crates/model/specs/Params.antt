@@ -1,7 +1,7 @@
 -- "What must change shape": the parameters and what may be lent, where blocks and heap bytes stand, and how lists are numbered.
-use Rattle.std.specs.Prelude.{ℕ, suc, ◌+◌, ◌-◌, ◌*◌, ◌/◌, ◌%◌, ◌^◌, Bool, not, ◌&&◌, ◌||◌, List, eqb, ltb, leb, ℤ, pos, negsuc, nat_abs, length}
+use Rattle.std.specs.Prelude.{if◌then◌else◌, ℕ, suc, ◌+◌, ◌-◌, ◌*◌, ◌/◌, ◌%◌, ◌^◌, Bool, not, ◌&&◌, ◌||◌, List, eqb, ltb, leb, ℤ, pos, negsuc, nat_abs, length}
 use Rattle.model.specs.declared.Params.{Params}
-use Rattle.model.specs.Base.{if◌then◌else◌, any_below}
+use Rattle.model.specs.Base.{any_below}
 
 -- a power of two up to 65,536, the largest that 01 asks for
 unfoldable pub power_of_two : ℕ → Bool

@@ -6,10 +6,10 @@
 -- They are about `call` (Calls.antt), for all parameters, buffers and calls: that buffers fit and that tables are sound is
 -- tested by the call itself and is no premise. They are proved in the crate soundness, but for `NoBadTables`, which is proved in
 -- runs.
-use Rattle.std.specs.Prelude.{ℕ, ◌+◌, ◌<◌, ◌≡◌, ◌≢◌, ◌⊎◌, Bool, true, false, not, ◌&&◌, ◌||◌, List, [], ◌∷◌, eqb, ltb, leb, get_or}
+use Rattle.std.specs.Prelude.{if◌then◌else◌, ℕ, ◌+◌, ◌<◌, ◌≡◌, ◌≢◌, ◌⊎◌, Bool, true, false, not, ◌&&◌, ◌||◌, List, [], ◌∷◌, eqb, ltb, leb, get_or}
 use Rattle.model.specs.declared.Params.{Params}
 use Rattle.model.specs.declared.Refusal.TheVariants.{BadTables, BadLink, Exhausted}
-use Rattle.model.specs.Base.{if◌then◌else◌, flag, sum_below, In}
+use Rattle.model.specs.Base.{flag, sum_below, In}
 use Rattle.model.specs.Params.{good_params, Lent, fits, list_word, local_sets, abandoned, available, unswept, consumed}
 use Rattle.model.specs.Tables.{Words, view}
 use Rattle.model.specs.SizeClasses.{bin_of, raised}

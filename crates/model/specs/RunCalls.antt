@@ -3,13 +3,13 @@
 -- it are a run of the machine (`RunOfRows`, proved in crates/runs), of which demand 3 speaks.
 --
 -- Its reason is time alone: parameters, rows, lengths, tables and chains are tested once for all its calls.
-use Rattle.std.specs.Prelude.{ℕ, zero, suc, ◌+◌, ◌*◌, ◌/◌, ◌%◌, ◌≡◌, Bool, true, ◌&&◌, List, [], ◌∷◌, ◌++◌, map, eqb, leb, length, get_or}
+use Rattle.std.specs.Prelude.{if◌then◌else◌, ℕ, zero, suc, ◌+◌, ◌*◌, ◌/◌, ◌%◌, ◌≡◌, Bool, true, ◌&&◌, List, [], ◌∷◌, ◌++◌, map, eqb, leb, length, get_or}
 use Rattle.std.proofs.Math.Option.{Option, some, none}
 use Rattle.model.specs.declared.Params.{Params}
 use Rattle.model.specs.declared.Given.{Given}
 use Rattle.model.specs.declared.Said.{Said}
 use Rattle.model.specs.declared.Refusal.TheVariants.{BadSetup, BadLine}
-use Rattle.model.specs.Base.{if◌then◌else◌, In}
+use Rattle.model.specs.Base.{In}
 use Rattle.model.specs.Params.{Lent}
 use Rattle.model.specs.Calls.{refusal_number, Reply, answered, refused, Call, bind, destroy, alloc, prepare, mark, release, shared_release, Result, call}
 use Rattle.model.specs.Answers.{said_of}

@@ -4,12 +4,12 @@
 -- First the book, by which 01 ("Runs and held cells") says what is held; then runs, with what holders write between calls; then
 -- the demand's premises, what a reader of two runs sees, and what holds in each. Words in quotes after "01:" are 01's; the others
 -- are the demand's own.
-use Rattle.std.specs.Prelude.{ℕ, ◌+◌, ◌-◌, ◌≤◌, ◌<◌, ◌≡◌, Bool, true, false, not, ◌&&◌, eqb, get_or, set}
+use Rattle.std.specs.Prelude.{if◌then◌else◌, ℕ, ◌+◌, ◌-◌, ◌≤◌, ◌<◌, ◌≡◌, Bool, true, false, not, ◌&&◌, eqb, get_or, set}
 use mathlib.Core.List.{List, [], ◌∷◌, map, foldl}
 use Rattle.model.specs.declared.Params.{Params}
 use Rattle.model.specs.declared.Offer.{Offer}
 use Rattle.model.specs.declared.Refusal.TheVariants.{Exhausted}
-use Rattle.model.specs.Base.{if◌then◌else◌, member, filter, any, In, Pairwise}
+use Rattle.model.specs.Base.{member, filter, any, In, Pairwise}
 use Rattle.model.specs.Params.{Lent, heap_end, block_at}
 use Rattle.model.specs.SizeClasses.{align_allocation}
 use Rattle.model.specs.Block.{keeps}

@@ -1,7 +1,6 @@
 -- "Side metadata", "Pointers to lists" and "Phases": all that calls keep outside the heap.
 -- The words are lent in one slice, one table after the other; `view` takes it apart and `flat` puts it together again.
-use Rattle.std.specs.Prelude.{ℕ, ◌+◌, ◌-◌, ◌*◌, ◌/◌, List, ◌∷◌, ◌++◌, ltb, length, take, drop, get_or, set}
-use Rattle.model.specs.Base.{if◌then◌else◌}
+use Rattle.std.specs.Prelude.{if◌then◌else◌, ℕ, ◌+◌, ◌-◌, ◌*◌, ◌/◌, List, ◌∷◌, ◌++◌, ltb, length, take, drop, get_or, set}
 use Rattle.model.specs.Params.{lists, holders, parts, phase_word, bound_words, released_words, head_words, block_tables}
 
 pub record Words : Type 0 where

@@ -1,7 +1,6 @@
 -- What the census program's leaves promise about text: where a piece ends, the lines from a place on, and bytes put one behind
 -- the other in a lent buffer.
-use Rattle.std.specs.Prelude.{◌≡◌, List, [], ◌∷◌, ◌++◌, ℕ, suc, ◌+◌, ◌≤◌, min, max, eqb, length, take, drop}
-use Rattle.model.specs.Base.{if◌then◌else◌}
+use Rattle.std.specs.Prelude.{if◌then◌else◌, ◌≡◌, List, [], ◌∷◌, ◌++◌, ℕ, suc, ◌+◌, ◌≤◌, min, max, eqb, length, take, drop}
 use Rattle.model.specs.Memory.{overwrite}
 use Rattle.model.specs.Census.{newline, before, pieces, drop_blank_end}
 

@@ -1,4 +1,5 @@
 -- The search of abandoned blocks, turn by turn: one law for each way on or out. Plain values alone stand here. Assumes nothing.
+use Rattle.std.specs.Prelude.{if◌then◌else◌}
 use Prim.Native.Nat.{ℕ, zero, suc, ◌+◌, ◌-◌, ◌<◌, ◌≤◌}
 use mathlib.Core.Path.{◌≡◌, refl}
 use mathlib.Core.Bool.{Bool, true, false}
@@ -9,7 +10,7 @@ use lib.Dec.{eqb}
 use lib.ListN.{get_or}
 use borrow.Author.Tests.{eq-eqb, ne_eqb}
 use Rattle.model.specs.declared.Params.{Params}
-use Rattle.model.specs.Base.{if◌then◌else◌, filter, flag}
+use Rattle.model.specs.Base.{filter, flag}
 use Rattle.model.specs.Params.{block_at, local_sets, available, unswept, consumed}
 use Rattle.model.specs.Tables.{Words, set_tls}
 use Rattle.model.specs.BlockList.{Popped, popped, pop, push}

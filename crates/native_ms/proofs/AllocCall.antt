@@ -1,4 +1,5 @@
 -- The tests of an alloc and its whole call: one law for each way out. Plain values alone stand here. Assumes nothing.
+use Rattle.std.specs.Prelude.{if◌then◌else◌}
 use Prim.Native.Nat.{ℕ, ◌<◌, ◌≤◌}
 use mathlib.Core.Path.{◌≡◌, refl, sym, ap, ◌∙◌, subst}
 use mathlib.Core.Bool.{Bool, true, false}
@@ -16,7 +17,6 @@ use Rattle.model.specs.declared.Refusal.{Refusal}
 use Rattle.model.specs.declared.Refusal.TheVariants.{BadRequest, TooBig, BadOffer}
 use Rattle.model.specs.declared.Tested.{Tested}
 use Rattle.model.specs.declared.Tested.TheVariants as Test
-use Rattle.model.specs.Base.{if◌then◌else◌}
 use Rattle.model.specs.Tables.{Words, Tables, tables_of, view}
 use Rattle.model.specs.SizeClasses.{bin_of, raised}
 use Rattle.model.specs.FreeListAllocator.{find_block}

@@ -1,5 +1,6 @@
 -- The blocks on one list and on 48 lists, as the code counts them: a count, or that a walk goes wrong.
 -- Each law is one way on or out of a walk. Assumes nothing.
+use Rattle.std.specs.Prelude.{if◌then◌else◌}
 use Prim.Native.Nat.{ℕ, zero, suc, ◌+◌, ◌-◌, ◌*◌, ◌/◌, ◌<◌, ◌≤◌}
 use mathlib.Core.Path.{◌≡◌, refl, sym, ap, ◌∙◌, subst, subst⁻¹}
 use mathlib.Core.Bool.{Bool, true, false}
@@ -11,7 +12,7 @@ use lib.Dec.{eqb}
 use lib.ListN.{length, get_or}
 use borrow.Author.Tests.{eq-eqb, ne_eqb, eqb-true}
 use Rattle.model.specs.declared.Params.{Params}
-use Rattle.model.specs.Base.{if◌then◌else◌, all_below, sum_below}
+use Rattle.model.specs.Base.{all_below, sum_below}
 use Rattle.model.specs.declared.Refusal.TheVariants.{BadSetup, BadTables}
 use Rattle.model.specs.Params.{good_params, word_count, block_at, is_start, head_words, block_tables}
 use Rattle.model.specs.Tables.{view}

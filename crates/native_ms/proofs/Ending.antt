@@ -1,4 +1,5 @@
 -- The whole search and the end of a call that serves: one law for each way out. Plain values alone stand here. Assumes nothing.
+use Rattle.std.specs.Prelude.{if◌then◌else◌}
 use Prim.Native.Nat.{ℕ, zero, suc, ◌+◌, ◌^◌, ◌<◌}
 use mathlib.Core.Path.{◌≡◌, refl, sym, ap, ◌∙◌}
 use mathlib.Core.Bool.{Bool, true, false}
@@ -12,7 +13,7 @@ use Rattle.model.specs.declared.Params.{Params}
 use Rattle.model.specs.declared.Block.{Block}
 use Rattle.model.specs.declared.Offer.{Offer}
 use Rattle.model.specs.declared.Offer.TheVariants.{Nothing, Fresh}
-use Rattle.model.specs.Base.{if◌then◌else◌, filter, flag}
+use Rattle.model.specs.Base.{filter, flag}
 use Rattle.model.specs.Params.{good_params, start, block_at, local_sets, available, consumed}
 use Rattle.model.specs.Tables.{Words, Tables, tables_of, with_words}
 use Rattle.model.specs.SizeClasses.{cell_bytes, align_allocation}

@@ -1,5 +1,6 @@
 -- Free heads stay below 2^47: sound tables have only such, and a search makes no other. So the address of the cell that is taken
 -- fits a word with room to shift it. Assumes nothing.
+use Rattle.std.specs.Prelude.{if◌then◌else◌}
 use Prim.Native.Nat.{ℕ, zero, suc, ◌+◌, ◌-◌, ◌*◌, ◌/◌, ◌%◌, ◌^◌, ◌<◌, ◌≤◌}
 use mathlib.Core.Path.{◌≡◌, refl, sym, subst}
 use mathlib.Core.Bool.{Bool, true, false, ◌&&◌}
@@ -13,7 +14,7 @@ use borrow.Author.Tests.{eqb-true, ltb-true, ltb-false, leb-true}
 use Rattle.model.specs.declared.Params.{Params}
 use Rattle.model.specs.declared.Offer.{Offer}
 use Rattle.model.specs.declared.Offer.TheVariants.{Nothing, Fresh}
-use Rattle.model.specs.Base.{if◌then◌else◌, all_below, In}
+use Rattle.model.specs.Base.{all_below, In}
 use Rattle.model.specs.Params.{start, local_sets, available, lists}
 use Rattle.model.specs.Tables.{Words, Tables, set_tls, set_size, set_free, set_cells}
 use Rattle.model.specs.SizeClasses.{cell_bytes}

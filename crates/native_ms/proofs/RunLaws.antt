@@ -1,5 +1,6 @@
 -- The laws of `run`: an entry read, a call made on what passed the first tests, answers laid one behind the other, and that what passed
 -- the first tests passes them again after each call. Leans on soundness (`sound_kept`); assumes nothing.
+use Rattle.std.specs.Prelude.{if◌then◌else◌}
 use Prim.Native.Nat.{ℕ, zero, suc, ◌+◌, ◌-◌, ◌*◌, ◌/◌, ◌%◌, ◌≤◌, ◌<◌}
 use mathlib.Core.Path.{◌≡◌, refl, sym, ap, ◌∙◌, subst}
 use mathlib.Core.Bool.{true}
@@ -17,7 +18,6 @@ use Rattle.model.specs.declared.Refusal.{Refusal}
 use Rattle.model.specs.declared.Refusal.TheVariants.{BadSetup, BadLine}
 use Rattle.model.specs.declared.Tested.{Tested}
 use Rattle.model.specs.declared.Tested.TheVariants.{Passed, Refused}
-use Rattle.model.specs.Base.{if◌then◌else◌}
 use Rattle.model.specs.Params.{Lent, fits}
 use Rattle.model.specs.Memory.{overwrite}
 use Rattle.model.specs.Tables.{tables_of, view}

@@ -1,4 +1,5 @@
 -- The code's soundness is 01's: `sound_walk_lem`. The lists' part is the counting of laws/proofs/Linked.antt. Assumes nothing.
+use Rattle.std.specs.Prelude.{if◌then◌else◌}
 use Prim.Native.Nat.{ℕ, zero, suc, ◌+◌, ◌-◌, ◌<◌, ◌≤◌}
 use mathlib.Core.Path.{◌≡◌, refl, sym, ap, ◌∙◌, subst}
 use mathlib.Core.Bool.{Bool, true, false, not, ◌&&◌, ◌||◌}
@@ -11,7 +12,7 @@ use lib.Dec.{eqb, leb}
 use lib.ListN.{length, get_or}
 use borrow.Author.Tests.{eqb-true, eqb-false, eq-eqb, ne_eqb, not-true}
 use Rattle.model.specs.declared.Params.{Params}
-use Rattle.model.specs.Base.{if◌then◌else◌, all_below, sum_below, flag}
+use Rattle.model.specs.Base.{all_below, sum_below, flag}
 use Rattle.model.specs.Params.{good_params, block_at, local_sets}
 use Rattle.model.specs.Tables.{Words, Tables, tables_of}
 use Rattle.model.specs.BlockList.{walk, blocks_on}

@@ -1,4 +1,5 @@
 -- The code's tests of soundness: one law on plain values for each way out of a function. Assumes nothing.
+use Rattle.std.specs.Prelude.{if◌then◌else◌}
 use Prim.Native.Nat.{ℕ, zero, suc, ◌+◌, ◌-◌, ◌*◌, ◌/◌, ◌%◌, ◌<◌, ◌≤◌}
 use mathlib.Core.Path.{◌≡◌, refl, sym, ap, ◌∙◌, subst}
 use mathlib.Core.Bool.{Bool, true, false, not, ◌&&◌, ◌||◌}
@@ -10,7 +11,7 @@ use lib.Dec.{eqb, leb, ltb}
 use lib.ListN.{get_or}
 use borrow.Author.Tests.{eq-eqb, ne_eqb, lt-ltb, le-ltb, le-leb, lt-leb}
 use Rattle.model.specs.declared.Params.{Params}
-use Rattle.model.specs.Base.{if◌then◌else◌, all_below, any_below, sum_below, flag}
+use Rattle.model.specs.Base.{all_below, any_below, sum_below, flag}
 use Rattle.model.specs.Params.{start, block_at, is_start, list_of, list_word, local_sets}
 use Rattle.model.specs.Tables.{Words}
 use Rattle.model.specs.SizeClasses.{cell_bytes}

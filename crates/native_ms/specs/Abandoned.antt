@@ -1,7 +1,6 @@
 -- One turn of the search of abandoned blocks, as the code cuts it: a block is popped, and then taken over.
-use Rattle.std.specs.Prelude.{ℕ, ◌≡◌, Bool, true, false, not, List, eqb, get_or}
+use Rattle.std.specs.Prelude.{if◌then◌else◌, ℕ, ◌≡◌, Bool, true, false, not, List, eqb, get_or}
 use Rattle.model.specs.declared.Params.{Params}
-use Rattle.model.specs.Base.{if◌then◌else◌}
 use Rattle.model.specs.Params.{local_sets, abandoned, available, unswept, consumed}
 use Rattle.model.specs.Tables.{Words, set_tls}
 use Rattle.model.specs.BlockList.{Popped, push, pop}

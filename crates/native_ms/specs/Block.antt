@@ -1,8 +1,8 @@
 -- What the steps on one block promise of words and heap, with a name for each part.
-use Rattle.std.specs.Prelude.{ℕ, ◌+◌, ◌-◌, ◌*◌, ◌≤◌, ◌^◌, ◌≡◌, Bool, true, get_or, set, length}
+use Rattle.std.specs.Prelude.{if◌then◌else◌, ℕ, ◌+◌, ◌-◌, ◌*◌, ◌≤◌, ◌^◌, ◌≡◌, Bool, true, get_or, set, length}
 use mathlib.Core.List.{List, head_d}
 use Rattle.model.specs.declared.Params.{Params}
-use Rattle.model.specs.Base.{if◌then◌else◌, any_below}
+use Rattle.model.specs.Base.{any_below}
 use Rattle.model.specs.Params.{good_params, start, plus_lower}
 use Rattle.model.specs.Memory.{load, zeroed, marked}
 use Rattle.model.specs.SizeClasses.{words_in}

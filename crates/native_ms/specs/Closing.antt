@@ -1,8 +1,7 @@
 -- How the searches of the code meet those of the machine: the machine gives words and events, the code gives words, a heap and
 -- a count. What is promised of each inner step of the allocator, with a name for each part.
-use Rattle.std.specs.Prelude.{ℕ, ◌+◌, ◌≤◌, ◌≡◌, Bool, not, List, eqb, get_or}
+use Rattle.std.specs.Prelude.{if◌then◌else◌, ℕ, ◌+◌, ◌≤◌, ◌≡◌, Bool, not, List, eqb, get_or}
 use Rattle.model.specs.declared.Params.{Params}
-use Rattle.model.specs.Base.{if◌then◌else◌}
 use Rattle.model.specs.Tables.{Words}
 use Rattle.model.specs.BlockList.{Popped, popped, push}
 use Rattle.model.specs.Events.{events_heap, sweeps}

@@ -1,8 +1,8 @@
 -- The blocks on one list and on 48 lists, as the code counts them: a count, or that a walk goes wrong.
 -- Each law is one way on or out of a walk. Assumes nothing.
-use Rattle.std.specs.Prelude.{ℕ, ◌+◌, ◌*◌, ◌/◌, Bool, ◌&&◌, List, [], ◌∷◌, eqb, length, get_or}
+use Rattle.std.specs.Prelude.{if◌then◌else◌, ℕ, ◌+◌, ◌*◌, ◌/◌, Bool, ◌&&◌, List, [], ◌∷◌, eqb, length, get_or}
 use Rattle.model.specs.declared.Params.{Params}
-use Rattle.model.specs.Base.{if◌then◌else◌, all_below, sum_below}
+use Rattle.model.specs.Base.{all_below, sum_below}
 use Rattle.model.specs.declared.Refusal.TheVariants.{BadSetup, BadTables}
 use Rattle.model.specs.Params.{good_params, bins, last_bin, word_count}
 use Rattle.model.specs.BlockList.{walk, ends}

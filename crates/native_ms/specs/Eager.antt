@@ -1,7 +1,6 @@
 -- The end of a collection with eager sweeping (02, R-8): what the code is seen by, beside the machine's events.
-use Rattle.std.specs.Prelude.{ℕ, Bool, ◌&&◌, ◌||◌, List, eqb, leb, get_or}
+use Rattle.std.specs.Prelude.{if◌then◌else◌, ℕ, Bool, ◌&&◌, ◌||◌, List, eqb, leb, get_or}
 use Rattle.model.specs.declared.Params.{Params}
-use Rattle.model.specs.Base.{if◌then◌else◌}
 use Rattle.model.specs.Params.{abandoned, in_gc}
 use Rattle.model.specs.Tables.{Words, set_phase, set_released}
 use Rattle.model.specs.BlockList.{push, remove, append}

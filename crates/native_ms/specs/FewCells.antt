@@ -1,6 +1,5 @@
 -- What the sum of free counts leans on.
-use Rattle.std.specs.Prelude.{ℕ, ◌≤◌, eqb, get_or}
-use Rattle.model.specs.Base.{if◌then◌else◌}
+use Rattle.std.specs.Prelude.{if◌then◌else◌, ℕ, ◌≤◌, eqb, get_or}
 use Rattle.model.specs.Tables.{Words}
 use Rattle.model.specs.Sound.{bin_named}
 

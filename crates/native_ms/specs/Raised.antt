@@ -1,8 +1,7 @@
 -- The raised size as the code answers it: what it is where a block holds it, and else that it is too big. And the shifted
 -- address: what it is in the ranges of a request, and else that it is off.
-use Rattle.std.specs.Prelude.{ℕ, ◌^◌, ◌&&◌, ltb, leb}
+use Rattle.std.specs.Prelude.{if◌then◌else◌, ℕ, ◌^◌, ◌&&◌, ltb, leb}
 use Rattle.model.specs.declared.Params.{Params}
-use Rattle.model.specs.Base.{if◌then◌else◌}
 use Rattle.model.specs.SizeClasses.{raised, align_allocation}
 use Rattle.model.specs.Calls.{too_big}
 use Rattle.native_ms.specs.declared.allocator.Raised.{Raised}

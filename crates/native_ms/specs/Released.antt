@@ -1,7 +1,7 @@
 -- Releases of blocks with their counts: what the code is seen by, beside the machine's events.
-use Rattle.std.specs.Prelude.{ℕ, List, eqb, get_or, set}
+use Rattle.std.specs.Prelude.{if◌then◌else◌, ℕ, List, eqb, get_or, set}
 use Rattle.model.specs.declared.Params.{Params}
-use Rattle.model.specs.Base.{if◌then◌else◌, each_below}
+use Rattle.model.specs.Base.{each_below}
 use Rattle.model.specs.Tables.{Words}
 use Rattle.model.specs.BlockList.{remove}
 use Rattle.model.specs.Block.{state_unallocated, state_unmarked, clear_block}

@@ -1,8 +1,8 @@
 -- Soundness as the code tests it: each block by itself; each list walked once, the walks sharing the count of blocks, so that
 -- all lists together take as many steps as there are lists and blocks; each holder, each part. `SoundLaws` says that this is 01's soundness.
-use Rattle.std.specs.Prelude.{ℕ, zero, suc, Bool, not, ◌&&◌, ◌||◌, List, eqb, leb, get_or}
+use Rattle.std.specs.Prelude.{if◌then◌else◌, ℕ, zero, suc, Bool, not, ◌&&◌, ◌||◌, List, eqb, leb, get_or}
 use Rattle.model.specs.declared.Params.{Params}
-use Rattle.model.specs.Base.{if◌then◌else◌, all_below, sum_below, flag}
+use Rattle.model.specs.Base.{all_below, sum_below, flag}
 use Rattle.model.specs.Params.{block_at, is_start, list_word, local_sets, lists}
 use Rattle.model.specs.Tables.{Words}
 use Rattle.model.specs.Block.{state_unallocated, state_unmarked, state_marked}

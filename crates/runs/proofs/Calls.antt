@@ -1,4 +1,5 @@
 -- Every call, on tables and a heap under the invariant: its plan, and its step.
+use Rattle.std.specs.Prelude.{if◌then◌else◌}
 use mathlib.Core.Path.{◌≡◌, refl, ap, ◌∙◌}
 use mathlib.Core.Bool.{Bool, true, false, ◌&&◌}
 use mathlib.Core.List.{List}
@@ -18,7 +19,6 @@ use Rattle.model.specs.Classes.{classes_fit}
 use Rattle.model.specs.Events.{Event, events_heap}
 use Rattle.model.specs.FreeListAllocator.{find_block}
 use Rattle.model.specs.Global.{is_holder, is_bound}
-use Rattle.model.specs.Base.{if◌then◌else◌}
 use Rattle.model.specs.Sound.{sound, eager_ok, chained, sound_on}
 use Rattle.model.specs.Calls.{Call, bind, destroy, alloc, prepare, mark, release, shared_release, End, says, takes, Plan, refuses, take_plan, call_tests, plan_passed, plan_sound, plan, finish, step}
 use Rattle.model.specs.Runs.{Book, book_events, taker_of}

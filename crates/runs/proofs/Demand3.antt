@@ -1,5 +1,6 @@
 -- Demand 3, as the model states it: every run follows the run over the shadow, which knows no heap, so two runs with the same
 -- calls agree; and each turn keeps what is held.
+use Rattle.std.specs.Prelude.{if◌then◌else◌}
 use mathlib.Core.Path.{◌≡◌, refl, sym, ap, ◌∙◌, subst}
 use mathlib.Core.Logic.{◌≢◌, ◌⊎◌, inl, inr, ⊎_elim}
 use mathlib.Core.Bool.{Bool, true, false, not, ◌&&◌}
@@ -11,7 +12,7 @@ use lib.ListN.{length, get_or, set, length-set, replicate, length-replicate, get
 use lib.Seq.{get_or-set_other}
 use Rattle.model.specs.declared.Params.{Params}
 use Rattle.model.specs.declared.Refusal.TheVariants.{BadSetup, BadTables, BadRequest, BadClasses}
-use Rattle.model.specs.Base.{if◌then◌else◌, In, Pairwise, member}
+use Rattle.model.specs.Base.{In, Pairwise, member}
 use Rattle.model.specs.Params.{good_params, Lent, fits, word_count, heap_bytes, block_at, unswept, last_bin}
 use Rattle.model.specs.Memory.{marked, cleared}
 use Rattle.model.specs.Tables.{blocks_in, Tables, view, flat}

@@ -2,6 +2,7 @@
 --
 -- The shadow is each block's free chain, as a list of addresses (soundness Chains). No held cell is on it. Held cells are whole
 -- cells of occupied blocks. The mark bits say what the book's places say, and a block with a place is Marked.
+use Rattle.std.specs.Prelude.{if◌then◌else◌}
 use mathlib.Core.Path.{◌≡◌, refl, sym, ap, ◌∙◌, subst}
 use mathlib.Core.Logic.{◌≢◌, ◌⊎◌, inl, inr, ⊎_elim}
 use mathlib.Core.Bool.{Bool, true, false, not, ◌&&◌}
@@ -14,7 +15,7 @@ use lib.ListN.{length, get_or, set, length-set, get_or-eq_default}
 use lib.Seq.{get_or-set_other}
 use borrow.Author.Tests.{eqb-false, eq-eqb, ne_eqb, not-true}
 use Rattle.model.specs.declared.Params.{Params}
-use Rattle.model.specs.Base.{if◌then◌else◌, In, Pairwise, member, any_below}
+use Rattle.model.specs.Base.{In, Pairwise, member, any_below}
 use Rattle.model.specs.Params.{block_at, in_heap, heap_bytes, plus_lower, minus_lower, biased}
 use Rattle.model.specs.Memory.{zeroed, marked}
 use Rattle.model.specs.SizeClasses.{words_in}

@@ -1,4 +1,5 @@
 -- Every call's plan keeps the invariant of a run. Alloc's is in AllocPlan.antt.
+use Rattle.std.specs.Prelude.{if◌then◌else◌}
 use mathlib.Core.Path.{◌≡◌, refl, sym, ap, ◌∙◌, subst}
 use mathlib.Core.Logic.{◌≢◌, inl, inr, ⊎_elim}
 use mathlib.Core.Bool.{Bool, true, false, not, ◌&&◌, ◌||◌}
@@ -13,7 +14,7 @@ use borrow.Author.Tests.{eqb-true, eqb-false, eq-eqb, ne_eqb, not-true, ltb-true
 use Rattle.model.specs.declared.Params.{Params}
 use Rattle.model.specs.declared.Refusal.{Refusal}
 use Rattle.model.specs.declared.Refusal.TheVariants.{BadSetup, BadTables, WrongPhase, BadHolder, BadRequest, TooBig, BadOffer, BadLink, Exhausted, BadObject, BadLine, BadClasses}
-use Rattle.model.specs.Base.{if◌then◌else◌, In, Pairwise, member, each_below, flag}
+use Rattle.model.specs.Base.{In, Pairwise, member, each_below, flag}
 use Rattle.model.specs.Params.{start, block_at, in_heap, minus_lower, list_word, local_sets, abandoned, in_gc, available, unswept, consumed, bins}
 use Rattle.model.specs.Memory.{marked}
 use Rattle.model.specs.Tables.{Words, Tables, set_first, set_last, set_bound, set_released, set_phase, with_released, set_free, set_size, set_next, set_prev, set_list, set_tls, set_cells}

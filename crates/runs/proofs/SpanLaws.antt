@@ -1,5 +1,6 @@
 -- What holds of a run from one turn to a later one, as the model states it (Spans). Leans on demand 3's clause on lost cells:
 -- an event strikes out a cell only while it is unmarked, and until the next answered prepare places are only added.
+use Rattle.std.specs.Prelude.{if◌then◌else◌}
 use mathlib.Core.Path.{◌≡◌, refl, sym, ap, ◌∙◌, subst}
 use mathlib.Core.Logic.{⊎_elim}
 use mathlib.Core.Bool.{Bool, true, false, not, ◌&&◌, ◌||◌}
@@ -8,7 +9,7 @@ use Prim.Native.Nat.{ℕ, zero, suc, ◌+◌, ◌*◌}
 use lib.Dec.{eqb}
 use borrow.Author.Tests.{not-false}
 use Rattle.model.specs.declared.Params.{Params}
-use Rattle.model.specs.Base.{if◌then◌else◌, any_below, member, any, In}
+use Rattle.model.specs.Base.{any_below, member, any, In}
 use Rattle.model.specs.Params.{plus_lower}
 use Rattle.model.specs.SizeClasses.{words_in}
 use Rattle.model.specs.Block.{keeps, simple}

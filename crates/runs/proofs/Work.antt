@@ -1,6 +1,7 @@
 -- The work of one call in Running (02, R-12): what it sweeps waited on an abandoned unswept list, and it moves a block to a consumed list
 -- as often as the block's list word says. Both go by list words and events alone, and each is one sum that every step of the search
 -- keeps. Assumes nothing.
+use Rattle.std.specs.Prelude.{if◌then◌else◌}
 use mathlib.Core.Path.{◌≡◌, refl, sym, ap, ◌∙◌, subst}
 use mathlib.Core.Logic.{◌≢◌, ◌⊎◌, ⊎_elim}
 use mathlib.Core.Bool.{Bool, true, false, not, ◌&&◌}
@@ -12,7 +13,7 @@ use lib.Dec.{eqb}
 use lib.ListN.{length, get_or, length-append}
 use borrow.Author.Tests.{eq-eqb, ne_eqb}
 use Rattle.model.specs.declared.Params.{Params}
-use Rattle.model.specs.Base.{if◌then◌else◌, filter, sum_below, flag}
+use Rattle.model.specs.Base.{filter, sum_below, flag}
 use Rattle.model.specs.Params.{block_at, list_of, list_word, local_sets, abandoned, available, unswept, consumed}
 use Rattle.model.specs.Tables.{Words, set_free, set_tls, set_cells}
 use Rattle.model.specs.BlockList.{Popped, push, pop}

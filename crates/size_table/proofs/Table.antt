@@ -1,4 +1,5 @@
 -- What stands in a tabulated list, and past its end; so the bin of any word count, read off the table. Assumes nothing.
+use Rattle.std.specs.Prelude.{if◌then◌else◌}
 use Prim.Native.Nat.{ℕ, zero, suc, ◌+◌, ◌*◌, ◌<◌, ◌≤◌}
 use mathlib.Core.Path.{◌≡◌, refl, sym, ap, ◌∙◌}
 use mathlib.Core.Bool.{true}
@@ -8,7 +9,6 @@ use native.Mathlib.Omega.{arith}
 use lib.ListN.{length, get_or}
 use lib.Dec.{ltb}
 use borrow.Author.Tests.{lt-ltb}
-use Rattle.model.specs.Base.{if◌then◌else◌}
 use Rattle.model.specs.SizeClasses.{mi_bin, bin_of_words, tabulated, bin_table}
 
 pub tabulated_length : (f : ℕ → ℕ) (n i : ℕ) → length (tabulated f n i) ≡ n

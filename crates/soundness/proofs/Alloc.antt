@@ -1,6 +1,7 @@
 -- The search of an alloc keeps tables good. A block that moves from one list to another is first taken out (`Out`: good tables
 -- but for this block, which is on no list), perhaps gets a new free head or holder, and is then filed.
 -- Assumes nothing.
+use Rattle.std.specs.Prelude.{if◌then◌else◌}
 use mathlib.Core.Path.{◌≡◌, refl, sym, ap, ◌∙◌, subst}
 use mathlib.Core.Logic.{◌≢◌, inl, inr, ⊎_elim}
 use mathlib.Core.Bool.{Bool, true, false, ◌||◌}
@@ -14,7 +15,7 @@ use borrow.Author.Tests.{eqb-true, ltb-true, le-leb}
 use Rattle.model.specs.declared.Params.{Params}
 use Rattle.model.specs.declared.Offer.{Offer}
 use Rattle.model.specs.declared.Offer.TheVariants.{Nothing, Fresh}
-use Rattle.model.specs.Base.{if◌then◌else◌, In}
+use Rattle.model.specs.Base.{In}
 use Rattle.model.specs.Params.{start, block_at, list_word, local_sets, abandoned, available, unswept, consumed}
 use Rattle.model.specs.Tables.{Words, Tables, tables_of, with_words, set_first, set_last, set_next, set_prev, set_free, set_size, set_list, set_tls, set_cells}
 use Rattle.model.specs.SizeClasses.{cell_bytes}

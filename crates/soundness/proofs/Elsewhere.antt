@@ -1,5 +1,6 @@
 -- Rows change nothing but the class of a size and the size of a bin (02, R-5): every other definition gives the same for parameters that
 -- differ in their rows alone. By computation where it is no walk, and by induction where it is. Assumes nothing.
+use Rattle.std.specs.Prelude.{if◌then◌else◌}
 use mathlib.Core.Path.{◌≡◌, refl, sym, ap, ◌∙◌}
 use mathlib.Core.Bool.{Bool, true, false, not, ◌&&◌, ◌||◌}
 use mathlib.Core.List.{List, [], ◌∷◌, ◌++◌, head_d}
@@ -8,7 +9,7 @@ use lib.Dec.{eqb, leb}
 use lib.ListN.{length, get_or, set, replicate}
 use Rattle.model.specs.declared.Params.{Params}
 use Rattle.model.specs.declared.Row.{Row}
-use Rattle.model.specs.Base.{if◌then◌else◌, all_below, sum_below, each_below, member}
+use Rattle.model.specs.Base.{all_below, sum_below, each_below, member}
 use Rattle.model.specs.Params.{start, block_at, in_heap, is_start, heap_bytes, heap_end, plus_lower, minus_lower, list_word, local_sets, available, unswept, consumed, abandoned, in_gc, bins}
 use Rattle.model.specs.Memory.{load, store, zeroed, mark_index, marked, set_mark}
 use Rattle.model.specs.Tables.{Words, Tables, tables_of, with_words, set_first, set_last, set_next, set_prev, set_list, set_tls, set_released, set_phase, with_released, set_bound}

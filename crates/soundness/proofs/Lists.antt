@@ -1,6 +1,7 @@
 -- The block lists of sound tables as what they are: lists of block numbers. `Lists p st w L` says that on each list l the words
 -- link the blocks of L l, in that order, both ways. And what follows from that for each block, and for other words.
 -- Assumes nothing.
+use Rattle.std.specs.Prelude.{if◌then◌else◌}
 use mathlib.Core.Path.{◌≡◌, refl, sym, ap, ◌∙◌, subst}
 use mathlib.Core.Logic.{◌≢◌, ◌⊎◌, inl, inr, ⊎_elim}
 use mathlib.Core.Bool.{true, false}
@@ -11,7 +12,7 @@ use lib.Dec.{eqb}
 use lib.ListN.{length, get_or}
 use borrow.Author.Tests.{eqb-true, eqb-false, eq-eqb, ne_eqb}
 use Rattle.model.specs.declared.Params.{Params}
-use Rattle.model.specs.Base.{if◌then◌else◌, In, member}
+use Rattle.model.specs.Base.{In, member}
 use Rattle.model.specs.Params.{start, list_word}
 use Rattle.model.specs.Tables.{Words}
 use Rattle.laws.proofs.Base.{Bool-cases, if_cases, if_true, if_false, member_in}

@@ -1,6 +1,7 @@
 -- R-6's counts are those of the blocks themselves. Each block in use names a list of one owner; an append of one owner's list to
 -- another's takes as many blocks over as it counts, and releases leave each block with its owner. So the sum over an owner's
 -- lists is the number of its blocks, and they are those that go over. Assumes nothing.
+use Rattle.std.specs.Prelude.{if◌then◌else◌}
 use mathlib.Core.Path.{◌≡◌, refl, sym, ap, ◌∙◌, subst}
 use mathlib.Core.Logic.{◌≢◌, ◌⊎◌, inl, inr, ⊎_elim}
 use mathlib.Core.Bool.{Bool, true, false, not, ◌&&◌}
@@ -12,7 +13,7 @@ use lib.Dec.{eqb, ltb, leb}
 use lib.ListN.{length, get_or, set, replicate}
 use borrow.Author.Tests.{eqb-true, eqb-false, eq-eqb, ne_eqb, ltb-true, leb-true, lt-ltb, le-leb}
 use Rattle.model.specs.declared.Params.{Params}
-use Rattle.model.specs.Base.{if◌then◌else◌, In, member, flag, sum_below, each_below}
+use Rattle.model.specs.Base.{In, member, flag, sum_below, each_below}
 use Rattle.model.specs.Params.{Lent, list_word, local_sets, available, unswept, consumed, bins}
 use Rattle.model.specs.Tables.{Words, view, tables_of, set_next, set_prev, set_free, set_size, set_list, set_tls, set_bound, set_phase, set_released, with_released}
 use Rattle.model.specs.BlockList.{remove, append, blocks_on, appended}

@@ -1,5 +1,6 @@
 -- "With 01's own sizes up to the block given as rows, every earlier answer returns on tables with no block in a higher bin" (02, R-5). Rows
 -- change nothing but classes (Elsewhere.antt), and these rows change no class (OwnTable.antt). Assumes nothing.
+use Rattle.std.specs.Prelude.{if◌then◌else◌}
 use mathlib.Core.Path.{◌≡◌, refl, sym, ap, ◌∙◌}
 use mathlib.Core.Logic.{◌⊎◌, inl, inr, ⊎_elim, ◌≢◌}
 use mathlib.Core.Bool.{Bool, true, false, not, ◌&&◌, ◌||◌}
@@ -19,7 +20,7 @@ use Rattle.model.specs.declared.Offer.TheVariants.{Nothing, Fresh}
 use Rattle.model.specs.declared.Refusal.TheVariants.{BadSetup, BadTables}
 use Rattle.model.specs.declared.Tested.{Tested}
 use Rattle.model.specs.declared.Tested.TheVariants.{Passed, Refused}
-use Rattle.model.specs.Base.{if◌then◌else◌, all_below, member, flag}
+use Rattle.model.specs.Base.{all_below, member, flag}
 use Rattle.model.specs.Params.{power_of_two, lower_ok, good_params, max_rows, Lent, fits, word_count, heap_bytes, heap_end, start, block_at, in_heap, is_start, minus_lower, list_word, lists, local_sets, available, consumed, abandoned}
 use Rattle.model.specs.Memory.{load, zeroed, marked, mark_index, set_mark}
 use Rattle.model.specs.Tables.{Words, Tables, tables_of, with_words, view, set_free, set_bound}

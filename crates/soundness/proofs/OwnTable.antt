@@ -1,5 +1,6 @@
 -- 01's own sizes up to the block, given as rows (02, R-5): they are accepted, each size has the bin that it had, and each of these bins the
 -- cell that it had. Leans on the computed table of classes (`least_at`); nothing is computed anew but that classes grow.
+use Rattle.std.specs.Prelude.{if◌then◌else◌}
 use mathlib.Core.Path.{◌≡◌, refl, sym, ap, ◌∙◌}
 use mathlib.Core.Logic.{◌⊎◌, inl, inr, ⊎_elim, ◌≢◌}
 use mathlib.Core.Bool.{Bool, true, false, not, ◌&&◌, ◌||◌}
@@ -13,7 +14,7 @@ use lib.ListN.{get_or}
 use borrow.Author.Tests.{eqb-true, ltb-true, leb-true, eq-eqb, ne_eqb, lt-ltb, le-ltb, le-leb, lt-leb}
 use Rattle.model.specs.declared.Params.{Params}
 use Rattle.model.specs.declared.Row.{Row}
-use Rattle.model.specs.Base.{if◌then◌else◌, all_below, sum_below, least_from, flag}
+use Rattle.model.specs.Base.{all_below, sum_below, least_from, flag}
 use Rattle.model.specs.Params.{max_rows}
 use Rattle.model.specs.SizeClasses.{fours, class_words, class_bytes, words_in, mi_bin, no_row, row_at, covers, words_asked, bin_of, cell_bytes, tabulated}
 use Rattle.model.specs.Classes.{block_words, rows_over, is_bad_count, row_fits, is_bad_row, bad_count, bad_row, classes_fit}

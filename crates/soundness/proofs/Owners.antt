@@ -1,5 +1,6 @@
 -- What calls leave of the words that are no block's: phase, bound holders, released marks, lengths, and the firsts of lists of
 -- other owners. The owner of the list l is l / 147: 0 to 7 the holders 1 to 8, 8 abandoned, 9 in-gc. Assumes nothing.
+use Rattle.std.specs.Prelude.{if◌then◌else◌}
 use mathlib.Core.Path.{◌≡◌, refl, sym, ap, ◌∙◌}
 use mathlib.Core.Logic.{◌≢◌, ◌⊎◌, inl, inr, ⊎_elim}
 use mathlib.Core.Bool.{Bool, true, false}
@@ -11,7 +12,7 @@ use lib.Dec.{eqb}
 use lib.ListN.{get_or}
 use borrow.Author.Tests.{eq-eqb, ne_eqb}
 use Rattle.model.specs.declared.Params.{Params}
-use Rattle.model.specs.Base.{if◌then◌else◌, each_below}
+use Rattle.model.specs.Base.{each_below}
 use Rattle.model.specs.Params.{start, block_at, list_of, local_sets, abandoned, in_gc, available, unswept, consumed, bins}
 use Rattle.model.specs.Tables.{Words, set_next, set_prev, set_free, set_size, set_list, set_tls, set_cells, set_phase, set_released}
 use Rattle.model.specs.BlockList.{push, pop, remove, append}

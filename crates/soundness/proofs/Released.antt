@@ -1,6 +1,7 @@
 -- What a release answers is the number of blocks whose state byte it made 0, and that of the blocks that went over to abandoned;
 -- and destroy answers the number of its blocks, all of which go over. Each release in a walk is of an Unmarked block, and no other
 -- state byte changes; who goes over is in Over.antt. Assumes nothing.
+use Rattle.std.specs.Prelude.{if◌then◌else◌}
 use mathlib.Core.Path.{◌≡◌, refl, sym, ap, ◌∙◌}
 use mathlib.Core.Logic.{◌≢◌}
 use mathlib.Core.Bool.{Bool, true, false, not, ◌&&◌}
@@ -13,7 +14,7 @@ use lib.ListN.{length, get_or, set, length-set, length-append, get_or-eq_default
 use borrow.Author.Tests.{eqb-true, eq-eqb, ne_eqb}
 use Rattle.model.specs.declared.Params.{Params}
 use Rattle.model.specs.declared.Tested.TheVariants.{Passed}
-use Rattle.model.specs.Base.{if◌then◌else◌, filter, flag, sum_below}
+use Rattle.model.specs.Base.{filter, flag, sum_below}
 use Rattle.model.specs.Params.{good_params, Lent, fits, word_count, heap_bytes, local_sets}
 use Rattle.model.specs.Tables.{Words, view, tables_of, set_bound, set_phase, set_released}
 use Rattle.model.specs.Classes.{classes_fit}

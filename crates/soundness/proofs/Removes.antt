@@ -1,6 +1,7 @@
 -- Remove, append and clearing a block, on lists of block numbers: each leaves block lists, and which. What a remove or an
 -- append does to a link is to put one link for another (`swap`), so the lists after are proved along the lists before.
 -- Assumes nothing.
+use Rattle.std.specs.Prelude.{if◌then◌else◌}
 use mathlib.Core.Path.{◌≡◌, refl, sym, ap, ◌∙◌, subst}
 use mathlib.Core.Logic.{◌≢◌, ◌⊎◌, inl, inr, ⊎_elim}
 use mathlib.Core.Bool.{false, not}
@@ -12,7 +13,7 @@ use lib.Dec.{eqb}
 use lib.ListN.{length, get_or, set, length-set}
 use borrow.Author.Tests.{eq-eqb, ne_eqb, eqb-true, eqb-false, not-true}
 use Rattle.model.specs.declared.Params.{Params}
-use Rattle.model.specs.Base.{if◌then◌else◌, In, filter, member}
+use Rattle.model.specs.Base.{In, filter, member}
 use Rattle.model.specs.Params.{start, block_at, list_word}
 use Rattle.model.specs.Tables.{Words, set_first, set_last, set_next, set_prev, set_free, set_size, set_list, set_tls, set_cells}
 use Rattle.model.specs.BlockList.{remove_between, remove, relabel, link, append}

@@ -1,4 +1,5 @@
 -- A line's kind as the code answers it, tied to the model's `line_of`. Assumes nothing.
+use Rattle.std.specs.Prelude.{if◌then◌else◌}
 use mathlib.Core.Path.{◌≡◌, refl, sym, ap, ◌∙◌}
 use mathlib.Core.Bool.{Bool, true, false, ◌&&◌, ◌||◌}
 use mathlib.Core.Logic.{◌⊎◌, inl, inr}
@@ -11,7 +12,7 @@ use lib.ListN.{length, get_or}
 use borrow.Author.Tests.{ne_eqb, eqb-false}
 use Rattle.model.specs.declared.Offer.{Offer}
 use Rattle.model.specs.declared.Offer.TheVariants.{Nothing, Fresh}
-use Rattle.model.specs.Base.{if◌then◌else◌, all_below}
+use Rattle.model.specs.Base.{all_below}
 use Rattle.model.specs.Calls.{Call, bind, destroy, alloc, prepare, mark, release, shared_release}
 use Rattle.model.specs.Census.{is_number, value_of, is_word, numbers_to, is_line, arg, is_alloc, offer_of, line_of}
 use Rattle.laws.proofs.Below.{test, and_second, all_below_off}

@@ -1,4 +1,5 @@
 -- A word's number as the code answers it, tied to the model's `is_number` and `value_of`. Assumes nothing.
+use Rattle.std.specs.Prelude.{if◌then◌else◌}
 use mathlib.Core.Path.{◌≡◌, refl, sym, ◌∙◌}
 use mathlib.Core.Bool.{Bool, true, false, not, ◌&&◌, ◌||◌}
 use mathlib.Core.Logic.{◌⊎◌, inl, inr, ⊎_elim}
@@ -10,7 +11,7 @@ use native.Mathlib.Numerals.{add-one}
 use lib.ListN.{length, get_or, drop, drop_of_length-le}
 use lib.Seq.{drop-cons}
 use borrow.Author.Tests.{ltb-true, ltb-false, lt-ltb, le-ltb, eq-eqb, ne_eqb, le-leb, lt-leb}
-use Rattle.model.specs.Base.{if◌then◌else◌, all_below}
+use Rattle.model.specs.Base.{all_below}
 use Rattle.model.specs.Census.{is_digit, value_of, is_number}
 use Rattle.laws.proofs.Below.{test, and_second, or_right}
 use Rattle.laws.proofs.Text.{all_digits, all_digits_lem, value_from, value_ge}

@@ -1,8 +1,7 @@
 -- A line's kind as the code answers it, tied to the model's `line_of`. Assumes nothing.
-use Rattle.std.specs.Prelude.{◌&&◌, ◌||◌, List, [], ℕ, eqb, length, get_or}
+use Rattle.std.specs.Prelude.{if◌then◌else◌, ◌&&◌, ◌||◌, List, [], ℕ, eqb, length, get_or}
 use Rattle.std.proofs.Math.Option.{Option, some, none}
 use Rattle.model.specs.declared.Offer.TheVariants.{Nothing, Fresh}
-use Rattle.model.specs.Base.{if◌then◌else◌}
 use Rattle.model.specs.Calls.{Call, alloc, mark}
 use Rattle.model.specs.Answers.{call_of}
 use Rattle.model.specs.Census.{pieces, space, is_number, value_of, is_word, numbers_to, arg, offer_of}

@@ -1,6 +1,5 @@
 -- The lines of a trace, one after the other. Assumes nothing.
-use Rattle.std.specs.Prelude.{List, ℕ, ◌+◌, ltb, length}
-use Rattle.model.specs.Base.{if◌then◌else◌}
+use Rattle.std.specs.Prelude.{if◌then◌else◌, List, ℕ, ◌+◌, ltb, length}
 use Rattle.model.specs.Census.{newline}
 use Rattle.model.specs.Text.{piece_end}
 use Rattle.trace.specs.declared.NextLine.{NextLine}

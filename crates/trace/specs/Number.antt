@@ -1,6 +1,5 @@
 -- A word's number as the code answers it, tied to the model's `is_number` and `value_of`. Assumes nothing.
-use Rattle.std.specs.Prelude.{◌&&◌, List, [], ◌∷◌, ℕ, ◌+◌, ◌-◌, ◌*◌, ◌^◌, ltb}
-use Rattle.model.specs.Base.{if◌then◌else◌}
+use Rattle.std.specs.Prelude.{if◌then◌else◌, ◌&&◌, List, [], ◌∷◌, ℕ, ◌+◌, ◌-◌, ◌*◌, ◌^◌, ltb}
 use Rattle.model.specs.Census.{is_digit, value_of, is_number}
 use Rattle.trace.specs.declared.Number.{Number}
 use Rattle.trace.specs.declared.Number.TheVariants.{Value, None}

@@ -1,7 +1,6 @@
 -- What a line gives, and a whole trace. Assumes nothing.
-use Rattle.std.specs.Prelude.{◌≡◌, List, ℕ, ◌+◌, ◌≤◌, eqb, take, set}
+use Rattle.std.specs.Prelude.{if◌then◌else◌, ◌≡◌, List, ℕ, ◌+◌, ◌≤◌, eqb, take, set}
 use Rattle.std.proofs.Math.Option.{Option}
-use Rattle.model.specs.Base.{if◌then◌else◌}
 use Rattle.model.specs.Params.{Lent}
 use Rattle.model.specs.Calls.{Call}
 use Rattle.model.specs.Census.{line_result, Ran}

@@ -1,6 +1,5 @@
 -- Clearing a mark bit, beside `set_bit` of the machine, which never clears a single one.
-use Rattle.std.specs.Prelude.{ℕ, ◌-◌, ◌^◌}
-use Rattle.model.specs.Base.{if◌then◌else◌}
+use Rattle.std.specs.Prelude.{if◌then◌else◌, ℕ, ◌-◌, ◌^◌}
 use Rattle.model.specs.Memory.{bit_of}
 
 unfoldable pub clear_bit : ℕ → ℕ → ℕ
