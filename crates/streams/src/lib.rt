@@ -1,7 +1,9 @@
-// Standard input, with a read that fails told from the end of the input. `io::read_full` answers the same for both.
-ghost use Rattle.io.specs.Counts.{IsPrefixLen};
+#![tactic(auto)]
 
-use libc::STDIN_FILENO;
+// Standard input, with a read that fails told from the end of the input.
+ghost use Rattle.std.specs.Counts.{IsPrefixLen};
+
+use std::io::{Input, Read as Reads};
 
 // How many bytes were read, and whether a read failed behind them.
 #[derive(Drop)]
@@ -11,19 +13,18 @@ pub struct Read {
 }
 
 // Reads until the buffer is full, the input ends or a read fails. No contract can say which bytes a read puts there.
-pub fn read_input(buf: &mut [u8]) -> Read
+pub fn read_input(rt: &impl Input, buf: &mut [u8]) -> Read
     ensures { IsPrefixLen result.len buf.new }
 {
+    let mut input = rt.reader();
     let mut n: usize = 0;
     while n < buf.len() {
-        let got = libc::read(STDIN_FILENO, &mut buf[n..]);
-        if got < 0 {
+        let Ok(more) = input.read(&mut buf[n..]) else {
             return Read {
                 len: n,
                 failed: true,
             };
-        }
-        let more = io::count(got, &buf[n..]);
+        };
         if more == 0 {
             return Read {
                 len: n,

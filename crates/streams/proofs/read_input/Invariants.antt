@@ -1,0 +1,9 @@
+-- What is read so far lies within the buffer, and each turn leaves less of it.
+use Rattle.std.proofs.Common.{length, ◌-◌, ◌≤◌}
+use Rattle.streams.proofs.read_input.Given as goal
+
+abbrev pub invariant-loop-n : goal.invariant-loop-n
+invariant-loop-n g l = l.n ≤ length l.buf
+
+abbrev pub decreases-loop-n : goal.decreases-loop-n
+decreases-loop-n g l = length l.buf - l.n
