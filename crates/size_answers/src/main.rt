@@ -1,10 +1,11 @@
+#![tactic(auto)]
+
 // Size classes, raised sizes and shifts, compared with the Rust: for every size from 0 to 65,544 its bin, for every word count
 // from 0 to 8,200 its bin by look-up, and for every MIN, MAX and align the raised size, its bin and its cell size, and shifted
 // addresses. The lines of `stdout` are checksums over the Rust's answers, made by oracle/samples/size_answers.py; this program
 // makes the same from the port's.
 ghost use Rattle.std.specs.Prelude.{◌<◌, ◌≤◌};
 
-use libc::{STDERR_FILENO, STDOUT_FILENO};
 use model::{Address, Params};
 use native_ms::allocator::{Raised, Shifted};
 use native_ms::{allocator, classes, size_class};
@@ -124,26 +125,26 @@ fn regions(h: usize, from: usize, min: usize, align: usize, first: usize) -> usi
 }
 
 // Each function below answers whether its output was written.
-fn show(x: usize, after: u8) -> bool {
-    if !io::print_decimal(STDOUT_FILENO, x as u64) {
+fn show(rt: &impl Print, x: usize, after: u8) -> bool {
+    if rt.print(x).is_err() {
         return false;
     }
     let end = [after];
-    io::write_all(STDOUT_FILENO, &end)
+    rt.write_all(&end).is_ok()
 }
 
-fn show_three(min: usize, max: usize, align: usize) -> bool {
-    if !show(min, b' ') {
+fn show_three(rt: &impl Print, min: usize, max: usize, align: usize) -> bool {
+    if !show(rt, min, b' ') {
         return false;
     }
-    if !show(max, b' ') {
+    if !show(rt, max, b' ') {
         return false;
     }
-    show(align, b' ')
+    show(rt, align, b' ')
 }
 
 // The line of one MIN, MAX and align.
-fn line(min: usize, max: usize, align: usize) -> bool
+fn line(rt: &impl Print, min: usize, max: usize, align: usize) -> bool
     requires { (0 < min) × (min ≤ 8) }
 {
     let rows = classes::no_rows();
@@ -160,23 +161,23 @@ fn line(min: usize, max: usize, align: usize) -> bool
         rows,
         count: 0,
     };
-    if !show_three(min, max, align) {
+    if !show_three(rt, min, max, align) {
         return false;
     }
-    if !show(sizes(p, min, align), b' ') {
+    if !show(rt, sizes(p, min, align), b' ') {
         return false;
     }
     let low = regions(0, 8, min, align, 0);
     let high = regions(low, 140737488355200, min, align, 65536 - 32 * min);
-    show(high, b'\n')
+    show(rt, high, b'\n')
 }
 
-fn aligns(min: usize, max: usize) -> bool
+fn aligns(rt: &impl Print, min: usize, max: usize) -> bool
     requires { (0 < min) × (min ≤ 8) × (max ≤ 64) }
 {
     let mut align = min;
     while align <= max {
-        if !line(min, max, align) {
+        if !line(rt, min, max, align) {
             return false;
         }
         align = align * 2;
@@ -184,12 +185,12 @@ fn aligns(min: usize, max: usize) -> bool
     true
 }
 
-fn maxes(min: usize) -> bool
+fn maxes(rt: &impl Print, min: usize) -> bool
     requires { (0 < min) × (min ≤ 8) }
 {
     let mut max = min;
     while max <= 64 {
-        if !aligns(min, max) {
+        if !aligns(rt, min, max) {
             return false;
         }
         max = max * 2;
@@ -197,27 +198,24 @@ fn maxes(min: usize) -> bool
     true
 }
 
-fn all() -> bool {
-    if !show(bins(), b'\n') {
+fn all(rt: &impl Print) -> bool {
+    if !show(rt, bins(), b'\n') {
         return false;
     }
-    if !show(entries(), b' ') {
+    if !show(rt, entries(), b' ') {
         return false;
     }
-    if !show(bins_of_words(), b'\n') {
+    if !show(rt, bins_of_words(), b'\n') {
         return false;
     }
-    if !maxes(4) {
+    if !maxes(rt, 4) {
         return false;
     }
-    maxes(8)
+    maxes(rt, 8)
 }
 
-fn main() {
-    if !all() {
-        io::write_all(
-            STDERR_FILENO,
-            b"size_answers: standard output can't be written\n",
-        );
+fn main(rt: HostRuntime) {
+    if !all(&rt) {
+        let _ = rt.eprint("size_answers: standard output can't be written\n");
     }
 }
