@@ -29,7 +29,7 @@ fn released_mask(w: &[usize]) -> usize {
     mask
 }
 
-fn phase(w: &[usize], o: &mut [u8; out::OUT], n: usize) -> usize {
+fn phase(w: &[usize], o: &mut out::Out, n: usize) -> usize {
     let a = out::text(o, n, b"phase");
     let b = out::word(o, a, tables::phase(w));
     let c = out::text(o, b, b" bound");
@@ -39,7 +39,7 @@ fn phase(w: &[usize], o: &mut [u8; out::OUT], n: usize) -> usize {
     out::put(o, f, b'\n')
 }
 
-fn block(w: &[usize], st: &[u8], i: usize, o: &mut [u8; out::OUT], n: usize) -> usize {
+fn block(w: &[usize], st: &[u8], i: usize, o: &mut out::Out, n: usize) -> usize {
     let a = out::text(o, n, b"block");
     let b = out::word(o, a, i);
     let c = out::word(o, b, bytes::wide(states::state(st, i)));
@@ -53,7 +53,7 @@ fn block(w: &[usize], st: &[u8], i: usize, o: &mut [u8; out::OUT], n: usize) -> 
     out::put(o, l, b'\n')
 }
 
-fn blocks(w: &[usize], st: &[u8], o: &mut [u8; out::OUT], n: usize) -> usize {
+fn blocks(w: &[usize], st: &[u8], o: &mut out::Out, n: usize) -> usize {
     let mut m = n;
     let mut i: usize = 0;
     while i < st.len() {
@@ -64,7 +64,7 @@ fn blocks(w: &[usize], st: &[u8], o: &mut [u8; out::OUT], n: usize) -> usize {
 }
 
 // The list i, if it has a first or a last.
-fn list(w: &[usize], i: usize, o: &mut [u8; out::OUT], n: usize) -> usize {
+fn list(w: &[usize], i: usize, o: &mut out::Out, n: usize) -> usize {
     let first = tables::first(w, i);
     let last = tables::last(w, i);
     if i < LISTS {
@@ -78,7 +78,7 @@ fn list(w: &[usize], i: usize, o: &mut [u8; out::OUT], n: usize) -> usize {
     n
 }
 
-fn list_line(number: usize, first: usize, last: usize, o: &mut [u8; out::OUT], n: usize) -> usize {
+fn list_line(number: usize, first: usize, last: usize, o: &mut out::Out, n: usize) -> usize {
     let a = out::text(o, n, b"list");
     let b = out::word(o, a, number);
     let c = out::word(o, b, first);
@@ -86,7 +86,7 @@ fn list_line(number: usize, first: usize, last: usize, o: &mut [u8; out::OUT], n
     out::put(o, d, b'\n')
 }
 
-fn lists(w: &[usize], o: &mut [u8; out::OUT], n: usize) -> usize {
+fn lists(w: &[usize], o: &mut out::Out, n: usize) -> usize {
     let mut m = n;
     let mut i: usize = 0;
     while i < LISTS {
@@ -101,7 +101,7 @@ pub(crate) fn all(
     st: &[u8],
     marks: &[u8],
     heap: &[u8],
-    o: &mut [u8; out::OUT],
+    o: &mut out::Out,
     n: usize,
 ) -> usize {
     let a = phase(w, o, n);
@@ -115,7 +115,7 @@ pub(crate) fn all(
 }
 
 // All heap bytes.
-pub(crate) fn heap_line(heap: &[u8], o: &mut [u8; out::OUT], n: usize) -> usize {
+pub(crate) fn heap_line(heap: &[u8], o: &mut out::Out, n: usize) -> usize {
     let m = out::hex(o, n, heap);
     out::put(o, m, b'\n')
 }

@@ -1,19 +1,37 @@
 // Reading: a script of any length, through a buffer, a line at a time.
+use std::io::{Read, Stderr, Stdin};
 
 // The longest line of any form is a `K` of 131,072 digits. One that fills this array is of no form, so the rest of it may go.
 pub(crate) const LINE_BYTES: usize = 131075;
 
 pub(crate) const INPUT_BYTES: usize = 65536;
 
-// The bytes of the input buffer that are still to be read.
+// Standard input, where a read that fails is told, and what was read last.
 #[derive(Drop)]
+pub(crate) struct Input {
+    from: Stdin,
+    errors: Stderr,
+    bytes: [u8; INPUT_BYTES],
+}
+
+// Nothing is read yet.
+pub(crate) fn begun(from: Stdin, errors: Stderr) -> Input {
+    Input {
+        from,
+        errors,
+        bytes: [0; INPUT_BYTES],
+    }
+}
+
+// The bytes of the input buffer that are still to be read.
+#[derive(Clone, Copy)]
 pub(crate) struct Cursor {
     pub at: usize,
     pub end: usize,
 }
 
 // The next byte; no more; or no more because a read failed.
-#[derive(Drop)]
+#[derive(Clone, Copy)]
 pub(crate) enum Step {
     Byte(u8, Cursor),
     End,
@@ -21,35 +39,33 @@ pub(crate) enum Step {
 }
 
 // A line of `len` bytes, and where the next begins. The last has nothing behind it.
-#[derive(Drop)]
+#[derive(Clone, Copy)]
 pub(crate) struct Line {
     pub len: usize,
     pub next: Cursor,
     pub last: bool,
 }
 
-fn refill(input: &mut [u8; INPUT_BYTES]) -> Step {
-    let got = libc::read(libc::STDIN_FILENO, input);
-    if got < 0 {
-        io::write_all(
-            libc::STDERR_FILENO,
-            b"script: standard input can't be read\n",
-        );
+fn refill(input: &mut Input) -> Step {
+    let mut from = input.from;
+    let Ok(n) = from.read(&mut input.bytes) else {
+        let _ = input
+            .errors
+            .eprint("script: standard input can't be read\n");
         return Step::Failed;
-    }
-    if got == 0 {
+    };
+    if n == 0 {
         return Step::End;
     }
-    let n = io::count(got, input);
-    Step::Byte(input[0], Cursor { at: 1, end: n })
+    Step::Byte(input.bytes[0], Cursor { at: 1, end: n })
 }
 
-fn next(input: &mut [u8; INPUT_BYTES], c: Cursor) -> Step {
+fn next(input: &mut Input, c: Cursor) -> Step {
     let at = c.at;
     if at < c.end {
         if at < INPUT_BYTES {
             return Step::Byte(
-                input[at],
+                input.bytes[at],
                 Cursor {
                     at: at + 1,
                     end: c.end,
@@ -71,11 +87,7 @@ fn keep(line: &mut [u8; LINE_BYTES], n: usize, b: u8) -> usize {
 
 // The bytes up to a newline or the end of the input; none of a line that a failed read cuts off. Nothing says that the input
 // ends: the turns are counted down from a number that no run uses up.
-pub(crate) fn read(
-    input: &mut [u8; INPUT_BYTES],
-    line: &mut [u8; LINE_BYTES],
-    from: Cursor,
-) -> Line {
+pub(crate) fn read(input: &mut Input, line: &mut [u8; LINE_BYTES], from: Cursor) -> Line {
     let mut c = from;
     let mut n: usize = 0;
     let mut turns = usize::MAX;

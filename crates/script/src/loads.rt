@@ -114,7 +114,7 @@ fn digit(b: u8) -> u8 {
     16
 }
 
-#[derive(Drop)]
+#[derive(Clone, Copy)]
 enum Hex {
     Is(u8),
     Off,

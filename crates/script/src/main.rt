@@ -1,3 +1,5 @@
+#![tactic(auto)]
+
 // The port's driver of differential runs: reads a script on standard input, makes its calls on the library, and prints the
 // answers. A line that is bad ends the run.
 mod direct;
@@ -22,7 +24,7 @@ use reply::Reply;
 
 // Whether a set-up stands, its parameters with the rows in force, and how much of the heap is lent; and the answer slice of calls
 // through the exports, `DIRECT` where calls aren't made through them.
-#[derive(Drop)]
+#[derive(Clone, Copy)]
 struct Space {
     stands: bool,
     via: usize,
@@ -31,14 +33,14 @@ struct Space {
 }
 
 // Whether the run goes on, and how many bytes wait in the output buffer.
-#[derive(Drop)]
+#[derive(Clone, Copy)]
 struct Told {
     on: bool,
     written: usize,
 }
 
 // The same, with what stands after the line.
-#[derive(Drop)]
+#[derive(Clone, Copy)]
 struct Heard {
     told: Told,
     space: Space,
@@ -48,7 +50,7 @@ struct Heard {
 const DIRECT: usize = 99;
 
 // What goes from line to line.
-#[derive(Drop)]
+#[derive(Clone, Copy)]
 struct Run {
     on: bool,
     written: usize,
@@ -97,7 +99,7 @@ fn is_done(r: Reply) -> bool {
     }
 }
 
-fn tell(r: Reply, o: &mut [u8; out::OUT], n: usize) -> Told {
+fn tell(r: Reply, o: &mut out::Out, n: usize) -> Told {
     let m = reply::line(o, n, r);
     Told {
         on: !is_bad(r),
@@ -137,7 +139,7 @@ fn ask(
     via: usize,
     line: &[u8; lines::LINE_BYTES],
     len: usize,
-    o: &mut [u8; out::OUT],
+    o: &mut out::Out,
     n: usize,
     w: &mut [usize],
     st: &mut [u8],
@@ -181,7 +183,7 @@ fn lent_line(
     s: Space,
     line: &[u8; lines::LINE_BYTES],
     len: usize,
-    o: &mut [u8; out::OUT],
+    o: &mut out::Out,
     n: usize,
     w: &mut [usize],
     st: &mut [u8],
@@ -244,7 +246,7 @@ fn set_up(
     via: usize,
     line: &[u8; lines::LINE_BYTES],
     len: usize,
-    o: &mut [u8; out::OUT],
+    o: &mut out::Out,
     n: usize,
     w: &mut [usize; setup::TABLES],
     st: &mut [u8; setup::BLOCKS],
@@ -315,7 +317,7 @@ fn choose(
     s: Space,
     line: &[u8; lines::LINE_BYTES],
     len: usize,
-    o: &mut [u8; out::OUT],
+    o: &mut out::Out,
     n: usize,
 ) -> Heard {
     let mut v = [0usize; numbers::MOST_WORDS];
@@ -343,7 +345,7 @@ fn give_rows(
     s: Space,
     line: &[u8; lines::LINE_BYTES],
     len: usize,
-    o: &mut [u8; out::OUT],
+    o: &mut out::Out,
     n: usize,
 ) -> Heard {
     let mut v = [0usize; numbers::MOST_NUMBERS];
@@ -376,7 +378,7 @@ fn check_rows(
     s: Space,
     line: &[u8; lines::LINE_BYTES],
     len: usize,
-    o: &mut [u8; out::OUT],
+    o: &mut out::Out,
     n: usize,
 ) -> Heard {
     let mut v = [0usize; numbers::MOST_WORDS];
@@ -397,7 +399,7 @@ fn hear(
     s: Space,
     line: &[u8; lines::LINE_BYTES],
     len: usize,
-    o: &mut [u8; out::OUT],
+    o: &mut out::Out,
     n: usize,
     w: &mut [usize; setup::TABLES],
     st: &mut [u8; setup::BLOCKS],
@@ -469,7 +471,7 @@ fn after(h: Heard, l: Line) -> Run {
 // Runs calls on the parts of the arrays that the set-up gave.
 fn lent_run(
     s: Space,
-    o: &mut [u8; out::OUT],
+    o: &mut out::Out,
     n: usize,
     calls: &[usize],
     answers: &mut [usize],
@@ -516,7 +518,7 @@ fn lent_run(
 // The same, on the arrays.
 fn run_row(
     s: Space,
-    o: &mut [u8; out::OUT],
+    o: &mut out::Out,
     n: usize,
     calls: &[usize; run_lines::ROW],
     count: usize,
@@ -538,7 +540,7 @@ fn may_run(s: Space) -> bool {
 }
 
 // The end of a script at a line of another form.
-fn ended_bad(r: Run, l: Line, o: &mut [u8; out::OUT]) -> Run {
+fn ended_bad(r: Run, l: Line, o: &mut out::Out) -> Run {
     let space = r.space;
     let told = tell(Reply::Bad, o, r.written);
     after(Heard { told, space }, l)
@@ -548,9 +550,9 @@ fn ended_bad(r: Run, l: Line, o: &mut [u8; out::OUT]) -> Run {
 fn run_turn(
     r: Run,
     l: Line,
-    input: &mut [u8; lines::INPUT_BYTES],
+    input: &mut lines::Input,
     line: &mut [u8; lines::LINE_BYTES],
-    o: &mut [u8; out::OUT],
+    o: &mut out::Out,
     w: &mut [usize; setup::TABLES],
     st: &mut [u8; setup::BLOCKS],
     marks: &mut [u8; setup::MARKS],
@@ -576,9 +578,9 @@ fn run_turn(
 
 fn turn(
     r: Run,
-    input: &mut [u8; lines::INPUT_BYTES],
+    input: &mut lines::Input,
     line: &mut [u8; lines::LINE_BYTES],
-    o: &mut [u8; out::OUT],
+    o: &mut out::Out,
     w: &mut [usize; setup::TABLES],
     st: &mut [u8; setup::BLOCKS],
     marks: &mut [u8; setup::MARKS],
@@ -594,9 +596,9 @@ fn turn(
 
 // The lines are counted down, since nothing says that the input ends.
 fn drive(
-    input: &mut [u8; lines::INPUT_BYTES],
+    input: &mut lines::Input,
     line: &mut [u8; lines::LINE_BYTES],
-    o: &mut [u8; out::OUT],
+    o: &mut out::Out,
     w: &mut [usize; setup::TABLES],
     st: &mut [u8; setup::BLOCKS],
     marks: &mut [u8; setup::MARKS],
@@ -619,10 +621,10 @@ fn drive(
     }
 }
 
-fn main() {
-    let mut input = [0u8; lines::INPUT_BYTES];
+fn main(rt: HostRuntime) {
+    let mut input = lines::begun(rt.stdin(), rt.stderr());
     let mut line = [0u8; lines::LINE_BYTES];
-    let mut o = [0u8; out::OUT];
+    let mut o = out::empty(rt.stdout(), rt.stderr());
     let mut w = [0usize; setup::TABLES];
     let mut st = [0u8; setup::BLOCKS];
     let mut marks = [0u8; setup::MARKS];

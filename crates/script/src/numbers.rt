@@ -20,26 +20,26 @@ pub(crate) const NEGATIVE: u8 = 1;
 
 pub(crate) const DASH: u8 = 2;
 
-#[derive(Drop)]
+#[derive(Clone, Copy)]
 pub(crate) enum Parsed {
     Number { value: usize, next: usize },
     Off,
 }
 
-#[derive(Drop)]
+#[derive(Clone, Copy)]
 enum More {
     To(usize),
     Over,
 }
 
-#[derive(Drop)]
+#[derive(Clone, Copy)]
 enum Piece {
     Is { value: usize, form: u8, next: usize },
     Off,
 }
 
 // How many words the line has, and the form of the free one.
-#[derive(Drop)]
+#[derive(Clone, Copy)]
 pub(crate) struct Taken {
     pub count: usize,
     pub form: u8,

@@ -1,41 +1,59 @@
 // Writing: bytes, texts and numbers, through a buffer. Each answers how many bytes the buffer then has.
+use std::io::{Stderr, Stdout};
 
 pub(crate) const OUT: usize = 65536;
 
 // The count after a write that failed: more than the buffer has.
 pub(crate) const LOST: usize = OUT + 1;
 
+// Standard output, where a write that fails is told, and the bytes that wait.
+#[derive(Drop)]
+pub(crate) struct Out {
+    to: Stdout,
+    errors: Stderr,
+    bytes: [u8; OUT],
+}
+
+// No byte waits.
+pub(crate) fn empty(to: Stdout, errors: Stderr) -> Out {
+    Out {
+        to,
+        errors,
+        bytes: [0; OUT],
+    }
+}
+
 // Writes the buffer's first n bytes, and answers whether it could.
-fn flush(out: &[u8], n: usize) -> bool {
-    if n <= out.len() {
-        return io::write_all(libc::STDOUT_FILENO, &out[..n]);
+fn flush(out: &Out, n: usize) -> bool {
+    if n <= OUT {
+        let bytes = &out.bytes[..];
+        return out.to.write_all(&bytes[..n]).is_ok();
     }
     false
 }
 
 // Writes what is left at the end of a run, and says so if something is lost.
-pub(crate) fn finish(out: &[u8], n: usize) {
+pub(crate) fn finish(out: &Out, n: usize) {
     if !flush(out, n) {
-        io::write_all(
-            libc::STDERR_FILENO,
-            b"script: standard output can't be written\n",
-        );
+        let _ = out
+            .errors
+            .eprint("script: standard output can't be written\n");
     }
 }
 
-pub(crate) fn put(out: &mut [u8; OUT], n: usize, b: u8) -> usize {
+pub(crate) fn put(out: &mut Out, n: usize, b: u8) -> usize {
     if n < OUT {
-        out[n] = b;
+        out.bytes[n] = b;
         return n + 1;
     }
     if flush(out, n) {
-        out[0] = b;
+        out.bytes[0] = b;
         return 1;
     }
     LOST
 }
 
-pub(crate) fn text(out: &mut [u8; OUT], n: usize, s: &[u8]) -> usize {
+pub(crate) fn text(out: &mut Out, n: usize, s: &[u8]) -> usize {
     let mut m = n;
     let mut i: usize = 0;
     while i < s.len() {
@@ -45,14 +63,14 @@ pub(crate) fn text(out: &mut [u8; OUT], n: usize, s: &[u8]) -> usize {
     m
 }
 
-pub(crate) fn number(out: &mut [u8; OUT], n: usize, x: usize) -> usize {
+pub(crate) fn number(out: &mut Out, n: usize, x: usize) -> usize {
     let mut digits = [0u8; 20];
     let k = io::decimal(x as u64, &mut digits);
     text(out, n, &digits[..k])
 }
 
 // A space and a number.
-pub(crate) fn word(out: &mut [u8; OUT], n: usize, x: usize) -> usize {
+pub(crate) fn word(out: &mut Out, n: usize, x: usize) -> usize {
     let m = put(out, n, b' ');
     number(out, m, x)
 }
@@ -68,12 +86,12 @@ fn glyph(d: u8) -> u8 {
     0
 }
 
-pub(crate) fn hex_byte(out: &mut [u8; OUT], n: usize, b: u8) -> usize {
+pub(crate) fn hex_byte(out: &mut Out, n: usize, b: u8) -> usize {
     let m = put(out, n, glyph(b / 16));
     put(out, m, glyph(b % 16))
 }
 
-pub(crate) fn hex(out: &mut [u8; OUT], n: usize, s: &[u8]) -> usize {
+pub(crate) fn hex(out: &mut Out, n: usize, s: &[u8]) -> usize {
     let mut m = n;
     let mut i: usize = 0;
     while i < s.len() {
@@ -84,7 +102,7 @@ pub(crate) fn hex(out: &mut [u8; OUT], n: usize, s: &[u8]) -> usize {
 }
 
 // The 16 digits of a word.
-pub(crate) fn hex_word(out: &mut [u8; OUT], n: usize, x: usize) -> usize {
+pub(crate) fn hex_word(out: &mut Out, n: usize, x: usize) -> usize {
     let mut digits = [0u8; 16];
     let k = io::hex(x as u64, 16, &mut digits);
     text(out, n, &digits[..k])

@@ -8,7 +8,7 @@ use words::bytes;
 pub(crate) const MOST_ANSWER: usize = 64;
 
 // What an export gave: its number, and the slice for its answer, as a length and words.
-#[derive(Drop)]
+#[derive(Clone, Copy)]
 pub(crate) struct Sent {
     pub number: usize,
     pub length: usize,
@@ -22,7 +22,7 @@ pub(crate) struct Sent {
     pub h: usize,
 }
 
-#[derive(Drop)]
+#[derive(Clone, Copy)]
 pub(crate) enum Reply {
     Bad,
     Done,
@@ -79,17 +79,17 @@ fn answer(s: Sent, to: &mut [u8; MOST_ANSWER]) {
 }
 
 // So many bytes of a slice.
-fn part(o: &mut [u8; out::OUT], n: usize, s: &[u8], count: usize) -> usize {
+fn part(o: &mut out::Out, n: usize, s: &[u8], count: usize) -> usize {
     let len = setup::least(count, s.len());
     out::hex(o, n, &s[..len])
 }
 
-fn shown(o: &mut [u8; out::OUT], n: usize, s: &[u8; MOST_ANSWER], count: usize) -> usize {
+fn shown(o: &mut out::Out, n: usize, s: &[u8; MOST_ANSWER], count: usize) -> usize {
     part(o, n, s, count)
 }
 
 // `N HEX`, or `N -` for a slice of no bytes.
-fn sent_line(o: &mut [u8; out::OUT], n: usize, s: Sent) -> usize {
+fn sent_line(o: &mut out::Out, n: usize, s: Sent) -> usize {
     let m = out::number(o, n, s.number);
     let k = out::put(o, m, b' ');
     if s.length == 0 {
@@ -100,7 +100,7 @@ fn sent_line(o: &mut [u8; out::OUT], n: usize, s: Sent) -> usize {
     shown(o, k, &to, s.length)
 }
 
-fn words(o: &mut [u8; out::OUT], n: usize, r: Reply) -> usize {
+fn words(o: &mut out::Out, n: usize, r: Reply) -> usize {
     match r {
         Reply::Bad => out::text(o, n, b"bad"),
         Reply::Done => out::text(o, n, b"ok"),
@@ -143,7 +143,7 @@ fn words(o: &mut [u8; out::OUT], n: usize, r: Reply) -> usize {
     }
 }
 
-pub(crate) fn line(o: &mut [u8; out::OUT], n: usize, r: Reply) -> usize {
+pub(crate) fn line(o: &mut out::Out, n: usize, r: Reply) -> usize {
     let m = words(o, n, r);
     out::put(o, m, b'\n')
 }

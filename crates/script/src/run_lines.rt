@@ -1,5 +1,5 @@
 // `z n`: the next n lines, made by one call of `run`.
-use crate::lines::{Cursor, INPUT_BYTES, LINE_BYTES, Line};
+use crate::lines::{Input, LINE_BYTES, Line};
 use crate::{direct, free_word, lines, numbers, out};
 use model::{Answer, Params};
 use native_ms::run;
@@ -22,7 +22,7 @@ const EXHAUSTED: usize = 9;
 const NO_OFFER: usize = 18446744073709551615;
 
 // Whether all lines of the row were calls, and the last line that was read.
-#[derive(Drop)]
+#[derive(Clone, Copy)]
 pub(crate) struct Row {
     pub ok: bool,
     pub line: Line,
@@ -135,7 +135,7 @@ fn take_call(line: &[u8; LINE_BYTES], len: usize, calls: &mut [usize; ROW], i: u
 
 // The next n lines. Where the input ends there are blank ones.
 pub(crate) fn read_calls(
-    input: &mut [u8; INPUT_BYTES],
+    input: &mut Input,
     line: &mut [u8; LINE_BYTES],
     from: Line,
     calls: &mut [usize; ROW],
@@ -175,7 +175,7 @@ pub(crate) fn make(
 }
 
 // A refusal's line: Exhausted tells how many blocks it swept.
-fn refused_line(o: &mut [u8; out::OUT], n: usize, number: usize, swept: usize) -> usize {
+fn refused_line(o: &mut out::Out, n: usize, number: usize, swept: usize) -> usize {
     let m = out::text(o, n, b"refused");
     let k = out::word(o, m, number);
     if number != EXHAUSTED {
@@ -186,13 +186,7 @@ fn refused_line(o: &mut [u8; out::OUT], n: usize, number: usize, swept: usize) -
 }
 
 // An answer, from the word at on, as the single call would give it.
-fn answer_line(
-    o: &mut [u8; out::OUT],
-    n: usize,
-    kind: usize,
-    answers: &[usize],
-    at: usize,
-) -> usize {
+fn answer_line(o: &mut out::Out, n: usize, kind: usize, answers: &[usize], at: usize) -> usize {
     if ROOM <= at {
         return n;
     }
@@ -216,7 +210,7 @@ fn answer_line(
 
 // `ok`, and each answer.
 pub(crate) fn tell_all(
-    o: &mut [u8; out::OUT],
+    o: &mut out::Out,
     n: usize,
     calls: &[usize],
     answers: &[usize],

@@ -22,13 +22,13 @@ const EAGER_WORD: usize = 9;
 const OFF_LOWER: i64 = 65;
 
 // The parameters of a set-up, if it has its form. The rows are those in force.
-#[derive(Drop)]
+#[derive(Clone, Copy)]
 pub(crate) struct Asked {
     pub ok: bool,
     pub params: Params,
 }
 
-#[derive(Drop)]
+#[derive(Clone, Copy)]
 enum Signed {
     Is(i64),
     Bad,
