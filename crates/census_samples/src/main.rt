@@ -1,9 +1,11 @@
+#![tactic(auto)]
+
 // Traces with the listings that oracle/census/listing.py worked out from document 01, replayed: the library's listing of each
 // must have the same bytes. Standard input (made by oracle/census/traces.py) has for each a head of 47 bytes, its lengths and
 // its name, then the trace and the listing.
 ghost use Rattle.std.specs.Prelude.{◌+◌, ◌<◌, ◌≤◌, length};
 
-use libc::{STDERR_FILENO, STDOUT_FILENO};
+use std::io::Input;
 
 const HEAD: usize = 47;
 
@@ -38,55 +40,55 @@ fn number(head: &[u8], at: usize) -> usize
     1000 * three(head, at) + three(head, at + 3)
 }
 
-fn say(text: &[u8]) {
-    io::write_all(STDERR_FILENO, text);
+fn say(rt: &impl Eprint, text: &str) {
+    let _ = rt.eprint(text);
 }
 
 // A line of standard output.
-fn tell_line(name: &[u8], what: &[u8]) -> bool {
-    if io::write_all(STDOUT_FILENO, name) {
-        if io::write_all(STDOUT_FILENO, what) {
+fn tell_line(rt: &(impl Print + Eprint), name: &[u8], what: &[u8]) -> bool {
+    if rt.write_all(name).is_ok() {
+        if rt.write_all(what).is_ok() {
             return true;
         }
     }
-    say(b"census_samples: standard output can't be written\n");
+    say(rt, "census_samples: standard output can't be written\n");
     false
 }
 
-fn tell(name: &[u8], as_it_must: bool) -> bool {
+fn tell(rt: &(impl Print + Eprint), name: &[u8], as_it_must: bool) -> bool {
     if as_it_must {
-        return tell_line(name, b" as 01 says\n");
+        return tell_line(rt, name, b" as 01 says\n");
     }
-    tell_line(name, b" DIFFERS\n")
+    tell_line(rt, name, b" DIFFERS\n")
 }
 
 // Whether n bytes could be read and fit; if not, says why.
-fn filled(buf: &mut [u8], n: usize) -> bool {
+fn filled(rt: &(impl Input + Eprint), buf: &mut [u8], n: usize) -> bool {
     let k = least(n, buf.len());
-    let read = streams::read_input(&mut buf[..k]);
+    let read = streams::read_input(rt, &mut buf[..k]);
     if read.failed {
-        say(b"census_samples: standard input can't be read\n");
+        say(rt, "census_samples: standard input can't be read\n");
         return false;
     }
     if read.len < n {
-        say(b"census_samples: a sample is cut off or too long\n");
+        say(rt, "census_samples: a sample is cut off or too long\n");
         return false;
     }
     true
 }
 
 // The next sample's head, if there is one.
-fn next_head(head: &mut [u8]) -> bool {
-    let read = streams::read_input(head);
+fn next_head(rt: &(impl Input + Eprint), head: &mut [u8]) -> bool {
+    let read = streams::read_input(rt, head);
     if read.failed {
-        say(b"census_samples: standard input can't be read\n");
+        say(rt, "census_samples: standard input can't be read\n");
         return false;
     }
     if read.len == 0 {
         return false;
     }
     if read.len < HEAD {
-        say(b"census_samples: a sample is cut off or too long\n");
+        say(rt, "census_samples: a sample is cut off or too long\n");
         return false;
     }
     true
@@ -100,18 +102,25 @@ fn same(out: &[u8], n: usize, wanted: &[u8], k: usize) -> bool
 }
 
 // One trace: its listing is made, and held to the one that was read.
-fn compare(head: &[u8], input: &[u8], wanted: &[u8], out: &mut [u8; trace::LISTING_BYTES]) -> bool
+fn compare(
+    rt: &(impl Print + Eprint),
+    head: &[u8],
+    input: &[u8],
+    wanted: &[u8],
+    out: &mut [u8; trace::LISTING_BYTES],
+) -> bool
     requires { 47 ≤ length head.now }
 {
     let read = least(number(head, 0), input.len());
     let known = least(number(head, 7), wanted.len());
     let n = trace::whole_listing(&input[..read], out);
     let as_it_must = same(out, n, wanted, known);
-    tell(&head[14..46], as_it_must)
+    tell(rt, &head[14..46], as_it_must)
 }
 
 // One sample more, and whether the run goes on.
 fn replay(
+    rt: &(impl Input + Print + Eprint),
     head: &mut [u8],
     input: &mut [u8],
     wanted: &mut [u8],
@@ -119,19 +128,20 @@ fn replay(
 ) -> bool
     requires { 47 ≤ length head.old }
 {
-    if !next_head(head) {
+    if !next_head(rt, head) {
         return false;
     }
-    if !filled(input, number(head, 0)) {
+    if !filled(rt, input, number(head, 0)) {
         return false;
     }
-    if !filled(wanted, number(head, 7)) {
+    if !filled(rt, wanted, number(head, 7)) {
         return false;
     }
-    compare(head, input, wanted, out)
+    compare(rt, head, input, wanted, out)
 }
 
 fn replay_all(
+    rt: &(impl Input + Print + Eprint),
     head: &mut [u8],
     input: &mut [u8],
     wanted: &mut [u8],
@@ -141,7 +151,7 @@ fn replay_all(
 {
     let mut i: usize = 0;
     while i < MOST {
-        if !replay(head, input, wanted, out) {
+        if !replay(rt, head, input, wanted, out) {
             return;
         }
         i = i + 1;
@@ -149,18 +159,19 @@ fn replay_all(
 }
 
 fn lend(
+    rt: &(impl Input + Print + Eprint),
     head: &mut [u8; HEAD],
     input: &mut [u8; TRACE],
     wanted: &mut [u8; trace::LISTING_BYTES],
     out: &mut [u8; trace::LISTING_BYTES],
 ) {
-    replay_all(head, input, wanted, out);
+    replay_all(rt, head, input, wanted, out);
 }
 
-fn main() {
+fn main(rt: HostRuntime) {
     let mut head = [0u8; HEAD];
     let mut input = [0u8; TRACE];
     let mut wanted = [0u8; trace::LISTING_BYTES];
     let mut out = [0u8; trace::LISTING_BYTES];
-    lend(&mut head, &mut input, &mut wanted, &mut out);
+    lend(&rt, &mut head, &mut input, &mut wanted, &mut out);
 }

@@ -1,9 +1,11 @@
+#![tactic(auto)]
+
 // A trace's lines replayed through the exports, on the space of the census: for each line the number returned and the bytes of the
 // slice for the answer, which are 0xA5 before it. What must be printed was worked out from document 01 by another program
 // (sample.py). No rows are lent: the classes are document 01's.
 use exports::c;
-use libc::{STDERR_FILENO, STDOUT_FILENO};
 use model::{Ask, Offer};
+use std::io::Input;
 use trace::{Line, NextLine, lines};
 
 const BASE: usize = 16384;
@@ -35,13 +37,13 @@ const TRACE: usize = 16384;
 
 const MOST_LINES: usize = 256;
 
-fn say(text: &[u8]) {
-    io::write_all(STDERR_FILENO, text);
+fn say(rt: &impl Eprint, text: &str) {
+    let _ = rt.eprint(text);
 }
 
 // Whether it was written.
-fn put(bytes: &[u8]) -> bool {
-    io::write_all(STDOUT_FILENO, bytes)
+fn put(rt: &impl Print, bytes: &[u8]) -> bool {
+    rt.write_all(bytes).is_ok()
 }
 
 fn set_up(
@@ -203,16 +205,16 @@ fn make(
     }
 }
 
-fn tell_byte(b: u8) -> bool {
+fn tell_byte(rt: &impl Print, b: u8) -> bool {
     let mut two = [0u8; 16];
     let k = io::hex(b as u64, 2, &mut two);
-    put(&two[..k])
+    put(rt, &two[..k])
 }
 
-fn tell_bytes(s: &[u8]) -> bool {
+fn tell_bytes(rt: &impl Print, s: &[u8]) -> bool {
     let mut i: usize = 0;
     while i < s.len() {
-        let written = tell_byte(s[i]);
+        let written = tell_byte(rt, s[i]);
         if !written {
             return false;
         }
@@ -222,28 +224,35 @@ fn tell_bytes(s: &[u8]) -> bool {
 }
 
 // Prints the number and the slice; whether that was written. So do the next three.
-fn tell(number: usize, answer: &[u8; ANSWER]) -> bool {
+fn tell(rt: &impl Print, number: usize, answer: &[u8; ANSWER]) -> bool {
     let mut digits = [0u8; 20];
     let k = io::decimal(number as u64, &mut digits);
-    if !put(&digits[..k]) {
+    if !put(rt, &digits[..k]) {
         return false;
     }
-    if !put(b" ") {
+    if !put(rt, b" ") {
         return false;
     }
-    if !tell_bytes(answer) {
+    if !tell_bytes(rt, answer) {
         return false;
     }
-    put(b"\n")
+    put(rt, b"\n")
 }
 
-fn tell_set_up(words: &mut [u8], states: &mut [u8], marks: &mut [u8], heap: &mut [u8]) -> bool {
+fn tell_set_up(
+    rt: &impl Print,
+    words: &mut [u8],
+    states: &mut [u8],
+    marks: &mut [u8],
+    heap: &mut [u8],
+) -> bool {
     let mut answer = [0xA5u8; ANSWER];
     let number = set_up(words, states, marks, heap, &mut answer);
-    tell(number, &answer)
+    tell(rt, number, &answer)
 }
 
 fn tell_call(
+    rt: &impl Print,
     words: &mut [u8],
     states: &mut [u8],
     marks: &mut [u8],
@@ -252,10 +261,11 @@ fn tell_call(
 ) -> bool {
     let mut answer = [0xA5u8; ANSWER];
     let number = make(words, states, marks, heap, &mut answer, ask);
-    tell(number, &answer)
+    tell(rt, number, &answer)
 }
 
 fn tell_line(
+    rt: &impl Print,
     words: &mut [u8],
     states: &mut [u8],
     marks: &mut [u8],
@@ -263,13 +273,13 @@ fn tell_line(
     line: Line,
 ) -> bool {
     let Line::Asks(ask) = line else {
-        return put(b"bad\n");
+        return put(rt, b"bad\n");
     };
-    tell_call(words, states, marks, heap, ask)
+    tell_call(rt, words, states, marks, heap, ask)
 }
 
 // Where the next line begins, and whether what was to be printed was written.
-#[derive(Drop)]
+#[derive(Clone, Copy)]
 struct Told {
     next: usize,
     written: bool,
@@ -277,6 +287,7 @@ struct Told {
 
 // The line that begins at `at`.
 fn turn(
+    rt: &impl Print,
     s: &[u8],
     at: usize,
     words: &mut [u8],
@@ -302,12 +313,13 @@ fn turn(
             written: true,
         };
     }
-    let written = tell_line(words, states, marks, heap, lines::parse(&s[from..to]));
+    let written = tell_line(rt, words, states, marks, heap, lines::parse(&s[from..to]));
     Told { next, written }
 }
 
 // No line begins where nothing follows, so the turns that are left then do nothing. Whether all was written.
 fn replay_lines(
+    rt: &impl Print,
     s: &[u8],
     words: &mut [u8],
     states: &mut [u8],
@@ -317,7 +329,7 @@ fn replay_lines(
     let mut at: usize = 0;
     let mut n: usize = 0;
     while n < MOST_LINES {
-        let done = turn(s, at, words, states, marks, heap);
+        let done = turn(rt, s, at, words, states, marks, heap);
         if !done.written {
             return false;
         }
@@ -328,51 +340,61 @@ fn replay_lines(
 }
 
 fn replay(
+    rt: &impl Print,
     s: &[u8],
     words: &mut [u8],
     states: &mut [u8],
     marks: &mut [u8],
     heap: &mut [u8],
 ) -> bool {
-    if !tell_set_up(words, states, marks, heap) {
+    if !tell_set_up(rt, words, states, marks, heap) {
         return false;
     }
-    replay_lines(s, words, states, marks, heap)
+    replay_lines(rt, s, words, states, marks, heap)
 }
 
 fn read_and_replay(
+    rt: &(impl Input + Print + Eprint),
     input: &mut [u8],
     words: &mut [u8],
     states: &mut [u8],
     marks: &mut [u8],
     heap: &mut [u8],
 ) {
-    let read = streams::read_input(input);
+    let read = streams::read_input(rt, input);
     if read.failed {
-        say(b"exports_samples: standard input can't be read\n");
+        say(rt, "exports_samples: standard input can't be read\n");
         return;
     }
     let n = read.len;
-    if !replay(&input[..n], words, states, marks, heap) {
-        say(b"exports_samples: standard output can't be written\n");
+    if !replay(rt, &input[..n], words, states, marks, heap) {
+        say(rt, "exports_samples: standard output can't be written\n");
     }
 }
 
 fn lend(
+    rt: &(impl Input + Print + Eprint),
     input: &mut [u8; TRACE],
     words: &mut [u8; WORDS_LEN],
     states: &mut [u8; BLOCKS],
     marks: &mut [u8; 256],
     heap: &mut [u8; HEAP],
 ) {
-    read_and_replay(input, words, states, marks, heap);
+    read_and_replay(rt, input, words, states, marks, heap);
 }
 
-fn main() {
+fn main(rt: HostRuntime) {
     let mut input = [0u8; TRACE];
     let mut words = [0xA5u8; WORDS_LEN];
     let mut states = [0xA5u8; BLOCKS];
     let mut marks = [0xA5u8; 256];
     let mut heap = [0xA5u8; HEAP];
-    lend(&mut input, &mut words, &mut states, &mut marks, &mut heap);
+    lend(
+        &rt,
+        &mut input,
+        &mut words,
+        &mut states,
+        &mut marks,
+        &mut heap,
+    );
 }
