@@ -39,7 +39,7 @@ fn of_set(w: &[usize], set: usize) -> [BlockList; BINS] {
     records
 }
 
-// The only function here that makes a reference to records, so it is proved by hand.
+// The only function here that makes a reference to records.
 pub(crate) fn pages(p: Params, w: &[usize], set: usize) -> PagesAnswer {
     let records = of_set(w, set);
     block_list::pages_used(p, w, &records)
