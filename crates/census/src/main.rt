@@ -4,7 +4,7 @@
 // read only to say on standard error that there is a rest. A read or a write that fails is told there too.
 ghost use Rattle.std.specs.Prelude.{◌≤◌, length};
 
-use std::io::Input;
+use std::io::Stdin;
 use trace::lines;
 
 fn say(rt: &impl Eprint, text: &str) {
@@ -32,11 +32,12 @@ fn print(rt: &(impl Print + Eprint), bytes: &[u8], out: &mut [u8; trace::LISTING
 }
 
 fn list(
-    rt: &(impl Input + Print + Eprint),
+    rt: &(impl Print + Eprint),
+    from: Stdin,
     input: &mut [u8],
     out: &mut [u8; trace::LISTING_BYTES],
 ) {
-    let read = streams::read_input(rt, input);
+    let read = streams::read_input(from, input);
     if read.failed {
         say(rt, "census: standard input can't be read\n");
         return;
@@ -46,15 +47,16 @@ fn list(
 }
 
 fn lend(
-    rt: &(impl Input + Print + Eprint),
+    rt: &(impl Print + Eprint),
+    from: Stdin,
     input: &mut [u8; 16385],
     out: &mut [u8; trace::LISTING_BYTES],
 ) {
-    list(rt, input, out);
+    list(rt, from, input, out);
 }
 
 fn main(rt: HostRuntime) {
     let mut input = [0u8; 16385];
     let mut out = [0u8; trace::LISTING_BYTES];
-    lend(&rt, &mut input, &mut out);
+    lend(&rt, rt.stdin(), &mut input, &mut out);
 }

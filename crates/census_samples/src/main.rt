@@ -5,7 +5,7 @@
 // its name, then the trace and the listing.
 ghost use Rattle.std.specs.Prelude.{◌+◌, ◌<◌, ◌≤◌, length};
 
-use std::io::Input;
+use std::io::Stdin;
 
 const HEAD: usize = 47;
 
@@ -63,9 +63,9 @@ fn tell(rt: &(impl Print + Eprint), name: &[u8], as_it_must: bool) -> bool {
 }
 
 // Whether n bytes could be read and fit; if not, says why.
-fn filled(rt: &(impl Input + Eprint), buf: &mut [u8], n: usize) -> bool {
+fn filled(rt: &impl Eprint, from: Stdin, buf: &mut [u8], n: usize) -> bool {
     let k = least(n, buf.len());
-    let read = streams::read_input(rt, &mut buf[..k]);
+    let read = streams::read_input(from, &mut buf[..k]);
     if read.failed {
         say(rt, "census_samples: standard input can't be read\n");
         return false;
@@ -78,8 +78,8 @@ fn filled(rt: &(impl Input + Eprint), buf: &mut [u8], n: usize) -> bool {
 }
 
 // The next sample's head, if there is one.
-fn next_head(rt: &(impl Input + Eprint), head: &mut [u8]) -> bool {
-    let read = streams::read_input(rt, head);
+fn next_head(rt: &impl Eprint, from: Stdin, head: &mut [u8]) -> bool {
+    let read = streams::read_input(from, head);
     if read.failed {
         say(rt, "census_samples: standard input can't be read\n");
         return false;
@@ -120,7 +120,8 @@ fn compare(
 
 // One sample more, and whether the run goes on.
 fn replay(
-    rt: &(impl Input + Print + Eprint),
+    rt: &(impl Print + Eprint),
+    from: Stdin,
     head: &mut [u8],
     input: &mut [u8],
     wanted: &mut [u8],
@@ -128,20 +129,21 @@ fn replay(
 ) -> bool
     requires { 47 ≤ length head.old }
 {
-    if !next_head(rt, head) {
+    if !next_head(rt, from, head) {
         return false;
     }
-    if !filled(rt, input, number(head, 0)) {
+    if !filled(rt, from, input, number(head, 0)) {
         return false;
     }
-    if !filled(rt, wanted, number(head, 7)) {
+    if !filled(rt, from, wanted, number(head, 7)) {
         return false;
     }
     compare(rt, head, input, wanted, out)
 }
 
 fn replay_all(
-    rt: &(impl Input + Print + Eprint),
+    rt: &(impl Print + Eprint),
+    from: Stdin,
     head: &mut [u8],
     input: &mut [u8],
     wanted: &mut [u8],
@@ -151,7 +153,7 @@ fn replay_all(
 {
     let mut i: usize = 0;
     while i < MOST {
-        if !replay(rt, head, input, wanted, out) {
+        if !replay(rt, from, head, input, wanted, out) {
             return;
         }
         i = i + 1;
@@ -159,13 +161,14 @@ fn replay_all(
 }
 
 fn lend(
-    rt: &(impl Input + Print + Eprint),
+    rt: &(impl Print + Eprint),
+    from: Stdin,
     head: &mut [u8; HEAD],
     input: &mut [u8; TRACE],
     wanted: &mut [u8; trace::LISTING_BYTES],
     out: &mut [u8; trace::LISTING_BYTES],
 ) {
-    replay_all(rt, head, input, wanted, out);
+    replay_all(rt, from, head, input, wanted, out);
 }
 
 fn main(rt: HostRuntime) {
@@ -173,5 +176,12 @@ fn main(rt: HostRuntime) {
     let mut input = [0u8; TRACE];
     let mut wanted = [0u8; trace::LISTING_BYTES];
     let mut out = [0u8; trace::LISTING_BYTES];
-    lend(&rt, &mut head, &mut input, &mut wanted, &mut out);
+    lend(
+        &rt,
+        rt.stdin(),
+        &mut head,
+        &mut input,
+        &mut wanted,
+        &mut out,
+    );
 }

@@ -5,7 +5,7 @@
 // (sample.py). No rows are lent: the classes are document 01's.
 use exports::c;
 use model::{Ask, Offer};
-use std::io::Input;
+use std::io::Stdin;
 use trace::{Line, NextLine, lines};
 
 const BASE: usize = 16384;
@@ -354,14 +354,15 @@ fn replay(
 }
 
 fn read_and_replay(
-    rt: &(impl Input + Print + Eprint),
+    rt: &(impl Print + Eprint),
+    from: Stdin,
     input: &mut [u8],
     words: &mut [u8],
     states: &mut [u8],
     marks: &mut [u8],
     heap: &mut [u8],
 ) {
-    let read = streams::read_input(rt, input);
+    let read = streams::read_input(from, input);
     if read.failed {
         say(rt, "exports_samples: standard input can't be read\n");
         return;
@@ -373,14 +374,15 @@ fn read_and_replay(
 }
 
 fn lend(
-    rt: &(impl Input + Print + Eprint),
+    rt: &(impl Print + Eprint),
+    from: Stdin,
     input: &mut [u8; TRACE],
     words: &mut [u8; WORDS_LEN],
     states: &mut [u8; BLOCKS],
     marks: &mut [u8; 256],
     heap: &mut [u8; HEAP],
 ) {
-    read_and_replay(rt, input, words, states, marks, heap);
+    read_and_replay(rt, from, input, words, states, marks, heap);
 }
 
 fn main(rt: HostRuntime) {
@@ -391,6 +393,7 @@ fn main(rt: HostRuntime) {
     let mut heap = [0xA5u8; HEAP];
     lend(
         &rt,
+        rt.stdin(),
         &mut input,
         &mut words,
         &mut states,

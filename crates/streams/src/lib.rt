@@ -3,7 +3,7 @@
 // Standard input, with a read that fails told from the end of the input.
 ghost use Rattle.std.specs.Counts.{IsPrefixLen};
 
-use std::io::{Input, Read as Reads};
+use std::io::{Read as Reads, Stdin};
 
 // How many bytes were read, and whether a read failed behind them.
 #[derive(Drop)]
@@ -13,10 +13,10 @@ pub struct Read {
 }
 
 // Reads until the buffer is full, the input ends or a read fails. No contract can say which bytes a read puts there.
-pub fn read_input(rt: &impl Input, buf: &mut [u8]) -> Read
+pub fn read_input(from: Stdin, buf: &mut [u8]) -> Read
     ensures { IsPrefixLen result.len buf.new }
 {
-    let mut input = rt.reader();
+    let mut input = from;
     let mut n: usize = 0;
     while n < buf.len() {
         let Ok(more) = input.read(&mut buf[n..]) else {

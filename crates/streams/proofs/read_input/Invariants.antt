@@ -3,7 +3,7 @@ use Rattle.std.proofs.Common.{length, ◌-◌, ◌≤◌}
 use Rattle.streams.proofs.read_input.Given as goal
 
 abbrev pub invariant-loop-n : goal.invariant-loop-n
-invariant-loop-n g l = l.n ≤ length l.buf
+invariant-loop-n l = l.n ≤ length l.buf
 
 abbrev pub decreases-loop-n : goal.decreases-loop-n
-decreases-loop-n g l = length l.buf - l.n
+decreases-loop-n l = length l.buf - l.n
