@@ -16,13 +16,13 @@ pub returns-then-answer-ne-ANSWER_BYTES : goal.returns-then-answer-ne-ANSWER_BYT
 returns-then-answer-ne-ANSWER_BYTES c = whole_answer c.args.p (lend_bytes c.args.words.now c.args.states.now c.args.marks.now c.args.heap.now c.args.answer.now) c.args.inner c.if-answer-ne-ANSWER_BYTES.true
 
 pub returns-then-w-n : goal.returns-then-w-n
-returns-then-w-n c = whole_long c.args.p (lend_bytes c.args.words.now c.args.states.now c.args.marks.now c.args.heap.now c.args.answer.now) c.args.inner (λ k. let b = c.type_inv.words k in omega (arith, b)) c.if-len-ne0.false c.if-answer-ne-ANSWER_BYTES.false (omega (arith, c.requires, c.if-w-n.true))
+returns-then-w-n c = whole_long c.args.p (lend_bytes c.args.words.now c.args.states.now c.args.marks.now c.args.heap.now c.args.answer.now) c.args.inner (λ k. let b = c.type_inv.words k in omega (arith, b)) c.if-len-ne0.false (omega arith) (omega (arith, c.requires, c.if-w-n.true))
 
 pub slice_bounds-run-end-2 : goal.slice_bounds-run-end-2
 slice_bounds-run-end-2 c = sym (length-take-le (length c.args.words.now / 8) c.args.w.now c.if-w-n.false)
 
 pub run-requires : goal.run-requires
-run-requires c = (omega (arith, c.if-len-ne0.false, length-take-le (length c.args.words.now / 8) c.args.w.now c.if-w-n.false), c.if-answer-ne-ANSWER_BYTES.false)
+run-requires c = (omega (arith, c.if-len-ne0.false, length-take-le (length c.args.words.now / 8) c.args.w.now c.if-w-n.false), (omega arith))
 
 pub returns : goal.returns
-returns c = whole_run c.args.p (lend_bytes c.args.words.now c.args.states.now c.args.marks.now c.args.heap.now c.args.answer.now) c.args.inner c.if-len-ne0.false c.if-answer-ne-ANSWER_BYTES.false c.run.ensures
+returns c = whole_run c.args.p (lend_bytes c.args.words.now c.args.states.now c.args.marks.now c.args.heap.now c.args.answer.now) c.args.inner c.if-len-ne0.false (omega arith) c.run.ensures
