@@ -1,7 +1,7 @@
 #!/usr/bin/env bash
 # The programs where a read or a write fails, and the census where a trace has a rest: what each says on standard error, and
 # what it still prints. The gate compares standard output only, so this is run by hand.
-# Use: open.sh BIN    the folder of the built programs, target/bin after `rt check`
+# Use: open.sh BIN    the folder of the built programs, target/bin after tools/programs
 set -u
 bin=$(cd "$1" && pwd)
 top=$(cd "$(dirname "$0")/../.." && pwd)
