@@ -33,9 +33,11 @@ for tool in rustc rt ${count:+valgrind}; do
 done
 [ -d "$given/src" ] || fail "the given Rust isn't at $given: set MMTK_SRC to the folder that holds its src/"
 [ -d "$port/crates/native_ms/src" ] || fail "$port has no crates/native_ms"
+# The copies of the port are compiled without proof, by rattle-cases of rattle-kit-5b-plain. rattle-kit-13f has nothing that does so: it
+# compiles only what is proved, and neither the functions of port.txt nor the copy `bare` is.
 kit=$(dirname "$(dirname "$(rt doc)")")
 own=$kit/on/$(uname -m)
-[ -x "$own/bin/rattle-cases" ] || fail "the kit at $kit can't compile what isn't proved: it has no rattle-cases"
+[ -x "$own/bin/rattle-cases" ] || fail "this toolchain compiles only what is proved, and the bench's copies of the port are not (docs/SPEED.md)"
 
 rm -rf "$out"
 mkdir -p "$out/lib"
