@@ -27,6 +27,10 @@ OTHERS = {
 WORD = re.compile(r'[^\s(){}.;,@"«»]+')
 COMMENT = re.compile(r'(?m)(?:^|(?<=\s))--.*$')
 TOP = re.compile(r'(?m)^(?:(?:pub|unfoldable|abbrev|opaque|private)\s+)*([^\s(){}.;,@"«»:]+)(?:\s*\{[^{}\n]*\})*\s+:\s')
+# a record within a block of parameters, a ruleset, and what a file passes on under another name
+WITHIN = re.compile(r'(?m)^([ \t]+)(?:pub\s+)?record\s+([^\s(){}:]+).*((?:\n\1[ \t]+.*)*)')
+RULESET = re.compile(r'(?m)^[ \t]*(?:pub\s+)?ruleset\s+(\S+)\s*=')
+PASSED_ON = re.compile(r'(?m)^pub use [^{\n]*\{([^}]*)\}')
 # within a block of parameters: a name that is public, or whose equation follows
 INNER = re.compile(r'(?m)^([ \t]+)((?:(?:pub|unfoldable|abbrev)\s+)*)([^\s(){}.;,@"«»:]+)(?:\s*\{[^{}\n]*\})*\s+:\s(?=(?:.*\n)(?:\1[ \t]+.*\n)*(?:\1unfolding.*\n)?\1\3\s)')
 BLOCK = re.compile(r'(?m)^(?:pub\s+)?(record|data)\s+([^\s(){}:]+)(.*(?:\n(?:[ \t]+.*|\s*))*)')
@@ -34,6 +38,7 @@ MEMBER = re.compile(r'(?m)^[ \t]+(?:pub )?\|?\s*([^\s(){}:]+(?: [^\s(){}:]+)*)\s
 USE = re.compile(r'(?m)^\s*(?:ghost\s+)?use\s+([^\s;{]+?)\.?\{([^}]*)\}')
 USE_ONE = re.compile(r'(?m)^\s*(?:ghost\s+)?use\s+([^\s;{]+)')
 GHOST = re.compile(r'ghost\s+use\b[^;]*;')
+DASHED = re.compile(r"(?<![^\s(){}.;,@«»])[\w'₀-₉]+(?:-[\w'₀-₉]+)+(?![^\s(){}.;,@«»])")
 SPAN = re.compile(r'`[^`\n]+`')
 HUMP = re.compile(r'(?<![\w.])[a-z]\w*[a-z0-9][A-Z]\w*')
 KEYWORDS = {'use', 'mod', 'infix', 'infixl', 'infixr', 'open'}
@@ -72,7 +77,12 @@ def members(text):
 def declared(text):
     text = COMMENT.sub('', text)
     found = {m.group(1) for m in TOP.finditer(text)}
-    found |= {m.group(3) for m in INNER.finditer(text)}
+    found |= {m.group(3) for m in INNER.finditer(text)} | set(RULESET.findall(text))
+    for m in WITHIN.finditer(text):
+        found |= {m.group(2)} | members(m.group(3))
+    for m in PASSED_ON.finditer(text):
+        found |= {n.split(' as ')[1] for n in m.group(1).split(',') if ' as ' in n}
+    found = {n.strip() for n in found}
     for m in BLOCK.finditer(text):
         found.add(m.group(2))
         found |= members(m.group(3))
@@ -126,6 +136,15 @@ def turn_antt(text, table, keep, after_dot):
         out += [turn_words(text[at : m.start()], table, keep, after_dot), turned]
         at = m.end()
     return ''.join(out) + turn_words(text[at:], table, keep, after_dot)
+
+
+def turn_locals(text, keep):
+    """In a file of lemmas: what is bound there, with its dash."""
+    code = COMMENT.sub('', text)
+    words = set(WORD.findall(code))
+    bound = {m.group(0) for m in DASHED.finditer(code) if code[m.start() - 1 : m.start()] != '.'} - keep
+    table = {w: w.replace('-', '_') for w in bound if w.replace('-', '_') not in words}
+    return WORD.sub(lambda m: table.get(m.group(0), m.group(0)), text)
 
 
 def clause_spans(text):
@@ -265,6 +284,8 @@ def main():
                 where[n].add(path)
             for m in BLOCK.finditer(COMMENT.sub('', text)):
                 fields |= members(m.group(3))
+            for m in WITHIN.finditer(COMMENT.sub('', text)):
+                fields |= members(m.group(3))
     table = {n: snake(n) for n in names if snake(n) != n}
     # a lemma that would have its function's name gets `_lem`
     alike = collections.defaultdict(set)
@@ -304,6 +325,8 @@ def main():
     for path, text in texts.items():
         keep = borrowed(text, ours)
         new = (turn_antt if path.endswith('.antt') else turn_rt)(text, table, keep, after_dot)
+        if path.endswith('.antt') and not is_function(path, text):
+            new = turn_locals(new, keep)
         if new != text:
             changed += 1
             with open(path, 'w', encoding='utf-8') as f:

@@ -185,24 +185,24 @@ module _ (p : Params) (B : Bounds p) (rows : classes_fit p ≡ true) where
       let Z : Sized n w = K.sized in
       let links = list_links t G in
       let b = block_small t G in
-      let of-tls : List ℕ = w.tls ++ w.cells in
-      let of-list : List ℕ = w.list ++ of-tls in
-      let of_size : List ℕ = w.size ++ of-list in
-      let of-free : List ℕ = w.free ++ of_size in
-      let of-prev : List ℕ = w.prev ++ of-free in
-      let of-next : List ℕ = w.next ++ of-prev in
-      let of-released : List ℕ = w.released ++ of-next in
-      let of-bound : List ℕ = w.bound ++ of-released in
-      small_append w.first (w.last ++ (w.phase ∷ of-bound)) (small_below w.first 1470 Z.first (λ i l. omega (arith, (links i l).here)))
-      (small_append w.last (w.phase ∷ of-bound) (small_below w.last 1470 Z.last (λ i l. omega (arith, (links i l).end)))
-      (small_cons w.phase of-bound (phase_small w F.phase)
-      (small_append w.bound of-released (small_below w.bound 8 Z.bound (flags_small w F.flags).0)
-      (small_append w.released of-next (small_below w.released 9 Z.released (flags_small w F.flags).1)
-      (small_append w.next of-prev (small_below w.next n Z.next (λ i l. (b i l).next))
-      (small_append w.prev of-free (small_below w.prev n Z.prev (λ i l. (b i l).prev))
+      let of_tls : List ℕ = w.tls ++ w.cells in
+      let of_list : List ℕ = w.list ++ of_tls in
+      let of_size : List ℕ = w.size ++ of_list in
+      let of_free : List ℕ = w.free ++ of_size in
+      let of_prev : List ℕ = w.prev ++ of_free in
+      let of_next : List ℕ = w.next ++ of_prev in
+      let of_released : List ℕ = w.released ++ of_next in
+      let of_bound : List ℕ = w.bound ++ of_released in
+      small_append w.first (w.last ++ (w.phase ∷ of_bound)) (small_below w.first 1470 Z.first (λ i l. omega (arith, (links i l).here)))
+      (small_append w.last (w.phase ∷ of_bound) (small_below w.last 1470 Z.last (λ i l. omega (arith, (links i l).end)))
+      (small_cons w.phase of_bound (phase_small w F.phase)
+      (small_append w.bound of_released (small_below w.bound 8 Z.bound (flags_small w F.flags).0)
+      (small_append w.released of_next (small_below w.released 9 Z.released (flags_small w F.flags).1)
+      (small_append w.next of_prev (small_below w.next n Z.next (λ i l. (b i l).next))
+      (small_append w.prev of_free (small_below w.prev n Z.prev (λ i l. (b i l).prev))
       (small_append w.free of_size (small_below w.free n Z.free (λ i l. (b i l).free))
-      (small_append w.size of-list (small_below w.size n Z.size (λ i l. (b i l).size))
-      (small_append w.list of-tls (small_below w.list n Z.list (λ i l. (b i l).list))
+      (small_append w.size of_list (small_below w.size n Z.size (λ i l. (b i l).size))
+      (small_append w.list of_tls (small_below w.list n Z.list (λ i l. (b i l).list))
       (small_append w.tls w.cells (small_below w.tls n Z.tls (λ i l. (b i l).tls))
       (small_below w.cells n Z.cells (λ i l. cells_small t h S i l))))))))))))
 

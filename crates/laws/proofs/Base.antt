@@ -10,7 +10,7 @@ use native.Mathlib.Omega.{arith}
 use lib.Dec.{eqb}
 use borrow.Author.Tests.{eqb-true, eq-eqb}
 use Rattle.laws.proofs.Below.{true_not_false}
-pub use Rattle.laws.proofs.Below.{and_left, and_right, or_cases, or_left, or_right, same_test, test as Bool-cases, all_below_at as all-below, all_below_from as below_all, any_below_from as below-any, any_below_none as below-none-any}
+pub use Rattle.laws.proofs.Below.{and_left, and_right, or_cases, or_left, or_right, same_test, test as Bool_cases, all_below_at as all_below_lem, all_below_from as below_all, any_below_from as below_any, any_below_none as below_none_any}
 use Rattle.model.specs.Base.{all_below, any_below, member, filter, In, Pairwise}
 
 -- ---- tests

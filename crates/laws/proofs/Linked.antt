@@ -113,7 +113,7 @@ module _ (p : Params) (t : Tables) (l : ℕ) where
     pub some : at ≡ 0 → ⊥
     pub is : block_at p at ≡ b
     pub here : Stands behind at
-    pub linked-there : linked_from fuel p t l behind at ≡ true
+    pub linked_there : linked_from fuel p t l behind at ≡ true
     pub no_longer : length (walk fuel p t.words.next at) ≤ long
 
   longer : (b m n : ℕ) → m ≤ n → Met b m → Met b n
@@ -125,7 +125,7 @@ module _ (p : Params) (t : Tables) (l : ℕ) where
         some = w.some;
         is = w.is;
         here = w.here;
-        linked-there = w.linked-there;
+        linked_there = w.linked_there;
         no_longer = omega (arith, w.no_longer);
       }
 
@@ -149,7 +149,7 @@ module _ (p : Params) (t : Tables) (l : ℕ) where
         some = n;
         is = sym (eqb-true b (block_at p a) y);
         here = (goes k before a n e).here;
-        linked-there = e;
+        linked_there = e;
         no_longer = omega arith;
       })
       (λ y.
@@ -169,7 +169,7 @@ module _ (p : Params) (t : Tables) (l : ℕ) where
         let same : w.at ≡ a =
         sym (start_block_at p g w.at w.here.starts) ∙ ap (start p) w.is ∙ start_block_at p g a (goes k before a n e).here.starts in
         let there : linked_from w.fuel p t l w.behind a ≡ true =
-        subst (λ (x : ℕ). linked_from w.fuel p t l w.behind x ≡ true) same w.linked-there in
+        subst (λ (x : ℕ). linked_from w.fuel p t l w.behind x ≡ true) same w.linked_there in
         let rest : List ℕ = walk k p t.words.next (next_of p t a) in
         let long : length (walk (suc k) p t.words.next a) ≡ length rest + 1 = ap length (walk_on k a n) ∙ sym (add-one (length rest)) in
         let eq : length (walk w.fuel p t.words.next a) ≡ length (walk (suc k) p t.words.next a) =

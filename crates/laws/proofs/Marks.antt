@@ -15,7 +15,7 @@ use Rattle.model.specs.declared.Params.{Params}
 use Rattle.model.specs.Base.{all_below}
 use Rattle.model.specs.Params.{in_heap, heap_bytes}
 use Rattle.model.specs.Memory.{bit_of, set_bit, mark_index, marked, set_mark, cleared}
-use Rattle.laws.proofs.Base.{all-below, and_left, and_right, Bool-cases, not_both}
+use Rattle.laws.proofs.Base.{all_below_lem, and_left, and_right, Bool_cases, not_both}
 use Rattle.laws.proofs.Params.{Bounds, mod_through, in_heap_low, in_heap_high}
 use Rattle.laws.proofs.Memory.{Bytes, get_d_zeros, bytes_zeros}
 
@@ -41,11 +41,11 @@ table = refl
 at : (m i : ℕ) → m < 256 → i < 8
     → (ltb (set_bit m i) 256 && all_below 8 (λ j. same (bit_of (set_bit m i) j) (eqb j i || bit_of m j))) ≡ true
 unfolding row
-at m i a b = all-below 8 _ (all-below 256 row table m a) i b
+at m i a b = all_below_lem 8 _ (all_below_lem 256 row table m a) i b
 
 pub bit_of_set_bit : (m i j : ℕ) → m < 256 → i < 8 → j < 8 → bit_of (set_bit m i) j ≡ (eqb j i || bit_of m j)
 bit_of_set_bit m i j a b c =
-    same_eq _ _ (all-below 8 _ (and_right (ltb (set_bit m i) 256) _ (at m i a b)) j c)
+    same_eq _ _ (all_below_lem 8 _ (and_right (ltb (set_bit m i) 256) _ (at m i a b)) j c)
 
 pub set_bit_lt : (m i : ℕ) → m < 256 → i < 8 → set_bit m i < 256
 set_bit_lt m i a b = ltb-true _ _ (and_left _ _ (at m i a b))
@@ -147,10 +147,10 @@ same_mark p a q b wa wq la lq = by (ℕ_discrete a q)
 
 -- a mark set marks its place and no other; q lies in the heap, a need not
 module _ (p : Params) (bounds : Bounds p) (ms : List ℕ) (q : ℕ) (byte : Bytes ms)
-    (len : length ms ≡ heap_bytes p / 64) (in-q : in_heap p q ≡ true) (word-q : q % 8 ≡ 0) where
+    (len : length ms ≡ heap_bytes p / 64) (in_q : in_heap p q ≡ true) (word_q : q % 8 ≡ 0) where
   pub marked_set_mark : (a : ℕ) → a % 8 ≡ 0 → marked p (set_mark p ms q) a ≡ (eqb a q || marked p ms a)
   unfolding marked set_mark
-  marked_set_mark a word = ⊎_elim inside outside (Bool-cases (in_heap p a))
+  marked_set_mark a word = ⊎_elim inside outside (Bool_cases (in_heap p a))
     where
       f : ℕ
       f = mark_index p a
@@ -160,10 +160,10 @@ module _ (p : Params) (bounds : Bounds p) (ms : List ℕ) (q : ℕ) (byte : Byte
 
       inside : in_heap p a ≡ true → marked p (set_mark p ms q) a ≡ (eqb a q || marked p ms a)
       inside e =
-          rw e (bit_set ms g f byte (rw len (mark_byte p q bounds in-q))
-          ∙ ap (λ (t : Bool). t || bit_of (get_or ms (f / 8) 0) (f % 8)) (same_mark p a q bounds.base_words word word-q (in_heap_low p a e) (in_heap_low p q in-q)))
+          rw e (bit_set ms g f byte (rw len (mark_byte p q bounds in_q))
+          ∙ ap (λ (t : Bool). t || bit_of (get_or ms (f / 8) 0) (f % 8)) (same_mark p a q bounds.base_words word word_q (in_heap_low p a e) (in_heap_low p q in_q)))
 
       outside : in_heap p a ≡ false → marked p (set_mark p ms q) a ≡ (eqb a q || marked p ms a)
       outside e =
-          let n : eqb a q ≡ false = ne_eqb a q (λ y. not_both (in_heap p q) in-q (ap (in_heap p) (sym y) ∙ e)) in
+          let n : eqb a q ≡ false = ne_eqb a q (λ y. not_both (in_heap p q) in_q (ap (in_heap p) (sym y) ∙ e)) in
           rw (e, n)

@@ -140,7 +140,7 @@ members_count n (x ∷ l) d u =
     let all : sum_below n (λ b. flag (member b (x ∷ l))) ≡ sum_below n (λ b. flag (eqb b x)) + sum_below n (λ b. flag (member b l)) =
     sum_same n (λ b. flag (member b (x ∷ l))) (λ b. flag (eqb b x) + flag (member b l)) (λ b k. one_more x l d.0 b)
     ∙ sum_add n (λ b. flag (eqb b x)) (λ b. flag (member b l)) in
-    let suc-length : length (x ∷ l) ≡ length l + 1 = sym (add-one (length l)) in
+    let suc_length : length (x ∷ l) ≡ length l + 1 = sym (add-one (length l)) in
     omega arith
 
 -- a list without repetition of numbers below n is at most n long

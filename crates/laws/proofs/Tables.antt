@@ -303,8 +303,8 @@ pub lengths_set_phase : (v : ℕ) (t : Words) → lengths (set_phase v t) ≡ le
 unfolding lengths set_phase
 lengths_set_phase v t = refl
 
--- for a step that is made of stores: `sized_same (simp kept-lengths)` under the step's `unfolding`
-pub ruleset kept-lengths = (lengths_set_first, lengths_set_last, lengths_set_bound, lengths_set_released, lengths_set_next, lengths_set_prev, lengths_set_free, lengths_set_size, lengths_set_list, lengths_set_tls, lengths_set_cells, lengths_set_phase)
+-- for a step that is made of stores: `sized_same (simp kept_lengths)` under the step's `unfolding`
+pub ruleset kept_lengths = (lengths_set_first, lengths_set_last, lengths_set_bound, lengths_set_released, lengths_set_next, lengths_set_prev, lengths_set_free, lengths_set_size, lengths_set_list, lengths_set_tls, lengths_set_cells, lengths_set_phase)
 
 sized_part : (o k : ℕ) (w : List ℕ) → o + k ≤ length w → length (part o k w) ≡ k
 sized_part o k w h = simp (length-take, length-drop) (omega arith)

@@ -21,7 +21,7 @@ use Rattle.model.specs.Block.{state_unallocated, state_unmarked, swept_words, cl
 use Rattle.model.specs.Events.{Event, released, spent}
 use Rattle.model.specs.FreeListAllocator.{find_free_block_with, Found, found, after, sweep_of, followed_by, recycle_local_blocks, acquire_abandoned, Search, in_found, acquire_fresh, find_block}
 use Rattle.model.specs.Global.{abandon_bin, abandon_blocks, Freed, release_from, release_blocks, append_to, left_unswept, release_bin, sweep_later_bin, sweep_block, sweep_all, recycle_from, recycle_bin, recycle_blocks, swept_eagerly, is_last, eagerly}
-use Rattle.laws.proofs.Base.{if_cases, Bool-cases, and_left}
+use Rattle.laws.proofs.Base.{if_cases, Bool_cases, and_left}
 use Rattle.laws.proofs.Frame.{each_keeps}
 
 -- ---- list numbers
@@ -60,7 +60,7 @@ module _ (i bin : ℕ) (li : i < 10) (lb : bin < 49) where
 -- ---- the search of an alloc
 
 zero_or : (a : ℕ) → (a ≡ 0) ⊎ (a ≢ 0)
-zero_or a = ⊎_elim (λ y. inl (eqb-true a 0 y)) (λ z. inr (eqb-false a 0 z)) (Bool-cases (eqb a 0))
+zero_or a = ⊎_elim (λ y. inl (eqb-true a 0 y)) (λ z. inr (eqb-false a 0 z)) (Bool_cases (eqb a 0))
 
 -- a pop of an empty list does nothing, and any other takes its head
 pop_empty : (p : Params) (l : ℕ) (w : Words) → get_or w.first l 0 ≡ 0 → pop p l w ≡ popped 0 w
@@ -381,8 +381,8 @@ pub recycle_keeps : (p : Params) (i : ℕ) → i < 10 → (P : Words → Type 0)
     → P (recycle_from p.blocks p avail full (get_or w.first full 0) w))
     → (w : Words) → P w → P (recycle_blocks p (3 * i) w)
 unfolding recycle_blocks recycle_bin
-recycle_keeps p i li P bin-keeps = each_keeps P bins (recycle_bin p (3 * i))
-    (λ bin lb w o. bin-keeps _ _ bin (available_numbered i bin li lb) (consumed_numbered i bin li lb) (available_consumed i bin li lb) w o)
+recycle_keeps p i li P bin_keeps = each_keeps P bins (recycle_bin p (3 * i))
+    (λ bin lb w o. bin_keeps _ _ bin (available_numbered i bin li lb) (consumed_numbered i bin li lb) (available_consumed i bin li lb) w o)
 
 -- the whole end, which only the last part makes and only with the choice on
 pub eagerly_keeps : (p : Params) (ms : List ℕ) (part : ℕ) (P : Freed → Type 0) → ((f : Freed) → P f → p.eager ≡ true → P (sweep_all p ms f))

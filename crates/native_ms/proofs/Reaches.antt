@@ -117,9 +117,9 @@ module _ (p : Params) {marks heap at s n up : ℕ} (r : Reach p marks heap at s 
               let words_are : 8 * (s / 8) ≡ s = omega (arith, r.aligned) in
               let span : Span p ((p.base + o) + biased p.lower) (s / 8) 0 (8 * g) (s / 8) =
               record { skips = omega (arith, bit); begins = omega (arith, bit); counts = span_count p g r.cells.whole ends words_are } in
-              let at-bit : 8 * g / 8 ≡ g = omega arith in
+              let at_bit : 8 * g / 8 ≡ g = omega arith in
               let words : (s + 7) / 8 ≡ s / 8 = omega (arith, r.aligned) in
-              rw words (sym (span_any p ms (p.base + o) (s / 8) (omega (arith, bounds.base_low)) refl span) ∙ rw at-bit);
+              rw words (sym (span_any p ms (p.base + o) (s / 8) (omega (arith, bounds.base_low)) refl span) ∙ rw at_bit);
         }
 
 -- two parts of one run of cells

@@ -335,16 +335,16 @@ module _ (p : Params) (good : good_params p ≡ true) (w : Words) (s m : List �
       let r = and_four start (phase_known w && flags) (all_below 9 (λ i. few_at w i) && released_some w) (all_below 8 (λ i. done_at w i)) e in
       let q = and_four blocks lists (all_below 8 (λ i. empty_at_lem w i)) (in_gc_empty w) r.0 in
       let known = and_left (phase_known w) flags r.1 in
-      let flag-r = and_right (phase_known w) flags r.1 in
+      let flag_r = and_right (phase_known w) flags r.1 in
       let at : (b : ℕ) → b < p.blocks → (block_fits p w s b ≡ true) × (eqb (get_or s b 0) 0 ≡ false → on_list_named p w b ≡ true) =
       λ b k. block_fits_lem p w s m b (all_below_at p.blocks (block_sound p (tables_of w s m)) q.0 b k) in
       let full : lists_full p w s ≡ true =
       full_from p w s m bounds (all_below_at 1470 (linked p (tables_of w s m)) q.1) (λ b k. (at b k).1) in
       and_both (and_both (and_both (and_both (and_both (and_both known
-      (parts_from w (and_right (all_below 8 (λ i. bound_at w i)) (all_below 9 (λ i. released_at w i)) flag-r)
+      (parts_from w (and_right (all_below 8 (λ i. bound_at w i)) (all_below 9 (λ i. released_at w i)) flag_r)
       (and_left (all_below 9 (λ i. few_at w i)) (released_some w) r.2)))
       (and_right (all_below 9 (λ i. few_at w i)) (released_some w) r.2))
-      (holders_from w (and_left (all_below 8 (λ i. bound_at w i)) (all_below 9 (λ i. released_at w i)) flag-r) q.2 r.3)) q.3)
+      (holders_from w (and_left (all_below 8 (λ i. bound_at w i)) (all_below 9 (λ i. released_at w i)) flag_r) q.2 r.3)) q.3)
       (all_below_from p.blocks (block_fits p w s) (λ b k. (at b k).0))) full
 
   pub sound_walk_lem : sound_walk p w s ≡ sound p (tables_of w s m)

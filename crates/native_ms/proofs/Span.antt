@@ -312,6 +312,6 @@ module _ (p : Params) (ms : List ℕ) (cell n : ℕ) {first skip from count : �
     pub lent_run : first ≤ 2 ^ 52 → n ≤ 8192 → 0 < left → Run (length ms) (from / 8) left
     lent_run low small some =
         let from_low : from ≤ first + 8 * skip = omega (arith, S.begins) in
-        let skip-low : skip ≤ n = omega (arith, few) in
-        let left-low : left ≤ n = omega (arith, ef) in
-        record { some = some; fits = lent_fits _ _ _ _ _ el ef some; low = omega (arith, from_low, skip-low, left-low, low, small) }
+        let skip_low : skip ≤ n = omega (arith, few) in
+        let left_low : left ≤ n = omega (arith, ef) in
+        record { some = some; fits = lent_fits _ _ _ _ _ el ef some; low = omega (arith, from_low, skip_low, left_low, low, small) }

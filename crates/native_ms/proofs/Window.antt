@@ -14,7 +14,7 @@ use lib.Dec.{eqb}
 use lib.ListN.{get_or}
 use borrow.Author.Tests.{eqb-false}
 use Rattle.model.specs.Memory.{bit_of}
-use Rattle.laws.proofs.Base.{Bool-cases, not_both}
+use Rattle.laws.proofs.Base.{Bool_cases, not_both}
 use Rattle.native_ms.specs.Bits.{bit_at, any_bit}
 use Rattle.native_ms.proofs.Span.{bit_some, bits_none, byte_some, bytes_none}
 
@@ -115,13 +115,13 @@ module _ (ms : List ℕ) (g : ℕ) {x : ℕ} (e : x ≡ get_or ms (g / 8) 0 + 25
 
     pub few_some : (bit_and (x / 2 ^ (g % 8)) (1 * 2 ^ n % 2 ^ 64 - 1) ≡ 0 → ⊥) → true ≡ any_bit ms g n
     unfolding bit_at bit_of
-    few_some z = ⊎_elim sym (λ none. absurd (z (seen_is ∙ low_zero n (x / 2 ^ (g % 8)) (λ k l. window_digit k (omega arith) ∙ clear none k l)))) (Bool-cases (any_bit ms g n))
+    few_some z = ⊎_elim sym (λ none. absurd (z (seen_is ∙ low_zero n (x / 2 ^ (g % 8)) (λ k l. window_digit k (omega arith) ∙ clear none k l)))) (Bool_cases (any_bit ms g n))
       where
         clear : any_bit ms g n ≡ false → (k : ℕ) → k < n → digit (get_or ms ((g + k) / 8) 0) ((g + k) % 8) ≡ 0
         clear none k l =
             ⊎_elim (λ y. absurd (not_both (any_bit ms g n) (bit_some ms g n k l y) none))
             (λ y. omega (arith, eqb-false (digit (get_or ms ((g + k) / 8) 0) ((g + k) % 8)) 1 y))
-            (Bool-cases (eqb (digit (get_or ms ((g + k) / 8) 0) ((g + k) % 8)) 1))
+            (Bool_cases (eqb (digit (get_or ms ((g + k) / 8) 0) ((g + k) % 8)) 1))
 
 -- ---- eight bits
 

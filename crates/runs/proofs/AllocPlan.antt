@@ -27,7 +27,7 @@ use Rattle.model.specs.Runs.{Book, book_event, book_events, book_answer, taker_o
 use Rattle.laws.proofs.Base.{and_left, and_right, not_both}
 use Rattle.laws.proofs.Params.{Bounds, some_start, block_at_start}
 use Rattle.laws.proofs.Classes.{cell_bytes_words}
-use Rattle.laws.proofs.Tables.{sized_same, kept-lengths, lengths}
+use Rattle.laws.proofs.Tables.{sized_same, kept_lengths, lengths}
 use Rattle.laws.proofs.Memory as Mem
 use Rattle.laws.proofs.Frame.{LinksOnly, links_refl, push_links, push_list, push_first}
 use Rattle.laws.proofs.Walks.{find_keeps}
@@ -174,7 +174,7 @@ module _ (p : Params) (B : Bounds p) (t : Tables) (h : List ℕ) (sh : List (Lis
           core = rw (links.free, links.size, links.cells)
               (init_core p B f.words.free f.words.size f.words.cells t.states t.marks heap shadow book S.core b lb chain none cell
               word (cell_bytes_words p bin) refl hd);
-          sized = sized_same (simp kept-lengths links.lengths) S.lengths;
+          sized = sized_same (simp kept_lengths links.lengths) S.lengths;
           young = λ c m o. (
             links.phase ∙ S.phase,
             subst (λ (x : List ℕ). Settled (get_or x (block_at p c.start) 0)) (sym (push_list p list b f.words))

@@ -32,7 +32,7 @@ use Rattle.model.specs.Sound.{state_of, block_clear, list_named, set_named, soun
 use Rattle.model.specs.Calls.{Call, bind, destroy, alloc, prepare, mark, release, shared_release, End, says, takes, Plan, refuses, good_offer, may_release, take_plan, call_tests, plan_passed, plan, Step, take_cell, finish, step, Result, tables_in, result_from}
 use Rattle.model.specs.Runs.{Book, book_events, book_after, Write, written, Turn, State, step_of, result_of, turned, empty_book, begun, Holds, HoldersWrite}
 use Rattle.model.specs.Spans.{after_turns, phase_in, is_prepare, NoPrepare, Span, swept_count, alloc_sweeps, awaits, waiting, SweepsBound, EagerSweepsNone, passes, PassOnce, is_consumed, PassSeen}
-use Rattle.laws.proofs.Base.{all-below, and_left, and_right, Bool-cases, if_cases, in_member, member_in, or_cases, not_both}
+use Rattle.laws.proofs.Base.{all_below_lem, and_left, and_right, Bool_cases, if_cases, in_member, member_in, or_cases, not_both}
 use Rattle.laws.proofs.Params.{Bounds}
 use Rattle.laws.proofs.Stores.{set_at, set_off}
 use Rattle.laws.proofs.Tables.{Sized, by_lt}
@@ -113,13 +113,13 @@ module _ (p : Params) (t : Tables) where
       }
 
 module _ (p : Params) (B : Bounds p) (t : Tables) (h : List ℕ) (sh : List (List ℕ)) (bk : Book) (I : Inv p B t h sh bk)
-    (passes-test : sound p t ≡ true) (running : t.words.phase ≡ 0)
-    (swept-before : p.eager ≡ true → queue p t.states t.words.list ≡ 0) where
+    (passes_test : sound p t ≡ true) (running : t.words.phase ≡ 0)
+    (swept_before : p.eager ≡ true → queue p t.states t.words.list ≡ 0) where
   abbrev st : List ℕ
   st = t.states
 
   tables : GoodTables p t.marks t.words t.states
-  tables = record { lists = λ n. blocks_on p n t.words; good = sound_good p B t passes-test; sized = I.sized; states = I.core.states }
+  tables = record { lists = λ n. blocks_on p n t.words; good = sound_good p B t passes_test; sized = I.sized; states = I.core.states }
 
   -- ---- destroy: blocks go over, each to a list of its kind, and none of them waits for a sweep
 
@@ -135,7 +135,7 @@ module _ (p : Params) (B : Bounds p) (t : Tables) (h : List ℕ) (sh : List (Lis
       record {
         good = append_placed p B t.marks w st P Q ne (λ low. absurd (omega arith)) L.good;
         leaving = append_leaving p B t.words w l o sl so L.leaving;
-        same = λ b low occ. at b low occ (Bool-cases (member b (L.good.lists o)));
+        same = λ b low occ. at b low occ (Bool_cases (member b (L.good.lists o)));
       }
     where
       ne : l ≢ o
@@ -269,14 +269,14 @@ module _ (p : Params) (B : Bounds p) (t : Tables) (h : List ℕ) (sh : List (Lis
         (Got p B st t.marks hd h sh bk bin (hd - 1) low (omega arith) own t.words)
         (work_steps p B st t.marks hd h sh bk bin (hd - 1) low (omega arith) own t.words) Ends offer
         (λ f e o. offered offer fine f o.1 o.0.searching.lengths) (λ f e o. found_ends f o.1)
-        (record { events = no_events p B hd h bk; searching = starting p B t h sh bk I passes-test running hd lo hi bin some low word room }, no_work p st t.words)
+        (record { events = no_events p B hd h bk; searching = starting p B t h sh bk I passes_test running hd lo hi bin some low word room }, no_work p st t.words)
 
     alloc_worked : (align offset : ℕ) (offer : Offer) → good_offer p t offer ≡ true
         → let q : Plan = take_plan p align offset (find_block p hd bin offer t) in Worked p t q.events q.tables
     unfolding take_plan
     alloc_worked align offset offer fine =
         let E = find_ends offer fine in
-        record { phase = (find_searched p B t h sh bk I passes-test running hd lo hi bin some low word room offer fine).phase; few = E.0; once = E.1; eager = λ e. omega (arith, E.0, swept-before e) }
+        record { phase = (find_searched p B t h sh bk I passes_test running hd lo hi bin some low word room offer fine).phase; few = E.0; once = E.1; eager = λ e. omega (arith, E.0, swept_before e) }
 
 -- ---- every call
 
@@ -312,7 +312,7 @@ module _ (p : Params) (fine : good_params p ≡ true) (rows : classes_fit p ≡ 
 
       none : (b : ℕ) → b < p.blocks → Dec (get_or t.states b 0 ≡ 0) → in_queue t.states t.words.list b ≡ 0
       none b low (yes z) = flag_none (rw (eq-eqb (get_or t.states b 0) 0 z))
-      none b low (no occ) = flag_none (rw (ne_eqb (get_or t.states b 0) 0 occ, not_waiting t b (all-below p.blocks (eager_block t) all b low) occ))
+      none b low (no occ) = flag_none (rw (ne_eqb (get_or t.states b 0) 0 occ, not_waiting t b (all_below_lem p.blocks (eager_block t) all b low) occ))
 
   alloc_works : (d size align offset : ℕ) (offer : Offer) → (s : sound p t ≡ true) → (p.eager ≡ true → queue p t.states t.words.list ≡ 0) → Asked p t d size align offset offer
       → let q : Plan = take_plan p align offset (find_block p d (bin_of p (raised p size align)) offer t) in Worked p t q.events q.tables

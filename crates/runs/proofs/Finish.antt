@@ -20,7 +20,7 @@ use Rattle.model.specs.Calls.{Reply, answered, Call, bind, destroy, alloc, prepa
 use Rattle.model.specs.Runs.{Cell, Book, frees, entered, book_event, book_events, book_answer, book_after, taker_of, covers, Apart, Zeroed, Served, Unchanged, LostExactly, byte_at, hits}
 use Rattle.laws.proofs.Base.{not_both, in_append, in_append_right}
 use Rattle.laws.proofs.Params.{Bounds}
-use Rattle.laws.proofs.Tables.{sized_same, kept-lengths}
+use Rattle.laws.proofs.Tables.{sized_same, kept_lengths}
 use Rattle.laws.proofs.Memory as Mem
 use Rattle.laws.proofs.Cells.{Whole, whole_from_lem, whole_to, whole_apart, whole_block_at}
 use Rattle.runs.proofs.Inv.{Held, Core, whole_eight, top_whole, take_bytes, take_core}
@@ -235,7 +235,7 @@ module _ (p : Params) (B : Bounds p) where
     after_inv =
         rw book_is (record {
           core = take_core p B t'.words.free t'.words.size t'.words.cells t'.states t'.marks G (shadow_events es sh) held I.core b lb occ x l top d;
-          sized = sized_same (simp kept-lengths) I.sized;
+          sized = sized_same (simp kept_lengths) I.sized;
           young = λ e m q. ⊎_elim
               (λ z. (running, subst (λ (y : ℕ). Settled (get_or t'.words.list y 0)) (sym (ap (λ (y : Cell). block_at p y.start) z ∙ whole_block_at p B b n x lb first)) settled))
               (λ z. I.young e z q) m;

@@ -22,7 +22,7 @@ use Rattle.model.specs.SizeClasses.{words_in}
 use Rattle.model.specs.Block.{link_all, keeps, simple, sweep_chain, init_chain, state_marked}
 use Rattle.model.specs.Events.{Event, initialised, swept, released}
 use Rattle.model.specs.Runs.{Cell, Book, frees, entered, book_event, unmarked, hits}
-use Rattle.laws.proofs.Base.{in_filter, pairwise_filter, in_member, member_in, same_test, any_same, not_both, below-none-any, and_right}
+use Rattle.laws.proofs.Base.{in_filter, pairwise_filter, in_member, member_in, same_test, any_same, not_both, below_none_any, and_right}
 use Rattle.laws.proofs.Params.{Bounds, start_in}
 use Rattle.laws.proofs.Memory as Mem
 use Rattle.laws.proofs.Cells.{Whole, whole_from_lem, whole_block, whole_block_at, chain_in, same_link_all}
@@ -306,7 +306,7 @@ module _ (p : Params) (B : Bounds p) where
         go : (t : Bool) → simple p ≡ t
             → (if t then member c.start bk.places else any_below (words_in c.size) (λ k. member (plus_lower p (c.start + 8 * k)) bk.places)) ≡ false
         go true s = none c.start (λ i. no_place c.start c.start e low (still s) i)
-        go false s = below-none-any (words_in c.size) _ (λ k l. none _ (λ i. no_place (c.start + 8 * k) _ (inside k l) (omega (arith, low)) refl i))
+        go false s = below_none_any (words_in c.size) _ (λ k l. none _ (λ i. no_place (c.start + 8 * k) _ (inside k l) (omega (arith, low)) refl i))
 
   -- ---- the first cell of a block's chain is taken
 

@@ -27,9 +27,9 @@ use Rattle.model.specs.Global.{bind_holder, destroy_holder, abandon_bin, abandon
 use Rattle.model.specs.Calls.{refusal_number, Reply, refused, Call, bind, destroy, alloc, prepare, mark, release, shared_release, End, says, takes, Plan, refuses, changes, good_object, may_release, release_plan}
 use Rattle.model.specs.Sound.{state_of, sound}
 use Rattle.model.specs.Runs.{Cell, Book, aged, book_event, book_events, book_answer, taker_of, frees, entered, hits, unmarked}
-use Rattle.laws.proofs.Base.{and_left, and_right, in_filter, if_false, if_cases, member_in, or_left, or_cases, Bool-cases, not_both}
+use Rattle.laws.proofs.Base.{and_left, and_right, in_filter, if_false, if_cases, member_in, or_left, or_cases, Bool_cases, not_both}
 use Rattle.laws.proofs.Params.{Bounds, block_at_within}
-use Rattle.laws.proofs.Tables.{Sized, sized_same, kept-lengths}
+use Rattle.laws.proofs.Tables.{Sized, sized_same, kept_lengths}
 use Rattle.laws.proofs.Memory as Mem
 use Rattle.laws.proofs.Marks.{marked_cleared, length_set_mark, length_cleared, bytes_set_mark, bytes_cleared, marked_set_mark}
 use Rattle.laws.proofs.Frame.{LinksOnly, links_refl, push_links, append_links, remove_links, each_keeps, FirstsBut, link_list, append_first, append_none, relabel_keeps}
@@ -161,7 +161,7 @@ module _ (p : Params) (B : Bounds p) where
     bind_planned d =
         record {
           events = no_events p B _ h bk;
-          inv = record { core = I.core; sized = sized_same (simp kept-lengths) I.sized; young = I.young; idle = I.idle };
+          inv = record { core = I.core; sized = sized_same (simp kept_lengths) I.sized; young = I.young; idle = I.idle };
           end = tt;
           serves = tt;
         }
@@ -188,7 +188,7 @@ module _ (p : Params) (B : Bounds p) where
                       marks = λ a e. marked_cleared p t.marks a;
                       places = λ q m. absurd m;
                     };
-                sized = sized_same (simp kept-lengths) I.sized;
+                sized = sized_same (simp kept_lengths) I.sized;
                 young = λ c m o. absurd (not_young c (in_aged bk.cells c m) o);
                 idle = I.idle;
               };
@@ -249,7 +249,7 @@ module _ (p : Params) (B : Bounds p) where
       mark_planned =
           record {
             events = no_events p B _ h bk;
-            inv = ⊎_elim old_mark new_mark (Bool-cases (marked p t.marks place));
+            inv = ⊎_elim old_mark new_mark (Bool_cases (marked p t.marks place));
             end = tt;
             serves = tt;
           }
@@ -380,7 +380,7 @@ module _ (p : Params) (B : Bounds p) where
             events = events_behind p B hd f.events (released b) h bk F.events refl (released_ok f.words.free f.words.size f.words.cells f.states _ _ _ F.core b un F.old);
             core = behind p B hd (Core p R.free R.size R.cells (set f.states b 0) ms) f.events (released b) h sh bk
                 (rw (L.free, L.size, L.cells) (release_core p B f.words.free f.words.size f.words.cells f.states ms _ _ _ F.core b un hd));
-            sized = sized_same (simp kept-lengths L.lengths) F.sized;
+            sized = sized_same (simp kept_lengths L.lengths) F.sized;
             wide = λ d od. rw L.size (wide_of d od);
             old = behind p B hd (λ g c k. (d : Cell) → In d k.cells → d.old ≡ true) f.events (released b) h sh bk (old_after (released b) (λ cs. refl) _ F.old);
           }
@@ -431,7 +431,7 @@ module _ (p : Params) (B : Bounds p) where
             events = events_behind p B hd f.events e h bk F.events refl (swept_ok p B f.states ms hd f.words _ _ _ F.core b (low, occ) word (λ c m q. F.old c m));
             core = behind p B hd (Core p R.free R.size R.cells f.states ms) f.events e h sh bk
                 (sweep_core p B f.words.free f.words.size f.words.cells f.states ms _ _ _ F.core b low _ occ word refl hd);
-            sized = sized_same (simp kept-lengths) F.sized;
+            sized = sized_same (simp kept_lengths) F.sized;
             wide = F.wide;
             old = behind p B hd (λ g c k. (d : Cell) → In d k.cells → d.old ≡ true) f.events e h sh bk (old_after e (λ cs. refl) _ F.old);
           }
@@ -508,7 +508,7 @@ module _ (p : Params) (B : Bounds p) where
           events = no_events p B _ h bk;
           inv = record {
             core = rw (L.links.free, L.links.size, L.links.cells) I.core;
-            sized = sized_same (simp kept-lengths L.links.lengths) I.sized;
+            sized = sized_same (simp kept_lengths L.links.lengths) I.sized;
             young = λ c m o. let y = I.young c m o in (L.links.phase ∙ y.0, L.steady _ y.1);
             idle = L.idle;
           };
@@ -541,7 +541,7 @@ module _ (p : Params) (B : Bounds p) where
       w₁ = set_released part 1 (set_phase 2 w)
 
       more : Ended w w₁
-      more = record { free = refl; size = refl; cells = refl; sized = sized_same (simp kept-lengths) z; idle = idle }
+      more = record { free = refl; size = refl; cells = refl; sized = sized_same (simp kept_lengths) z; idle = idle }
 
       last : Ended w (set_phase 0 (with_released (replicate 9 0) (abandon_blocks p abandoned in_gc w₁)))
       last =

@@ -24,7 +24,7 @@ use Rattle.model.specs.Runs.{Cell, Book, book_event, book_events, frees, entered
 use Rattle.laws.proofs.Base.{and_left}
 use Rattle.laws.proofs.Below.{and_three}
 use Rattle.laws.proofs.Classes.{cell_bytes_some}
-use Rattle.laws.proofs.Tables.{Sized, sized_same, kept-lengths}
+use Rattle.laws.proofs.Tables.{Sized, sized_same, kept_lengths}
 use Rattle.laws.proofs.Params.{Bounds, some_start, block_at_start}
 use Rattle.laws.proofs.Frame.{LinksOnly, links_refl, push_links, pop_links, FirstsBut, pop_firsts, push_first}
 use Rattle.laws.proofs.Walks.{Files, Steps}
@@ -206,7 +206,7 @@ module _ (p : Params) (B : Bounds p) (st ms : List ℕ) (hd : ℕ) where
     tls_searching b v =
         record {
           linked = linked_same p st _ refl S.linked;
-          lengths = sized_same (simp kept-lengths) S.lengths;
+          lengths = sized_same (simp kept_lengths) S.lengths;
           core = S.core;
           young = S.young;
           wide = S.wide;
@@ -226,7 +226,7 @@ module _ (p : Params) (B : Bounds p) (st ms : List ℕ) (hd : ℕ) where
       swept_searching =
           record {
             linked = linked_same p st _ refl S.linked;
-            lengths = sized_same (simp kept-lengths) S.lengths;
+            lengths = sized_same (simp kept_lengths) S.lengths;
             core = sweep_core p B w.free w.size w.cells st ms h sh bk S.core b ob.0 chain ob.1 (S.wide b ob) refl hd;
             young = λ c m o. S.young c (was_held p B w.free w.size w.cells st ms h sh bk S.core b ob.0 chain hd (sweep_of p ms b w) (λ cs. refl) c m).0 o;
             wide = S.wide;

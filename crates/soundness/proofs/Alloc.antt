@@ -30,7 +30,7 @@ use Rattle.model.specs.Calls.{good_offer}
 use Rattle.laws.proofs.Base.{and_left, and_right, or_right}
 use Rattle.laws.proofs.Params.{Bounds, block_at_start}
 use Rattle.laws.proofs.Stores.{set_at, set_off}
-use Rattle.laws.proofs.Tables.{Sized, sized_same, kept-lengths}
+use Rattle.laws.proofs.Tables.{Sized, sized_same, kept_lengths}
 use Rattle.laws.proofs.Cells.{whole_is_cell, in_chain}
 use Rattle.laws.proofs.Frame.{LinksOnly, links_refl, push_links, pop_links}
 use Rattle.laws.proofs.Walks.{Files, Steps, plain_steps, find_keeps}
@@ -408,7 +408,7 @@ module _ (p : Params) (B : Bounds p) (st ms : List ℕ) (w : Words) (H : GoodTab
 
     init_sized : Sized p.blocks (init_block p x (cell_bytes p bin) h w)
     unfolding init_block
-    init_sized = sized_same (simp kept-lengths) H.sized
+    init_sized = sized_same (simp kept_lengths) H.sized
 
     -- the offered block is on the available list then
     offer_good : GoodTables p ms (init_block p x (cell_bytes p bin) h (push p av x w)) (set st x state_unmarked)

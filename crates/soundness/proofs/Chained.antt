@@ -18,7 +18,7 @@ use Rattle.model.specs.Tables.{Words, Tables}
 use Rattle.model.specs.SizeClasses.{cell_bytes}
 use Rattle.model.specs.Block.{cell_count, is_cell, ChainStands, chain_from}
 use Rattle.model.specs.Sound.{state_of, size_ok, bin_named, chain_counts, chain_ok, chained, sound}
-use Rattle.laws.proofs.Base.{and_right, or_right, all-below, below_all}
+use Rattle.laws.proofs.Base.{and_right, or_right, all_below_lem, below_all}
 use Rattle.laws.proofs.Below.{and_three}
 use Rattle.laws.proofs.Params.{Bounds, some_start}
 use Rattle.laws.proofs.Classes.{cell_bytes_some}
@@ -71,7 +71,7 @@ module _ (p : Params) (B : Bounds p) (t : Tables) (h : List ℕ) where
     unfolding chained chain_ok
     counted b low o =
         and_right (leb (get_or w.cells b 0) (cell_count p (get_or w.size b 0))) _
-        (rw (ne_eqb (state_of t b) 0 o) at (all-below p.blocks _ ch b low))
+        (rw (ne_eqb (state_of t b) 0 o) at (all_below_lem p.blocks _ ch b low))
 
     block_chain : (b : ℕ) → b < p.blocks → Dec (state_of t b ≡ 0)
         → BlockChain p h b (get_or w.free b 0) (get_or w.size b 0) (get_or w.cells b 0) (walked p h w b)

@@ -22,7 +22,7 @@ use Rattle.model.specs.Block.{state_unmarked, clear_block, init_block}
 use Rattle.model.specs.FreeListAllocator.{Found, acquire_fresh, find_block}
 use Rattle.model.specs.Global.{abandon_bin, abandon_blocks, Freed, freed, release_blocks, release_bin, release_holder, sweep_later_bin, sweep_later, has_released, all_released, part_released, eagerly}
 use Rattle.model.specs.Sound.{state_of, list_named, set_named, on_unswept, released_before, eager_block, eager_ok}
-use Rattle.laws.proofs.Base.{and_left, and_right, or_cases, or_left, or_right, Bool-cases, if_cases, all-below, below_all}
+use Rattle.laws.proofs.Base.{and_left, and_right, or_cases, or_left, or_right, Bool_cases, if_cases, all_below_lem, below_all}
 use Rattle.laws.proofs.Below.{true_not_false, and_both, and_first, and_second}
 use Rattle.laws.proofs.Params.{Bounds}
 use Rattle.laws.proofs.Stores.{set_at, set_off}
@@ -105,7 +105,7 @@ module _ (p : Params) (B : Bounds p) {ms : List ℕ} {w : Words} {st : List ℕ}
         each : (b : ℕ) → b < p.blocks → get_or st b 0 ≢ 0 → (not (on_unswept w b) && not (eqb (get_or st b 0) state_unmarked && released_before w b)) ≡ true
         each b low occ =
             let all = ⊎_elim (λ f. absurd (true_not_false (sym f ∙ ap not on))) (λ a. a) (or_cases (not p.eager) _ ok) in
-            ⊎_elim (λ z. absurd (occ (eqb-true (get_or st b 0) 0 z))) (λ a. a) (or_cases (eqb (get_or st b 0) 0) _ (all-below p.blocks (eager_block t) all b low))
+            ⊎_elim (λ z. absurd (occ (eqb-true (get_or st b 0) 0 z))) (λ a. a) (or_cases (eqb (get_or st b 0) 0) _ (all_below_lem p.blocks (eager_block t) all b low))
 
         before : (b : ℕ) → b < p.blocks → get_or st b 0 ≡ state_unmarked → released_before w b ≡ true → ⊥
         before b low u r =
@@ -153,12 +153,12 @@ module _ (p : Params) (B : Bounds p) {ms : List ℕ} {w : Words} {st : List ℕ}
 
       before : Dec (get_or st b 0 ≡ state_unmarked) → (eqb (get_or st b 0) state_unmarked && released_before w b) ≡ false
       before (no f) = and_first (released_before w b) (ne_eqb (get_or st b 0) state_unmarked f)
-      before (yes u) = and_second (eqb (get_or st b 0) state_unmarked) (⊎_elim (λ r. absurd (not_before u r)) (λ f. f) (Bool-cases (released_before w b)))
+      before (yes u) = and_second (eqb (get_or st b 0) state_unmarked) (⊎_elim (λ r. absurd (not_before u r)) (λ f. f) (Bool_cases (released_before w b)))
 
   -- and what they say passes
   pub facts_eager : (p.eager ≡ true → EagerFacts w st) → eager_ok p (tables_of w st ms) ≡ true
   unfolding eager_ok
-  facts_eager given = ⊎_elim (λ on. or_right (not p.eager) (below_all p.blocks _ (λ b low. eager_block_lem (given on) b low (ℕ_discrete (get_or st b 0) 0)))) (λ off. or_left _ (ap not off)) (Bool-cases p.eager)
+  facts_eager given = ⊎_elim (λ on. or_right (not p.eager) (below_all p.blocks _ (λ b low. eager_block_lem (given on) b low (ℕ_discrete (get_or st b 0) 0)))) (λ off. or_left _ (ap not off)) (Bool_cases p.eager)
 
 -- ---- the calls that release nothing
 
@@ -319,7 +319,7 @@ module _ (p : Params) (B : Bounds p) (ms : List ℕ) where
           let own : X.list / 147 ≡ i = rw X.named at e in
           ⊎_elim (λ k. first_empty p B R.good X.list b X.low (R.holds.0 X.list (eqb-true (X.list / 49 % 3) 1 k)) X.on)
           (λ k. R.holds.1 b X.list u X.names (inr (own, omega arith, eqb-false (X.list / 49 % 3) 1 k)))
-          (Bool-cases (eqb (X.list / 49 % 3) 1))
+          (Bool_cases (eqb (X.list / 49 % 3) 1))
 
       row_base : (j : ℕ) → ((l : ℕ) → l / 147 ≡ j → Base l) → MarkedOf j f.words f.states
       unfolding MarkedOf Never owner_of

@@ -19,7 +19,7 @@ use Rattle.model.specs.Global.{Freed, freed, recycle_bin, recycle_blocks, eagerl
 use Rattle.model.specs.Sound.{state_of, list_named}
 use Rattle.laws.proofs.Params.{Bounds}
 use Rattle.laws.proofs.Stores.{set_at, set_off}
-use Rattle.laws.proofs.Tables.{sized_same, kept-lengths}
+use Rattle.laws.proofs.Tables.{sized_same, kept_lengths}
 use Rattle.laws.proofs.Frame.{LinksOnly, links_refl, push_links, remove_links, each_keeps, FirstsBut, push_list, push_first, append_first, append_none, remove_first}
 use Rattle.laws.proofs.Walks.{Numbered, available_numbered, consumed_numbered, available_consumed, recycled_one, swept_one, all_keeps, recycle_from_keeps, eagerly_keeps}
 use Rattle.soundness.proofs.Lists.{AllOn, Off, put, put_same, put_other, put_in_lem, on_list, free_off}
@@ -94,7 +94,7 @@ module _ (p : Params) (B : Bounds p) (ms : List ℕ) where
         lists = H.lists;
         good = take_good p (tables_of w st ms) H.lists H.sized H.good b _ _ low occ
             (chain_link p w b (get_or w.size b 0) _ (keeps p (marked p ms) (get_or w.size b 0)) word refl refl);
-        sized = sized_same (simp kept-lengths) H.sized;
+        sized = sized_same (simp kept_lengths) H.sized;
         states = H.states;
       }
     where

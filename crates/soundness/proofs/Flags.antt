@@ -16,11 +16,11 @@ use Rattle.model.specs.Params.{list_of, local_sets, abandoned, in_gc, lists}
 use Rattle.model.specs.Tables.{Words, Tables, set_bound, set_released, set_phase, with_released}
 use Rattle.model.specs.Global.{is_holder, is_bound, has_released, all_released, is_last, abandon_blocks, part_released}
 use Rattle.model.specs.Sound.{block_sound, linked, owner_empty, unbound_empty, in_gc_empty, phase_known, flags_known, released_few, released_some, released_empty, sound}
-use Rattle.laws.proofs.Base.{and_left, and_right, or_cases, or_left, or_right, Bool-cases, not_both, if_cases, all-below, below_all, below-any}
+use Rattle.laws.proofs.Base.{and_left, and_right, or_cases, or_left, or_right, Bool_cases, not_both, if_cases, all_below_lem, below_all, below_any}
 use Rattle.laws.proofs.Below.{and_both, and_seven, any_below_at}
 use Rattle.laws.proofs.Stores.{set_at, set_off, set_all, set_keeps}
 use Rattle.laws.proofs.Memory.{get_d_zeros}
-use Rattle.laws.proofs.Tables.{Sized, sized_same, kept-lengths}
+use Rattle.laws.proofs.Tables.{Sized, sized_same, kept_lengths}
 use Rattle.soundness.proofs.Owners.{Framed, abandon_framed, abandon_empties}
 
 -- ---- the tests of sound tables that go by firsts, phase, bound holders and released marks
@@ -61,7 +61,7 @@ owner_empty_lem w o h = below_all 147 _ (λ i l. eq-eqb _ 0 (h i l))
 -- and back
 pub empty_owner : (w : Words) (o : ℕ) → owner_empty w o ≡ true → (i : ℕ) → i < 147 → get_or w.first (49 * o + i) 0 ≡ 0
 unfolding owner_empty list_of
-empty_owner w o e i l = eqb-true _ 0 (all-below 147 _ e i l)
+empty_owner w o e i l = eqb-true _ 0 (all_below_lem 147 _ e i l)
 
 -- all lists of the owner number o are empty
 unfoldable pub Empty : Words → ℕ → Type 0
@@ -180,20 +180,20 @@ module _ (w : Words) where
       record {
         unbound = λ i l ne.
             ⊎_elim (λ b. absurd (ne (bound_word i b))) (λ e. holder_empty i e)
-            (or_cases (is_bound w (suc i)) (owner_empty w (local_sets (suc i))) (all-below 8 _ F.unbound i l));
+            (or_cases (is_bound w (suc i)) (owner_empty w (local_sets (suc i))) (all_below_lem 8 _ F.unbound i l));
         in_gc_lem = λ ne.
             ⊎_elim (λ b. absurd (ne (eqb-true _ 2 b))) (λ e. test_empty w 9 e)
             (or_cases (eqb w.phase 2) (owner_empty w in_gc) F.in_gc_lem);
         phase = ⊎_elim (λ a. low a) (λ b. omega (arith, eqb-true w.phase 2 b)) (or_cases (eqb w.phase 0 || eqb w.phase 1) (eqb w.phase 2) F.phase);
-        bound = λ i l. leb-true _ 1 (all-below 8 (λ i. leb (get_or w.bound i 0) 1) (and_left bs rs F.flags) i l);
-        released = λ i l. leb-true _ 1 (all-below 9 (λ i. leb (get_or w.released i 0) 1) (and_right bs rs F.flags) i l);
+        bound = λ i l. leb-true _ 1 (all_below_lem 8 (λ i. leb (get_or w.bound i 0) 1) (and_left bs rs F.flags) i l);
+        released = λ i l. leb-true _ 1 (all_below_lem 9 (λ i. leb (get_or w.released i 0) 1) (and_right bs rs F.flags) i l);
         only = λ part l e. eqb-true _ 2 (and_left (eqb w.phase 2) (eqb part 0 || is_bound w part) (of part l e));
         whose = λ i l e.
             ⊎_elim (λ z. absurd (omega (arith, eqb-true (suc i) 0 z))) (λ b. bound_word i b)
             (or_cases (eqb (suc i) 0) (is_bound w (suc i)) (and_right (eqb w.phase 2) (eqb (suc i) 0 || is_bound w (suc i)) (of (suc i) (omega arith) e)));
         some = λ e. let a = any_below_at 9 (λ part. has_released w part) (and_left _ (not (all_released w)) (late e)) in (a.0, a.1, has_released_lem a.0 a.2);
         due = λ e. not-true (all_released w) (and_right (any_below 9 (λ part. has_released w part)) (not (all_released w)) (late e));
-        empty = λ i l e. holder_empty i (not_or (has_released w (suc i)) _ (all-below 8 _ F.empty i l) (released_has (suc i) e));
+        empty = λ i l e. holder_empty i (not_or (has_released w (suc i)) _ (all_below_lem 8 _ F.empty i l) (released_has (suc i) e));
       }
     where
       bs : Bool
@@ -206,7 +206,7 @@ module _ (w : Words) where
       low a = ⊎_elim (λ b. omega (arith, eqb-true w.phase 0 b)) (λ b. omega (arith, eqb-true w.phase 1 b)) (or_cases (eqb w.phase 0) (eqb w.phase 1) a)
 
       of : (part : ℕ) → part < 9 → get_or w.released part 0 ≡ 1 → (eqb w.phase 2 && (eqb part 0 || is_bound w part)) ≡ true
-      of part l e = not_or (has_released w part) _ (all-below 9 (λ part. not (has_released w part) || (eqb w.phase 2 && (eqb part 0 || is_bound w part))) F.few part l) (released_has part e)
+      of part l e = not_or (has_released w part) _ (all_below_lem 9 (λ part. not (has_released w part) || (eqb w.phase 2 && (eqb part 0 || is_bound w part))) F.few part l) (released_has part e)
 
       late : w.phase ≡ 2 → (any_below 9 (λ part. has_released w part) && not (all_released w)) ≡ true
       late e = not_or (eqb w.phase 2) _ F.some (eq-eqb _ 2 e)
@@ -217,10 +217,10 @@ module _ (w : Words) where
       record {
         unbound = below_all 8 _ (λ i l. or_else (is_bound w (suc i)) _ (λ e. empty_holder i (F.unbound i l (λ q. not_both _ (word_bound i l q) e))));
         in_gc_lem = or_else (eqb w.phase 2) _ (λ e. empty_test w 9 (F.in_gc_lem (eqb-false _ 2 e)));
-        phase = or_else (eqb w.phase 0 || eqb w.phase 1) _ (λ e. eq-eqb _ 2 (top (Bool-cases (eqb w.phase 0)) (Bool-cases (eqb w.phase 1)) e));
+        phase = or_else (eqb w.phase 0 || eqb w.phase 1) _ (λ e. eq-eqb _ 2 (top (Bool_cases (eqb w.phase 0)) (Bool_cases (eqb w.phase 1)) e));
         flags = and_both (below_all 8 _ (λ i l. le-leb _ 1 (F.bound i l))) (below_all 9 _ (λ i l. le-leb _ 1 (F.released i l)));
         few = below_all 9 _ (λ part l. or_not (has_released w part) _ (λ e. and_both (eq-eqb _ 2 (F.only part l (has_released_lem part e))) (whose part l (has_released_lem part e))));
-        some = or_not (eqb w.phase 2) _ (λ e. let q = eqb-true _ 2 e in and_both (below-any 9 _ (F.some q).0 (F.some q).1 (released_has _ (F.some q).2)) (not_is _ (F.due q)));
+        some = or_not (eqb w.phase 2) _ (λ e. let q = eqb-true _ 2 e in and_both (below_any 9 _ (F.some q).0 (F.some q).1 (released_has _ (F.some q).2)) (not_is _ (F.due q)));
         empty = below_all 8 _ (λ i l. or_not (has_released w (suc i)) _ (λ e. empty_holder i (F.empty i l (has_released_lem (suc i) e))));
       }
     where
@@ -414,7 +414,7 @@ module _ (p : Params) (w w₁ : Words) (part : ℕ) (z : Sized p.blocks w₁) (G
       last =
           record {
             unbound = λ i l ne m e. R.first m (omega arith) (omega arith) ∙ unbound i l (rw R.bound at ne) m e;
-            in_gc_lem = λ ne. abandon_empties p 8 9 w₂ (sized_same (simp kept-lengths) z) (omega arith) (omega arith) (omega arith);
+            in_gc_lem = λ ne. abandon_empties p 8 9 w₂ (sized_same (simp kept_lengths) z) (omega arith) (omega arith) (omega arith);
             phase = omega arith;
             bound = λ i l. rw R.bound (known i l);
             released = λ i l. rw (get_d_zeros 9 i) (omega arith);
@@ -435,7 +435,7 @@ module _ (p : Params) (w w₁ : Words) (part : ℕ) (z : Sized p.blocks w₁) (G
       let w₂ : Words = set_released part 1 (set_phase 2 w₁) in
       ⊎_elim (λ f. unbound i l (λ q. not_both (is_bound w₂ (suc i)) (at_bound w₂ (suc i) (record { low = omega arith; high = omega arith; is = ap (λ (k : ℕ). get_or w₁.bound k 0) (one_less i) ∙ q })) (not-true _ f)))
       (λ q. none i l (eqb-true _ 1 q) (ℕ_discrete (suc i) part))
-      (or_cases (not (is_bound w₂ (suc i))) (has_released w₂ (suc i)) (all-below 8 (λ i. not (is_bound w₂ (suc i)) || has_released w₂ (suc i)) (and_right (has_released w₂ 0) _ e) i l))
+      (or_cases (not (is_bound w₂ (suc i))) (has_released w₂ (suc i)) (all_below_lem 8 (λ i. not (is_bound w₂ (suc i)) || has_released w₂ (suc i)) (and_right (has_released w₂ 0) _ e) i l))
     where
       one_less : (k : ℕ) → suc k - 1 ≡ k
       one_less k = omega arith

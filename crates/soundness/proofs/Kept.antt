@@ -24,7 +24,7 @@ use Rattle.model.specs.Events.{Event, event_heap, events_heap}
 use Rattle.model.specs.FreeListAllocator.{find_block}
 use Rattle.model.specs.Calls.{changes, good_offer, take_plan, good_object, release_plan, call_tests, plan_passed, Call, bind, destroy, alloc, prepare, mark, release, shared_release, End, says, takes, Plan, plan, plan_sound, Step, take_cell, finish, carried, step, Result, tables_in, lent_of, call}
 use Rattle.model.specs.Refusals.{SoundKept}
-use Rattle.laws.proofs.Base.{and_left, and_right, if_cases, if_false, or_left, or_right, Bool-cases, below_all}
+use Rattle.laws.proofs.Base.{and_left, and_right, if_cases, if_false, or_left, or_right, Bool_cases, below_all}
 use Rattle.laws.proofs.Memory.{get_d_zeros}
 use Rattle.laws.proofs.Classes.{chosen, fits_raised}
 use Rattle.laws.proofs.Cells.{Whole, whole_is_cell}
@@ -33,7 +33,7 @@ use Rattle.laws.proofs.Params.{Bounds, good_bounds}
 use Rattle.laws.proofs.Lent.{Fitting, fitting, lent_tables}
 use Rattle.laws.proofs.Tests.{Asked, phase_passed, bind_passed, leave_passed, alloc_passed, mark_passed, release_passed, plan_cases}
 use Rattle.laws.proofs.Stores.{set_off}
-use Rattle.laws.proofs.Tables.{Sized, sized_same, kept-lengths, sized_view, lengths_set_bound}
+use Rattle.laws.proofs.Tables.{Sized, sized_same, kept_lengths, sized_view, lengths_set_bound}
 use Rattle.soundness.proofs.SoundLists.{Good, sound_good, good_blocks, good_linked}
 use Rattle.soundness.proofs.Owners.{abandon_links, abandon_framed, holder_framed, holder_empties, shared_framed, eagerly_framed}
 use Rattle.soundness.proofs.Flags.{Flags, flag_facts, sound_flags, bind_flags, prepare_flags, destroy_flags, same_flags, released_flags, bound_at}
@@ -90,7 +90,7 @@ module _ (p : Params) (B : Bounds p) where
       w₁ = set_released part 1 (set_phase 2 w)
 
       H₁ : GoodTables p ms w₁ st
-      H₁ = still_good w₁ refl (sized_same (simp kept-lengths) H.sized) H
+      H₁ = still_good w₁ refl (sized_same (simp kept_lengths) H.sized) H
 
   -- held tables whose flags are good
   good_kept : (t : Tables) → GoodTables p t.marks t.words t.states → Flags t.words → Kept t
@@ -113,7 +113,7 @@ module _ (p : Params) (B : Bounds p) where
     unfolding bind_holder
     bind_kept h e o =
         record {
-          sized = sized_same (simp kept-lengths) K.sized;
+          sized = sized_same (simp kept_lengths) K.sized;
           states = K.states;
           passes = good_sound (bind_holder h t) L (bind_good p h t L G) (bind_flags t.words h K.sized F e o);
         }
@@ -122,7 +122,7 @@ module _ (p : Params) (B : Bounds p) where
     unfolding prepared
     prepare_kept e =
         record {
-          sized = sized_same (simp kept-lengths) K.sized;
+          sized = sized_same (simp kept_lengths) K.sized;
           states = length-map t.states unmarked_state ∙ K.states;
           passes = good_sound (prepared t) L (prepare_good p t L G) (prepare_flags t.words F e);
         }
@@ -290,7 +290,7 @@ module _ (p : Params) (B : Bounds p) where
     take_kept : (n : ℕ) → Kept (with_words (set_cells b n (set_free b (load p h (get_or w.free b 0)) w)) t)
     take_kept n =
         record {
-          sized = sized_same (simp kept-lengths) K.sized;
+          sized = sized_same (simp kept_lengths) K.sized;
           states = K.states;
           passes = good_sound _ _ (take_good p t _ K.sized (sound_good p B t K.passes) b _ n T.low in_use_lem link_good)
               (free_flags w b _ n (sound_flags p t K.passes));
@@ -453,7 +453,7 @@ module _ (p : Params) (B : Bounds p) where
   step_kept rows t h c len K =
       ⊎_elim
       (λ e. (step_sound rows t h c (kept_sound t h K len (and_right (sound p t) (eager_ok p t) (and_left (sound p t && eager_ok p t) _ e)) (and_right (sound p t && eager_ok p t) _ e))).kept)
-      (λ e. if_cases (λ (q : Plan). Kept (carried p h q).tables) (sound_on p t h) (λ f. absurd (true_not_false (sym f ∙ e))) (λ f. K)) (Bool-cases (sound_on p t h))
+      (λ e. if_cases (λ (q : Plan). Kept (carried p h q).tables) (sound_on p t h) (λ f. absurd (true_not_false (sym f ∙ e))) (λ f. K)) (Bool_cases (sound_on p t h))
 
 -- what is lent to a call that is not refused before it looks
 pub lent_sound : (p : Params) (l : Lent) (fit : fits p l ≡ true) → sound_on p (tables_in l) l.heap ≡ true

@@ -15,7 +15,7 @@ use Rattle.model.specs.declared.Params.{Params}
 use Rattle.model.specs.Base.{In, member}
 use Rattle.model.specs.Params.{start, list_word}
 use Rattle.model.specs.Tables.{Words}
-use Rattle.laws.proofs.Base.{Bool-cases, if_cases, if_true, if_false, member_in}
+use Rattle.laws.proofs.Base.{Bool_cases, if_cases, if_true, if_false, member_in}
 use Rattle.laws.proofs.Params.{Bounds, some_start, start_same, word_same}
 use Rattle.laws.proofs.Pigeon.{Distinct, Under, distinct_short}
 
@@ -197,7 +197,7 @@ module _ (p : Params) (B : Bounds p) (st : List ℕ) (w : Words) (word last : �
   pub seg_distinct : (b a : ℕ) (xs : List ℕ) → Seg p st w word last b a xs → Distinct xs
   unfolding Seg Distinct
   seg_distinct b a [] s = tt
-  seg_distinct b a (x ∷ xs) s = (⊎_elim twice (λ z. z) (Bool-cases (member x xs)), seg_distinct (start p x) (get_or w.next x 0) xs s.1)
+  seg_distinct b a (x ∷ xs) s = (⊎_elim twice (λ z. z) (Bool_cases (member x xs)), seg_distinct (start p x) (get_or w.next x 0) xs s.1)
     where
       twice : member x xs ≡ true → member x xs ≡ false
       twice m =

@@ -21,7 +21,7 @@ use Rattle.model.specs.Block.{clear_block}
 use Rattle.model.specs.Global.{abandon_bin, abandon_blocks, abandoned_bin, abandoned_below, abandoned_blocks, Freed, freed, release_blocks, append_to, release_bin, release_holder, sweep_later_bin, sweep_later, all_released, part_released, merged}
 use Rattle.model.specs.Sound.{list_named, set_named}
 use Rattle.model.specs.Refusals.{is_of, blocks_of, went_over}
-use Rattle.laws.proofs.Base.{Bool-cases, if_cases, in_member, member_in, in_append_left, in_append_right}
+use Rattle.laws.proofs.Base.{Bool_cases, if_cases, in_member, member_in, in_append_left, in_append_right}
 use Rattle.laws.proofs.Below.{and_both, and_first, and_second, and_left, and_right, same_test, true_not_false}
 use Rattle.laws.proofs.Params.{Bounds}
 use Rattle.laws.proofs.Stores.{set_at, set_off}
@@ -151,7 +151,7 @@ module _ (p : Params) (B : Bounds p) (ms : List ℕ) where
             (seg_under p st w (list_word o) (get_or w.last o 0) 0 (get_or w.first o 0) (L o) (H.good.lists.seg o Q.low))
 
         free : (b : ℕ) → get_or st b 0 ≡ 0 → member b (L o) ≡ false
-        free b z = ⊎_elim (λ y. absurd (free_off p H.good.lists b z o Q.low (member_in b (L o) y))) (λ n. n) (Bool-cases (member b (L o)))
+        free b z = ⊎_elim (λ y. absurd (free_off p H.good.lists b z o Q.low (member_in b (L o) y))) (λ n. n) (Bool_cases (member b (L o)))
 
         used : (b : ℕ) → b < p.blocks → get_or st b 0 ≢ 0 → (member b (L o) ≡ true) ⊎ (member b (L o) ≡ false)
             → flag (of j w st b) ≡ flag (member b (L o)) + flag (of j (append p l o w) st b)
@@ -167,7 +167,7 @@ module _ (p : Params) (B : Bounds p) (ms : List ℕ) where
           where
             go : Dec (get_or st b 0 ≡ 0) → flag (of j w st b) ≡ flag (member b (L o)) + flag (of j (append p l o w) st b)
             go (yes z) = rw (free b z, eq-eqb (get_or st b 0) 0 z) (omega (arith, flag_none {b = false} refl))
-            go (no occ) = used b low occ (Bool-cases (member b (L o)))
+            go (no occ) = used b low occ (Bool_cases (member b (L o)))
 
   -- ---- an owner's lists put behind another's
 
@@ -240,7 +240,7 @@ module _ (p : Params) (B : Bounds p) (ms : List ℕ) where
         own : (b : ℕ) → b < p.blocks → get_or st b 0 ≢ 0 → (owner_of u b ≡ owner_of w b) ⊎ ((owner_of w b ≡ j) × (owner_of u b ≡ i))
 
       so_far : (l o bin : ℕ) → Numbered l i bin → Numbered o j bin → (u : Words) → So u → So (append p l o u)
-      so_far l o bin P Q u S = record { good = after u P Q S.good; own = λ b low occ. go b low occ (Bool-cases (member b (S.good.lists o))) (S.own b low occ) }
+      so_far l o bin P Q u S = record { good = after u P Q S.good; own = λ b low occ. go b low occ (Bool_cases (member b (S.good.lists o))) (S.own b low occ) }
         where
           go : (b : ℕ) → b < p.blocks → get_or st b 0 ≢ 0 → (member b (S.good.lists o) ≡ true) ⊎ (member b (S.good.lists o) ≡ false)
               → (owner_of u b ≡ owner_of w b) ⊎ ((owner_of w b ≡ j) × (owner_of u b ≡ i))
@@ -330,7 +330,7 @@ module _ (p : Params) (B : Bounds p) (ms : List ℕ) where
     -- an append to a list of the same owner
     append_follow : (i l o bin : ℕ) → Numbered l i bin → Numbered o i bin → l ≢ o → (f : Freed) → Follows f → Follows (append_to p l o f)
     unfolding append_to
-    append_follow i l o bin P Q ne f F = (to_good p B ms l o bin i P Q ne f F.0, record { own = λ b low occ. go b low occ (Bool-cases (member b (F.0.lists o))); used = F.1.used })
+    append_follow i l o bin P Q ne f F = (to_good p B ms l o bin i P Q ne f F.0, record { own = λ b low occ. go b low occ (Bool_cases (member b (F.0.lists o))); used = F.1.used })
       where
         go : (b : ℕ) → b < p.blocks → get_or f.states b 0 ≢ 0 → (member b (F.0.lists o) ≡ true) ⊎ (member b (F.0.lists o) ≡ false)
             → owner_of (append p l o f.words) b ≡ owner_of w b

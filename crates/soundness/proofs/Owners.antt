@@ -19,7 +19,7 @@ use Rattle.model.specs.BlockList.{push, pop, remove, append}
 use Rattle.model.specs.Block.{clear_block, swept_words}
 use Rattle.model.specs.Global.{abandon_bin, abandon_blocks, Freed, freed, release_blocks, append_to, release_bin, release_holder, sweep_later, recycle_blocks, eagerly, phase_running, has_released, is_bound, all_released, is_last, part_released}
 use Rattle.laws.proofs.Stores.{set_off}
-use Rattle.laws.proofs.Tables.{Sized, sized_same, lengths, kept-lengths}
+use Rattle.laws.proofs.Tables.{Sized, sized_same, lengths, kept_lengths}
 pub use Rattle.laws.proofs.Walks.{Numbered, available_numbered, unswept_numbered, consumed_numbered, unswept_consumed, unswept_available}
 use Rattle.laws.proofs.Walks.{blocks_keep_any, bins_keep, later_keeps, abandon_keeps, all_keeps, recycled_one, recycle_from_keeps, recycle_keeps, recycle_keeps_any, eagerly_keeps}
 use Rattle.laws.proofs.Frame.{LinksOnly, links_refl, push_links, pop_links, append_links, remove_links, each_keeps, FirstsBut, push_first, pop_firsts, append_first, remove_first, append_empties}
@@ -57,23 +57,23 @@ framed_trans a b =
 -- stores into words of a block that are no links, and into all of them
 pub free_framed : {j k : ℕ} (b v : ℕ) (w : Words) → Framed j k w (set_free b v w)
 unfolding set_free
-free_framed b v w = record { phase = refl; bound = refl; released = refl; lengths = simp kept-lengths; first = λ m f g. refl }
+free_framed b v w = record { phase = refl; bound = refl; released = refl; lengths = simp kept_lengths; first = λ m f g. refl }
 
 pub size_framed : {j k : ℕ} (b v : ℕ) (w : Words) → Framed j k w (set_size b v w)
 unfolding set_size
-size_framed b v w = record { phase = refl; bound = refl; released = refl; lengths = simp kept-lengths; first = λ m f g. refl }
+size_framed b v w = record { phase = refl; bound = refl; released = refl; lengths = simp kept_lengths; first = λ m f g. refl }
 
 pub tls_framed : {j k : ℕ} (b v : ℕ) (w : Words) → Framed j k w (set_tls b v w)
 unfolding set_tls
-tls_framed b v w = record { phase = refl; bound = refl; released = refl; lengths = simp kept-lengths; first = λ m f g. refl }
+tls_framed b v w = record { phase = refl; bound = refl; released = refl; lengths = simp kept_lengths; first = λ m f g. refl }
 
 pub cells_framed : {j k : ℕ} (b v : ℕ) (w : Words) → Framed j k w (set_cells b v w)
 unfolding set_cells
-cells_framed b v w = record { phase = refl; bound = refl; released = refl; lengths = simp kept-lengths; first = λ m f g. refl }
+cells_framed b v w = record { phase = refl; bound = refl; released = refl; lengths = simp kept_lengths; first = λ m f g. refl }
 
 cleared_framed : {j k : ℕ} (b : ℕ) (w : Words) → Framed j k w (clear_block b w)
 unfolding clear_block set_cells set_tls set_list set_size set_free set_prev set_next
-cleared_framed b w = record { phase = refl; bound = refl; released = refl; lengths = simp kept-lengths; first = λ m f g. refl }
+cleared_framed b w = record { phase = refl; bound = refl; released = refl; lengths = simp kept_lengths; first = λ m f g. refl }
 
 module _ (p : Params) (j k : ℕ) where
   -- the list l is one of theirs

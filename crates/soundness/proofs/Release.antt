@@ -21,7 +21,7 @@ use Rattle.model.specs.Sound.{state_of, block_clear}
 use Rattle.laws.proofs.Base.{not_both, or_none_left, or_none_right, in_append, in_append_left, in_append_right, filter_append}
 use Rattle.laws.proofs.Params.{Bounds, some_start, block_at_start, word_same}
 use Rattle.laws.proofs.Stores.{set_at, set_off}
-use Rattle.laws.proofs.Tables.{Sized, sized_same, lengths, kept-lengths, by_lt}
+use Rattle.laws.proofs.Tables.{Sized, sized_same, lengths, kept_lengths, by_lt}
 use Rattle.laws.proofs.Frame.{LinksOnly, links_refl, append_links, remove_links}
 use Rattle.laws.proofs.Walks.{Numbered, released_one, blocks_end, bins_keep, later_keeps, abandon_keeps}
 use Rattle.laws.proofs.Pigeon.{Distinct}
@@ -76,7 +76,7 @@ in_middle ys x xs = in_append_right x ys (x ∷ xs) (inl refl)
 -- clearing a block keeps all lengths
 cleared_lengths : (b : ℕ) (w : Words) → lengths (clear_block b w) ≡ lengths w
 unfolding clear_block
-cleared_lengths b w = simp kept-lengths
+cleared_lengths b w = simp kept_lengths
 
 module _ (p : Params) (B : Bounds p) (ms : List ℕ) where
   -- ---- one append

@@ -27,7 +27,7 @@ use Rattle.model.specs.Calls.{refusal_number, Call, destroy, release, shared_rel
 use Rattle.model.specs.Refusals.{made_unallocated, blocks_of, went_over, swept_at_end, CountsReleased, ReleasedCounts, DestroyedCounts}
 use Rattle.laws.proofs.Base.{and_left, if_cases, filter_append}
 use Rattle.laws.proofs.Below.{and_five}
-use Rattle.laws.proofs.Tables.{Sized, sized_same, sized_view, view_flat, lengths, kept-lengths, lengths_set_bound, by_lt}
+use Rattle.laws.proofs.Tables.{Sized, sized_same, sized_view, view_flat, lengths, kept_lengths, lengths_set_bound, by_lt}
 use Rattle.laws.proofs.Params.{Bounds, good_bounds}
 use Rattle.laws.proofs.Lent.{fits_parts}
 use Rattle.laws.proofs.Stores.{set_at, set_off}
@@ -203,7 +203,7 @@ fits_words p l e =
 -- phase and released marks are no matter of lists
 releasing_good : (p : Params) (B : Bounds p) (part : ℕ) {ms st : List ℕ} {w : Words} → GoodTables p ms w st → GoodTables p ms (set_released part 1 (set_phase 2 w)) st
 unfolding set_released set_phase lengths
-releasing_good p B part H = still_good p B _ refl (sized_same (simp kept-lengths) H.sized) H
+releasing_good p B part H = still_good p B _ refl (sized_same (simp kept_lengths) H.sized) H
 
 module _ (p : Params) (l : Lent) where
   abbrev w : Words

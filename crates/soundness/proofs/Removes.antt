@@ -164,7 +164,7 @@ module _ (p : Params) (B : Bounds p) where
     -- b stands behind another block
     record Behind (xs : List ℕ) (b : ℕ) : Type 0 where
       block : ℕ
-      is-on : In block xs
+      is_on : In block xs
       back : get_or w.prev b 0 ≡ start p block
       on : get_or w.next block 0 ≡ start p b
 
@@ -176,14 +176,14 @@ module _ (p : Params) (B : Bounds p) where
     seg_before before a (x ∷ xs) s b (inl e) =
         inl (s.0.at ∙ ap (start p) (sym e), ap (λ (c : ℕ). get_or w.prev c 0) e ∙ s.0.prev)
     seg_before before a (x ∷ xs) s b (inr m) = ⊎_elim
-        (λ z. inr (record { block = x; is-on = inl refl; back = z.1; on = z.0 }))
-        (λ z. inr (record { block = z.block; is-on = inr z.is-on; back = z.back; on = z.on }))
+        (λ z. inr (record { block = x; is_on = inl refl; back = z.1; on = z.0 }))
+        (λ z. inr (record { block = z.block; is_on = inr z.is_on; back = z.back; on = z.on }))
         (seg_before (start p x) (get_or w.next x 0) xs s.1 b m)
 
     -- a last block
     record Last (xs : List ℕ) : Type 0 where
       block : ℕ
-      is-on : In block xs
+      is_on : In block xs
       is : last ≡ start p block
       end : get_or w.next block 0 ≡ 0
 
@@ -192,14 +192,14 @@ module _ (p : Params) (B : Bounds p) where
     unfolding Seg In
     seg_last before a [] s = inl s
     seg_last before a (x ∷ xs) s = ⊎_elim
-        (λ z. inr (record { block = x; is-on = inl refl; is = z.1; end = z.0 }))
-        (λ z. inr (record { block = z.block; is-on = inr z.is-on; is = z.is; end = z.end }))
+        (λ z. inr (record { block = x; is_on = inl refl; is = z.1; end = z.0 }))
+        (λ z. inr (record { block = z.block; is_on = inr z.is_on; is = z.is; end = z.end }))
         (seg_last (start p x) (get_or w.next x 0) xs s.1)
 
     -- another block stands behind b
     record Ahead (xs : List ℕ) (b : ℕ) : Type 0 where
       block : ℕ
-      is-on : In block xs
+      is_on : In block xs
       on : get_or w.next b 0 ≡ start p block
       back : get_or w.prev block 0 ≡ start p b
 
@@ -219,14 +219,14 @@ module _ (p : Params) (B : Bounds p) where
         (λ z. inl (ap (λ (c : ℕ). get_or w.next c 0) e ∙ z.0, z.1 ∙ ap (start p) (sym e)))
         (λ z. inr (record {
           block = z.0;
-          is-on = inr z.1;
+          is_on = inr z.1;
           on = ap (λ (c : ℕ). get_or w.next c 0) e ∙ z.2;
           back = z.3 ∙ ap (start p) (sym e);
         }))
         (seg_first (start p x) (get_or w.next x 0) xs s.1)
     seg_after before a (x ∷ xs) s b (inr m) = ⊎_elim
         (λ z. inl z)
-        (λ z. inr (record { block = z.block; is-on = inr z.is-on; on = z.on; back = z.back }))
+        (λ z. inr (record { block = z.block; is_on = inr z.is_on; on = z.on; back = z.back }))
         (seg_after (start p x) (get_or w.next x 0) xs s.1 b m)
 
   -- ---- a segment without one of its blocks
@@ -258,11 +258,11 @@ module _ (p : Params) (B : Bounds p) where
             → Seg p st w' word (before_b last) (before_b (start p x)) (after_b (get_or w.next x 0)) (without b xs)
             → Seg p st w' word (before_b last) (before_b before) (after_b a) (without b (x ∷ xs))
         go (yes e) r =
-            let prev-b : get_or w.prev b 0 ≡ before = ap (λ (c : ℕ). get_or w.prev c 0) (sym e) ∙ s.0.prev in
+            let prev_b : get_or w.prev b 0 ≡ before = ap (λ (c : ℕ). get_or w.prev c 0) (sym e) ∙ s.0.prev in
             seg_to st w' word
             refl
             (swap_at (start p b) (get_or w.prev b 0) (start p x) (ap (start p) e)
-            ∙ sym (swap_put (start p b) (get_or w.prev b 0)) ∙ ap before_b prev-b)
+            ∙ sym (swap_put (start p b) (get_or w.prev b 0)) ∙ ap before_b prev_b)
             (ap (λ (c : ℕ). after_b (get_or w.next c 0)) e ∙ swap_put (start p b) (get_or w.next b 0)
             ∙ sym (swap_at (start p b) (get_or w.next b 0) a (s.0.at ∙ ap (start p) e)))
             (sym (without_here b x xs e))
@@ -467,32 +467,32 @@ module _ (p : Params) (B : Bounds p) where
           (λ x i e. some_start p B x (low_on x i) (sym (back x b i low_b e) ∙ z.1)))
           (λ z. let T = front_some w l (get_or w.prev b 0) (get_or w.next b 0) (some z) in
           redirect_next _ _ l (L l) _ _ _ _ z.block T.0
-          (T.1 ∙ ap (λ (c : ℕ). set w.next c (get_or w.next b 0)) (at_on _ z.block z.is-on z.back))
-          (omega (arith, Z.next, low_on _ z.is-on))
-          z.is-on
+          (T.1 ∙ ap (λ (c : ℕ). set w.next c (get_or w.next b 0)) (at_on _ z.block z.is_on z.back))
+          (omega (arith, Z.next, low_on _ z.is_on))
+          z.is_on
           (λ e. some z (seg_head st w (list_word l) _ _ _ (L l) S b low_b e))
           z.on
-          (λ x i e. start_same p B x z.block (low_on x i) (low_on _ z.is-on) (sym (back x b i low_b e) ∙ z.back)))
+          (λ x i e. start_same p B x z.block (low_on x i) (low_on _ z.is_on) (sym (back x b i low_b e) ∙ z.back)))
           is_before
         where
           back : (x c : ℕ) → In x (L l) → c < p.blocks → get_or w.next x 0 ≡ start p c → get_or w.prev c 0 ≡ start p x
           back = seg_back st w (list_word l) _ _ _ (L l) S
 
           some : Behind st w (list_word l) (get_or w.last l 0) (L l) b → get_or w.prev b 0 ≢ 0
-          some z e = some_start p B z.block (low_on _ z.is-on) (sym z.back ∙ e)
+          some z e = some_start p B z.block (low_on _ z.is_on) (sym z.back ∙ e)
 
       -- a block whose prev is b stands behind b
       forth : (x : ℕ) → In x (L l) → get_or w.prev x 0 ≡ start p b → get_or w.next b 0 ≡ start p x
       forth x i e = ⊎_elim
           (λ z. absurd (some_start p B b low_b (sym e ∙ z.1)))
-          (λ z. ap (λ (c : ℕ). get_or w.next c 0) (start_same p B b z.block low_b (low_on _ z.is-on) (sym e ∙ z.back)) ∙ z.on)
+          (λ z. ap (λ (c : ℕ). get_or w.next c 0) (start_same p B b z.block low_b (low_on _ z.is_on) (sym e ∙ z.back)) ∙ z.on)
           (seg_before st w (list_word l) _ _ _ (L l) S x i)
 
       -- nothing stands behind the last
       ended : get_or w.last l 0 ≡ start p b → get_or w.next b 0 ≡ 0
       ended e = ⊎_elim
           (λ z. absurd (some_start p B b low_b (sym e ∙ z.1)))
-          (λ z. ap (λ (c : ℕ). get_or w.next c 0) (start_same p B b z.block low_b (low_on _ z.is-on) (sym e ∙ z.is)) ∙ z.end)
+          (λ z. ap (λ (c : ℕ). get_or w.next c 0) (start_same p B b z.block low_b (low_on _ z.is_on) (sym e ∙ z.is)) ∙ z.end)
           (seg_last st w (list_word l) _ _ _ (L l) S)
 
       -- what led back to b leads to the block before b
@@ -506,16 +506,16 @@ module _ (p : Params) (B : Bounds p) where
           (λ x i e. some_start p B x (low_on x i) (sym (forth x i e) ∙ z.0)))
           (λ z. let T = back_some w l (get_or w.prev b 0) (get_or w.next b 0) (some z) in
           redirect_next _ _ l (L l) _ _ _ _ z.block T.0
-          (T.1 ∙ ap (λ (c : ℕ). set w.prev c (get_or w.prev b 0)) (at_on _ z.block z.is-on z.on))
-          (omega (arith, Z.prev, low_on _ z.is-on))
-          z.is-on
+          (T.1 ∙ ap (λ (c : ℕ). set w.prev c (get_or w.prev b 0)) (at_on _ z.block z.is_on z.on))
+          (omega (arith, Z.prev, low_on _ z.is_on))
+          z.is_on
           (λ e. some z (ended e))
           z.back
-          (λ x i e. start_same p B x z.block (low_on x i) (low_on _ z.is-on) (sym (forth x i e) ∙ z.on)))
+          (λ x i e. start_same p B x z.block (low_on x i) (low_on _ z.is_on) (sym (forth x i e) ∙ z.on)))
           is_after
         where
           some : Ahead st w (list_word l) (get_or w.last l 0) (L l) b → get_or w.next b 0 ≢ 0
-          some z e = some_start p B z.block (low_on _ z.is-on) (sym z.on ∙ e)
+          some z e = some_start p B z.block (low_on _ z.is_on) (sym z.on ∙ e)
 
       -- the link a to a block of the list leads to a block that names it
       named_on : (a x : ℕ) → In x (L l) → a ≡ start p x → Named w l a
@@ -525,8 +525,8 @@ module _ (p : Params) (B : Bounds p) where
       pub words_same : (z : ℕ) → get_or (remove p l b w).list z 0 ≡ get_or w.list z 0
       unfolding remove
       words_same = between_list w l (get_or w.prev b 0) (get_or w.next b 0)
-          (λ f. ⊎_elim (λ z. absurd (f z.1)) (λ z. named_on _ z.block z.is-on z.back) is_before)
-          (λ f. ⊎_elim (λ z. absurd (f z.0)) (λ z. named_on _ z.block z.is-on z.on) is_after)
+          (λ f. ⊎_elim (λ z. absurd (f z.1)) (λ z. named_on _ z.block z.is_on z.back) is_before)
+          (λ f. ⊎_elim (λ z. absurd (f z.0)) (λ z. named_on _ z.block z.is_on z.on) is_after)
 
       -- the list l after
       seg_shorter : Run p st (remove p l b w) l (without b (L l))
@@ -583,13 +583,13 @@ module _ (p : Params) (B : Bounds p) where
             z.0
             (λ x i. absurd (none_on l hl z.0 x i)))
             (λ z.
-            let low : z.block < p.blocks = (on_list p K l z.block hl z.is-on).low in
-            let first : get_or w.first l 0 ≢ 0 = λ e. none_on l hl e z.block z.is-on in
+            let low : z.block < p.blocks = (on_list p K l z.block hl z.is_on).low in
+            let first : get_or w.first l 0 ≢ 0 = λ e. none_on l hl e z.block z.is_on in
             let T = link_some w l o first in
             redirect_next _ _ l (L l) _ _ _ _ z.block (ap (λ (t : Words). t.first) T)
             (ap (λ (t : Words). t.next) T ∙ ap (λ (c : ℕ). set w.next c (get_or w.first o 0)) (ap (block_at p) z.is ∙ block_at_start p B z.block low))
             (omega (arith, Z.next, low))
-            z.is-on
+            z.is_on
             first
             z.end
             (λ x i e. start_same p B x z.block (on_list p K l x hl i).low low (sym (ends x i e) ∙ z.is)))
@@ -598,14 +598,14 @@ module _ (p : Params) (B : Bounds p) where
             ends : (x : ℕ) → In x (L l) → get_or w.next x 0 ≡ 0 → get_or w.last l 0 ≡ start p x
             ends x i e = ⊎_elim
                 (λ z. z.1)
-                (λ z. absurd (some_start p B z.block (on_list p K l _ hl z.is-on).low (sym z.on ∙ e)))
+                (λ z. absurd (some_start p B z.block (on_list p K l _ hl z.is_on).low (sym z.on ∙ e)))
                 (seg_after st w (list_word l) _ _ _ (L l) (K.seg l hl) x i)
 
         -- the other list has a last block
         last_some : get_or w.last o 0 ≢ 0
         last_some e = ⊎_elim
             (λ z. some z.0)
-            (λ z. some_start p B z.block (on_list p K o _ ho z.is-on).low (sym z.is ∙ e))
+            (λ z. some_start p B z.block (on_list p K o _ ho z.is_on).low (sym z.is ∙ e))
             (seg_last st w (list_word o) _ _ _ (L o) (K.seg o ho))
 
         -- the prev of the first block of o is the last of l now
@@ -621,13 +621,13 @@ module _ (p : Params) (B : Bounds p) where
               next = λ x i. ap (λ (k : List ℕ). get_or k x 0) same ∙ still (get_or w.prev x 0);
               nexts = λ x i. ap (λ (k : List ℕ). get_or k x 0) same;
             })
-            (λ z. behind (λ e. none_on l hl e z.block z.is-on) (seg_first st w (list_word o) _ _ _ (L o) (K.seg o ho)))
+            (λ z. behind (λ e. none_on l hl e z.block z.is_on) (seg_first st w (list_word o) _ _ _ (L o) (K.seg o ho)))
             (seg_last st w (list_word l) _ _ _ (L l) (K.seg l hl))
           where
             begins : (x : ℕ) → In x (L o) → get_or w.prev x 0 ≡ 0 → get_or w.first o 0 ≡ start p x
             begins x i e = ⊎_elim
                 (λ z. z.0)
-                (λ z. absurd (some_start p B z.block (on_list p K o _ ho z.is-on).low (sym z.back ∙ e)))
+                (λ z. absurd (some_start p B z.block (on_list p K o _ ho z.is_on).low (sym z.back ∙ e)))
                 (seg_before st w (list_word o) _ _ _ (L o) (K.seg o ho) x i)
 
             behind : get_or w.first l 0 ≢ 0

@@ -17,7 +17,7 @@ use Rattle.model.specs.Classes.{classes_fit}
 use Rattle.model.specs.Sound.{sound_on}
 use Rattle.model.specs.Calls.{refusal_number, refused, Call, bind, destroy, alloc, prepare, mark, release, shared_release, End, says, takes, Plan, refuses, take_plan, release_plan, plan_passed, plan_sound, plan, Reply, Result, Step, take_cell, finish, step, tables_in, call}
 use Rattle.model.specs.Refusals.{NeverBadLink}
-use Rattle.laws.proofs.Base.{if_cases, Bool-cases}
+use Rattle.laws.proofs.Base.{if_cases, Bool_cases}
 use Rattle.laws.proofs.Tests.{plan_cases}
 
 -- 0, or a refusal's number up to BadObject that is not BadTables and, since R-7, not BadLink
@@ -80,7 +80,7 @@ never_bad_link p l c =
     if_cases (λ (r : Result). r.reply.number ≢ 8) (fits p l)
     (λ f. if_cases (λ (r : Result). r.reply.number ≢ 8) (classes_fit p)
     (λ k. ⊎_elim (λ e. (fair_reply p (tables_in l) l.heap c e).2)
-    (λ e q. omega (arith, sym (ap (λ (r : Reply). r.number) (bad_reply p (tables_in l) l.heap c e)) ∙ q)) (Bool-cases (sound_on p (tables_in l) l.heap)))
+    (λ e q. omega (arith, sym (ap (λ (r : Reply). r.number) (bad_reply p (tables_in l) l.heap c e)) ∙ q)) (Bool_cases (sound_on p (tables_in l) l.heap)))
     (λ k q. omega (arith, q)))
     (λ f q. omega (arith, q))
 

@@ -19,7 +19,7 @@ use Rattle.model.specs.BlockList.{walk, blocks_on}
 use Rattle.model.specs.Block.{state_unallocated}
 use Rattle.model.specs.Global.{is_holder}
 use Rattle.model.specs.Sound.{state_of, state_known, block_clear, list_named, bin_named, set_named, on_list_named, size_ok, link_ok, tls_ok, block_sound, linked_from, linked, unbound_empty, in_gc_empty, phase_known, flags_known, released_few, released_some, released_empty, sound}
-use Rattle.laws.proofs.Base.{and_left, and_right, or_cases, all-below, below_all, in_member, member_in}
+use Rattle.laws.proofs.Base.{and_left, and_right, or_cases, all_below_lem, below_all, in_member, member_in}
 use Rattle.laws.proofs.Below.{true_not_false, and_both, and_three, and_five, and_seven}
 use Rattle.laws.proofs.Classes.{cell_bytes_some}
 use Rattle.laws.proofs.Params.{Bounds, start_pos, start_block_at, block_at_start, block_at_is_start, is_start_start}
@@ -95,7 +95,7 @@ sound_parts p t s =
     let h = and_seven (all_below p.blocks (block_sound p t)) (all_below lists (linked p t)) (unbound_empty t.words)
     (in_gc_empty t.words) (phase_known t.words && flags_known t.words)
     (released_few t.words && released_some t.words) (released_empty t.words) s in
-    record { blocks = all-below p.blocks (block_sound p t) h.0; linked = all-below lists (linked p t) h.1 }
+    record { blocks = all_below_lem p.blocks (block_sound p t) h.0; linked = all_below_lem lists (linked p t) h.1 }
 
 -- what the test of an occupied block says
 pub record BlockParts (p : Params) (t : Tables) (b : ℕ) : Type 0 where

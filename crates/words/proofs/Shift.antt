@@ -9,7 +9,7 @@ use lib.ListN.{length, get_or, set, get_or-eq_default}
 use borrow.Author.Tests.{eqb-true}
 use Rattle.model.specs.Base.{all_below}
 use Rattle.model.specs.Memory.{bit_of, set_bit}
-use Rattle.laws.proofs.Base.{all-below, and_left, and_right}
+use Rattle.laws.proofs.Base.{all_below_lem, and_left, and_right}
 use Rattle.laws.proofs.Marks.{bit_of_zero}
 use Rattle.words.specs.Bits.{clear_bit}
 
@@ -29,7 +29,7 @@ table = refl
 
 at : (m i : ℕ) → m < 256 → i < 8 → (eqb (or_mask m i) (set_bit m i) && eqb (and_not m i) (clear_bit m i)) ≡ true
 unfolding row
-at m i a b = all-below 8 _ (all-below 256 row table m a) i b
+at m i a b = all_below_lem 8 _ (all_below_lem 256 row table m a) i b
 
 pub set_by_mask : (ms : List ℕ) (j i : ℕ) → get_or ms j 0 < 256 → i < 8 → set ms j (or_mask (get_or ms j 0) i) ≡ set ms j (set_bit (get_or ms j 0) i)
 set_by_mask ms j i a b =
