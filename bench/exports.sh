@@ -8,7 +8,7 @@ exports=$top/target/staticlib/libexports.a
 [ -f "$exports" ] || { echo "bench/exports.sh: run c/build.sh first" >&2; exit 1; }
 room=$(mktemp -d)
 trap 'rm -rf "$room"' EXIT
-tar -C "$top" --exclude='crates/*/out' -cf - crates crates.txt | tar -C "$room" -xf -
+tar -C "$top" --no-wildcards-match-slash --exclude='crates/*/out' -cf - crates crates.txt | tar -C "$room" -xf -
 mkdir -p "$room/crates/inner/src"
 cp "$top/bench/inner.txt" "$room/crates/inner/src/lib.rt"
 echo "inner staticlib: model native_ms calls" >> "$room/crates.txt"
