@@ -60,8 +60,8 @@ for name in port bare; do
     echo 'pub mod bench_port;' >>"$out/$name/native_ms/src/lib.rt"
 done
 checks=$out/bare/native_ms/src/checks.rt
-sed -i '/^pub(crate) fn check_lent(/,/^}/ s/^{$/{\n    return Tested::Passed;/' "$checks"
-[ "$(sed -n '/^pub(crate) fn check_lent(/,/^}/p' "$checks" | grep -c '^    return Tested::Passed;')" = 1 ] || fail "checks.rt has no check_lent of its known form"
+sed -i '/^pub(crate) fn check_lent(/,/^}/ s/^{$/{\n    return Ok(());/' "$checks"
+[ "$(sed -n '/^pub(crate) fn check_lent(/,/^}/p' "$checks" | grep -c '^    return Ok(());')" = 1 ] || fail "checks.rt has no check_lent of its known form"
 compile_port port
 compile_port bare
 

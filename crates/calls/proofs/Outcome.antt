@@ -4,11 +4,11 @@ use Rattle.model.specs.declared.Params.{Params}
 use Rattle.model.specs.declared.Said.{Said}
 use Rattle.model.specs.declared.Ask.{Ask}
 use Rattle.model.specs.Params.{Lent}
-use Rattle.model.specs.Calls.{Reply, Result, call, set_up}
+use Rattle.model.specs.Calls.{Reply, Returned, call, set_up}
 use Rattle.model.specs.Answers.{call_of, said_of, outcome, outcome_of}
 use Rattle.model.specs.Promise.{Promised, SetUpPromised}
 
-same : {r : Said} {y : Reply} {l' : Lent} (x : Result) → r ≡ said_of y → y ≡ x.reply → l' ≡ x.lent → outcome r l' ≡ outcome_of x
+same : {r : Said} {y : Reply} {l' : Lent} (x : Returned) → r ≡ said_of y → y ≡ x.reply → l' ≡ x.lent → outcome r l' ≡ outcome_of x
 unfolding outcome_of
 same x f e g = λ i. outcome ((f ∙ ap said_of e) i) (g i)
 

@@ -2,27 +2,20 @@
 
 // Reads a trace on standard input and prints its listing. "At most 16,384 bytes and 256 lines; the rest is unread": a byte more is
 // read only to say on standard error that there is a rest. A read or a write that fails is told there too.
-ghost use Rattle.std.specs.Prelude.{◌≤◌, length};
-
 use std::io::Stdin;
 use trace::lines;
+
+const INPUT_BYTES: usize = trace::TRACE_BYTES + 1;
 
 fn say(rt: &impl Eprint, text: &str) {
     let _ = rt.eprint(text);
 }
 
-// The first n bytes.
-fn write(rt: &(impl Print + Eprint), out: &[u8], n: usize)
-    requires { n ≤ length out.now }
-{
+fn print(rt: &(impl Print + Eprint), bytes: &[u8], out: &mut [u8; trace::LISTING_BYTES]) {
+    let n = trace::whole_listing(bytes, out);
     if rt.write_all(&out[..n]).is_err() {
         say(rt, "census: standard output can't be written\n");
     }
-}
-
-fn print(rt: &(impl Print + Eprint), bytes: &[u8], out: &mut [u8; trace::LISTING_BYTES]) {
-    let n = trace::whole_listing(bytes, out);
-    write(rt, out, n);
     if lines::unread(bytes) {
         say(
             rt,
@@ -37,26 +30,15 @@ fn list(
     input: &mut [u8],
     out: &mut [u8; trace::LISTING_BYTES],
 ) {
-    let read = streams::read_input(from, input);
-    if read.failed {
+    let Ok(n) = streams::read_input(from, input) else {
         say(rt, "census: standard input can't be read\n");
         return;
-    }
-    let n = read.len;
+    };
     print(rt, &input[..n], out);
 }
 
-fn lend(
-    rt: &(impl Print + Eprint),
-    from: Stdin,
-    input: &mut [u8; 16385],
-    out: &mut [u8; trace::LISTING_BYTES],
-) {
-    list(rt, from, input, out);
-}
-
 fn main(rt: HostRuntime) {
-    let mut input = [0u8; 16385];
+    let mut input = [0u8; INPUT_BYTES];
     let mut out = [0u8; trace::LISTING_BYTES];
-    lend(&rt, rt.stdin(), &mut input, &mut out);
+    list(&rt, rt.stdin(), &mut input, &mut out);
 }

@@ -5,7 +5,7 @@
 // its name, then the trace and the listing.
 ghost use Rattle.std.specs.Prelude.{◌+◌, ◌<◌, ◌≤◌, length};
 
-use std::io::Stdin;
+use std::io::{self, Stdin};
 
 const HEAD: usize = 47;
 
@@ -13,16 +13,28 @@ const TRACE: usize = 20000;
 
 const MOST: usize = 1000;
 
-fn least(a: usize, b: usize) -> usize
-    ensures { (result ≤ a) × (result ≤ b) }
-{
-    if a < b { a } else { b }
+// Why a run stops before its samples end.
+#[derive(Clone, Copy)]
+enum Stop {
+    Unread,
+    Cut,
+    Unwritten,
+}
+
+impl Stop {
+    fn text(self) -> &'static str {
+        match self {
+            Stop::Unread => "census_samples: standard input can't be read\n",
+            Stop::Cut => "census_samples: a sample is cut off or too long\n",
+            Stop::Unwritten => "census_samples: standard output can't be written\n",
+        }
+    }
 }
 
 fn digit(b: u8) -> usize
     ensures { result < 10 }
 {
-    (b % 16 % 10) as usize
+    usize::from(b % 16 % 10)
 }
 
 // Three digits from `at` on, and six.
@@ -40,135 +52,96 @@ fn number(head: &[u8], at: usize) -> usize
     1000 * three(head, at) + three(head, at + 3)
 }
 
-fn say(rt: &impl Eprint, text: &str) {
-    let _ = rt.eprint(text);
-}
-
 // A line of standard output.
-fn tell_line(rt: &(impl Print + Eprint), name: &[u8], what: &[u8]) -> bool {
-    if rt.write_all(name).is_ok() {
-        if rt.write_all(what).is_ok() {
-            return true;
-        }
-    }
-    say(rt, "census_samples: standard output can't be written\n");
-    false
-}
-
-fn tell(rt: &(impl Print + Eprint), name: &[u8], as_it_must: bool) -> bool {
+fn tell(rt: &impl Print, name: &[u8], as_it_must: bool) -> io::Result<()> {
+    rt.write_all(name)?;
     if as_it_must {
-        return tell_line(rt, name, b" as 01 says\n");
+        return rt.write_all(b" as 01 says\n");
     }
-    tell_line(rt, name, b" DIFFERS\n")
+    rt.write_all(b" DIFFERS\n")
 }
 
-// Whether n bytes could be read and fit; if not, says why.
-fn filled(rt: &impl Eprint, from: Stdin, buf: &mut [u8], n: usize) -> bool {
-    let k = least(n, buf.len());
-    let read = streams::read_input(from, &mut buf[..k]);
-    if read.failed {
-        say(rt, "census_samples: standard input can't be read\n");
-        return false;
+// Reads n bytes, which must be there and fit.
+fn fill(from: Stdin, buf: &mut [u8], n: usize) -> Result<(), Stop> {
+    let k = n.min(buf.len());
+    let Ok(read) = streams::read_input(from, &mut buf[..k]) else {
+        return Err(Stop::Unread);
+    };
+    if read < n {
+        return Err(Stop::Cut);
     }
-    if read.len < n {
-        say(rt, "census_samples: a sample is cut off or too long\n");
-        return false;
-    }
-    true
+    Ok(())
 }
 
-// The next sample's head, if there is one.
-fn next_head(rt: &impl Eprint, from: Stdin, head: &mut [u8]) -> bool {
-    let read = streams::read_input(from, head);
-    if read.failed {
-        say(rt, "census_samples: standard input can't be read\n");
-        return false;
+// Reads the next sample's head. The answer is whether there is one.
+fn next_head(from: Stdin, head: &mut [u8]) -> Result<bool, Stop> {
+    let Ok(read) = streams::read_input(from, head) else {
+        return Err(Stop::Unread);
+    };
+    if read == 0 {
+        return Ok(false);
     }
-    if read.len == 0 {
-        return false;
+    if read < HEAD {
+        return Err(Stop::Cut);
     }
-    if read.len < HEAD {
-        say(rt, "census_samples: a sample is cut off or too long\n");
-        return false;
-    }
-    true
-}
-
-// Whether the first n bytes are the first k that are wanted.
-fn same(out: &[u8], n: usize, wanted: &[u8], k: usize) -> bool
-    requires { (n ≤ length out.now) × (k ≤ length wanted.now) }
-{
-    check::same(&out[..n], &wanted[..k])
+    Ok(true)
 }
 
 // One trace: its listing is made, and held to the one that was read.
 fn compare(
-    rt: &(impl Print + Eprint),
+    rt: &impl Print,
     head: &[u8],
     input: &[u8],
     wanted: &[u8],
     out: &mut [u8; trace::LISTING_BYTES],
-) -> bool
+) -> io::Result<()>
     requires { 47 ≤ length head.now }
 {
-    let read = least(number(head, 0), input.len());
-    let known = least(number(head, 7), wanted.len());
+    let read = number(head, 0).min(input.len());
+    let known = number(head, 7).min(wanted.len());
     let n = trace::whole_listing(&input[..read], out);
-    let as_it_must = same(out, n, wanted, known);
+    let as_it_must = check::same(&out[..n], &wanted[..known]);
     tell(rt, &head[14..46], as_it_must)
 }
 
-// One sample more, and whether the run goes on.
+// One sample more. The answer is whether there was one.
 fn replay(
-    rt: &(impl Print + Eprint),
+    rt: &impl Print,
     from: Stdin,
     head: &mut [u8],
     input: &mut [u8],
     wanted: &mut [u8],
     out: &mut [u8; trace::LISTING_BYTES],
-) -> bool
+) -> Result<bool, Stop>
     requires { 47 ≤ length head.old }
 {
-    if !next_head(rt, from, head) {
-        return false;
+    if !next_head(from, head)? {
+        return Ok(false);
     }
-    if !filled(rt, from, input, number(head, 0)) {
-        return false;
+    fill(from, input, number(head, 0))?;
+    fill(from, wanted, number(head, 7))?;
+    if compare(rt, head, input, wanted, out).is_err() {
+        return Err(Stop::Unwritten);
     }
-    if !filled(rt, from, wanted, number(head, 7)) {
-        return false;
-    }
-    compare(rt, head, input, wanted, out)
+    Ok(true)
 }
 
 fn replay_all(
-    rt: &(impl Print + Eprint),
+    rt: &impl Print,
     from: Stdin,
     head: &mut [u8],
     input: &mut [u8],
     wanted: &mut [u8],
     out: &mut [u8; trace::LISTING_BYTES],
-)
+) -> Result<(), Stop>
     requires { 47 ≤ length head.old }
 {
-    let mut i: usize = 0;
-    while i < MOST {
-        if !replay(rt, from, head, input, wanted, out) {
-            return;
+    for _ in 0..MOST {
+        if !replay(rt, from, head, input, wanted, out)? {
+            return Ok(());
         }
-        i = i + 1;
     }
-}
-
-fn lend(
-    rt: &(impl Print + Eprint),
-    from: Stdin,
-    head: &mut [u8; HEAD],
-    input: &mut [u8; TRACE],
-    wanted: &mut [u8; trace::LISTING_BYTES],
-    out: &mut [u8; trace::LISTING_BYTES],
-) {
-    replay_all(rt, from, head, input, wanted, out);
+    Ok(())
 }
 
 fn main(rt: HostRuntime) {
@@ -176,7 +149,7 @@ fn main(rt: HostRuntime) {
     let mut input = [0u8; TRACE];
     let mut wanted = [0u8; trace::LISTING_BYTES];
     let mut out = [0u8; trace::LISTING_BYTES];
-    lend(
+    let ran = replay_all(
         &rt,
         rt.stdin(),
         &mut head,
@@ -184,4 +157,7 @@ fn main(rt: HostRuntime) {
         &mut wanted,
         &mut out,
     );
+    if let Err(stop) = ran {
+        let _ = rt.eprint(stop.text());
+    }
 }

@@ -18,7 +18,7 @@ use Rattle.model.specs.declared.Said.{Said}
 use Rattle.model.specs.Params.{Lent, fits, good_params, word_count, heap_bytes}
 use Rattle.model.specs.Memory.{load_bytes, bytes_of, overwrite}
 use Rattle.model.specs.SizeClasses.{no_row, tabulated}
-use Rattle.model.specs.Calls.{refusal_number, Result, call, set_up, bad_setup, check_classes}
+use Rattle.model.specs.Calls.{refusal_number, Returned, call, set_up, bad_setup, check_classes}
 use Rattle.model.specs.Answers.{said_of, Outcome, outcome, outcome_of}
 use Rattle.model.specs.Exports.{words_from, decoded, encoded, LentBytes, lend_bytes, decoded_lent, Export, gives, answer_bytes, tells, shown, exported, row_bytes, row_from, rows_of, params_of, flags_ok, rows_ok, called, check_gives, check_called}
 use Rattle.laws.proofs.Below.{test, and_second}
@@ -53,7 +53,7 @@ module _ (p : Params) (b : LentBytes) (e : Entry) (n : ℕ) {w w' words' st m h 
     (whole : length b.words ≡ 8 * n) (D : w ≡ words_from n b.words 0)
     (P : outcome s (lend w' st m h) ≡ outcome_of (inner_of e p (lend w b.states b.marks b.heap)))
     (E : words' ≡ encoded w') where
-  abbrev R : Result
+  abbrev R : Returned
   R = inner_of e p (decoded_lent b)
 
   is_decoded : w ≡ decoded b.words

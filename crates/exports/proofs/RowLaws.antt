@@ -1,4 +1,5 @@
 -- Laws of the export of `run`: one for each way out. Leans on decoding. Assumes nothing.
+use Rattle.std.specs.Prelude.{Result, ⊤}
 use mathlib.Core.Path.{◌≡◌, refl, sym, ap, ◌∙◌}
 use mathlib.Core.Bool.{Bool, true, false, ◌&&◌}
 use mathlib.Core.List.{List}
@@ -9,8 +10,6 @@ use lib.ListN.{length}
 use borrow.Author.Tests.{eq-eqb, ne_eqb, eqb-true, leb-true}
 use Rattle.model.specs.declared.Params.{Params}
 use Rattle.model.specs.declared.Given.{Given}
-use Rattle.model.specs.declared.Answer.{Answer}
-use Rattle.model.specs.declared.Answer.TheVariants.{Done, Refused}
 use Rattle.model.specs.declared.Refusal.{Refusal}
 use Rattle.model.specs.Calls.{refusal_number}
 use Rattle.model.specs.Answers.{reply_of}
@@ -19,23 +18,13 @@ use Rattle.model.specs.Exports.{words_from, decoded, encoded, LentBytes, lend_by
 use Rattle.model.specs.RunCalls.{RunResult, run_result, run_calls, whole_words, run_lengths_ok, run_shown, run_exported, run_called}
 use Rattle.laws.proofs.Below.{and_left, and_right}
 
--- ---- the number of what `run` says
-
-pub number_done : {x : Answer} → x ≡ Done → 0 ≡ (reply_of x).number
-unfolding reply_of
-number_done e = rw e
-
-pub number_refused : {x : Answer} {r : Refusal} {n : ℕ} → x ≡ Refused r → n ≡ refusal_number r → n ≡ (reply_of x).number
-unfolding reply_of
-number_refused e q = rw e q
-
 -- ---- the row between decoding and encoding
 
 decoded_is : (bytes : List ℕ) (n : ℕ) {w : List ℕ} → length bytes ≡ 8 * n → w ≡ words_from n bytes 0 → w ≡ decoded bytes
 unfolding decoded
 decoded_is bytes n e D = let q : length bytes / 8 ≡ n = omega (arith, e) in rw q D
 
-module _ (p : Params) (b : LentBytes) (calls : List ℕ) (n k m : ℕ) {w c a w' a' st ms h words' answer' : List ℕ} (done : Answer) {number : ℕ}
+module _ (p : Params) (b : LentBytes) (calls : List ℕ) (n k m : ℕ) {w c a w' a' st ms h words' answer' : List ℕ} (done : Result ⊤ Refusal) {number : ℕ}
     (ln : length b.words ≡ 8 * n) (lk : length calls ≡ 8 * k) (lm : length b.answer ≡ 8 * m)
     (W : w ≡ words_from n b.words 0) (C : c ≡ words_from k calls 0) (A : a ≡ words_from m b.answer 0)
     (P : run_result (reply_of done) a' (lend w' st ms h) ≡ run_calls p (lend w b.states b.marks b.heap) c a)

@@ -17,7 +17,7 @@ use Rattle.model.specs.Params.{Lent, fits, good_params}
 use Rattle.model.specs.Classes.{classes_fit}
 use Rattle.model.specs.Global.{fresh_tables}
 use Rattle.model.specs.Events.{Event}
-use Rattle.model.specs.Calls.{refusal_number, Reply, answered, Call, Result, call, set_up}
+use Rattle.model.specs.Calls.{refusal_number, Reply, answered, Call, Returned, call, set_up}
 use Rattle.model.specs.Answers.{said_of}
 use Rattle.model.specs.Runs.{written, Turn, State, found_by, step_of, result_of, turned, begun, Seen, seen, seen_in, Demand3}
 use Rattle.model.specs.Exports.{encoded, LentBytes, decoded_lent, Export, answer_bytes, tells, shown, Inner, asks, lengths_ok, exported, params_of, flags_ok, rows_ok, called, HostTurn, found_bytes, host_call, host_run, machine_run, AnswersFit, RunThroughExports, HostSees, host_sees, Demand3ThroughExports}
@@ -38,7 +38,7 @@ record Carries (b : LentBytes) (l : Lent) : Type 0 where
   heap : b.heap ≡ l.heap
   small : Small l.words
 
-shown_carries : (a : List ℕ) (r : Result) → Small r.lent.words → Carries (shown a r).bytes r.lent
+shown_carries : (a : List ℕ) (r : Returned) → Small r.lent.words → Carries (shown a r).bytes r.lent
 unfolding shown
 shown_carries a r h = record { words = refl; states = refl; marks = refl; heap = refl; small = h }
 
@@ -92,8 +92,8 @@ module _ (g : Given) (r : List ℕ) (ok : (flags_ok g && rows_ok r) ≡ true) wh
 set_up_answered : (p : Params) (l : Lent) → (set_up p l).reply.number ≡ 0 → (set_up p l).reply ≡ answered []
 unfolding set_up refusal_number
 set_up_answered p l e =
-    if_cases (λ (r : Result). r.reply.number ≡ 0 → r.reply ≡ answered []) (fits p l)
-    (λ f. if_cases (λ (r : Result). r.reply.number ≡ 0 → r.reply ≡ answered []) (classes_fit p) (λ k z. refl) (λ k z. absurd (omega (arith, z))))
+    if_cases (λ (r : Returned). r.reply.number ≡ 0 → r.reply ≡ answered []) (fits p l)
+    (λ f. if_cases (λ (r : Returned). r.reply.number ≡ 0 → r.reply ≡ answered []) (classes_fit p) (λ k z. refl) (λ k z. absurd (omega (arith, z))))
     (λ f z. absurd (omega (arith, z))) e
 
 set_up_small : (p : Params) (l : Lent) → (set_up p l).reply ≡ answered [] → Small (set_up p l).lent.words
@@ -143,7 +143,7 @@ abbrev read_of : Seen → HostSees
 read_of x =
     record { number = x.reply.number; answer = if tells x.reply.number then answer_bytes (said_of x.reply) else []; words = encoded x.words; states = x.states; marks = x.marks }
 
-shown_read : (a : List ℕ) (r : Result) (es : List Event) → host_sees (shown a r) ≡ read_of (seen r es)
+shown_read : (a : List ℕ) (r : Returned) (es : List Event) → host_sees (shown a r) ≡ read_of (seen r es)
 unfolding host_sees shown
 shown_read a r es =
     ap (λ (x : List ℕ). record { number = r.reply.number; answer = x; words = encoded r.lent.words; states = r.lent.states; marks = r.lent.marks })

@@ -21,7 +21,7 @@ use Rattle.model.specs.BlockList.{blocks_on}
 use Rattle.model.specs.Block.{cell_count, is_cell}
 use Rattle.model.specs.Global.{is_holder}
 use Rattle.model.specs.Sound.{state_of, block_clear, link_ok, phase_known, flags_known, sound, eager_ok, chained, sound_on}
-use Rattle.model.specs.Calls.{Call, plan, finish, step, Result, tables_in, call}
+use Rattle.model.specs.Calls.{Call, plan, finish, step, Returned, tables_in, call}
 use Rattle.laws.proofs.Base.{if_cases}
 use Rattle.laws.proofs.Below.{test, and_left, and_right, and_three, and_five, or_cases, all_below_at}
 use Rattle.laws.proofs.Params.{Bounds, good_bounds, start_end}
@@ -239,5 +239,5 @@ module _ (p : Params) (l : Lent) (c : Call) (h : Small l.words) where
   pub call_small : Small (call p l c).lent.words
   unfolding call
   call_small =
-      if_cases (λ (x : Result). Small x.lent.words) (fits p l)
-      (λ e. if_cases (λ (x : Result). Small x.lent.words) (classes_fit p) (λ k. fit_small e k) (λ k. h)) (λ e. h)
+      if_cases (λ (x : Returned). Small x.lent.words) (fits p l)
+      (λ e. if_cases (λ (x : Returned). Small x.lent.words) (classes_fit p) (λ k. fit_small e k) (λ k. h)) (λ e. h)

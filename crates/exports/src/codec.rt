@@ -9,10 +9,8 @@ pub(crate) fn decode(b: &[u8], w: &mut [usize])
     requires { 8 * length w.old ≤ length b.now }
     ensures { w.new ≡ words_from (length w.old) b.now 0 }
 {
-    let mut i: usize = 0;
-    while i < w.len() {
+    for i in 0..w.len() {
         w[i] = bytes::load_word(b, 8 * i);
-        i = i + 1;
     }
 }
 
@@ -21,11 +19,7 @@ pub(crate) fn encode(b: &mut [u8], w: &[usize])
     requires { length b.old ≡ 8 * length w.now }
     ensures { b.new ≡ encoded w.now }
 {
-    let mut k: usize = 0;
-    let mut at: usize = 0;
-    while k < w.len() {
-        bytes::store_word(b, at, w[k]);
-        at = at + 8;
-        k = k + 1;
+    for k in 0..w.len() {
+        bytes::store_word(b, 8 * k, w[k]);
     }
 }

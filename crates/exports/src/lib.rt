@@ -1,16 +1,16 @@
-// The calls for a C host, on numbers and byte slices: each decodes the table words, makes the inner call and encodes them again.
-// docs/HOST.md says how a host uses them, c/native_ms.h how it declares them.
+// The calls for a host, on numbers and byte slices: the table words are decoded, the inner call is made, and they are encoded again. The
+// crate exports_c gives each call to C under a name of its own; docs/HOST.md says how a host uses them.
 #![tactic(auto)]
 
 use model::Ask;
 
-pub mod c;
+pub mod call;
 mod codec;
 pub mod row;
 
-// What an export enters: set-up, or any other call.
+// What an export enters: set-up, or any other call. Not an Option of Ask: set-up is no lack of a call.
 #[derive(Clone, Copy)]
-pub(crate) enum Entry {
+pub enum Entry {
     SetUp,
     Call(Ask),
 }

@@ -1,13 +1,12 @@
 // The export of `run`: a row of calls, with the tables decoded and encoded once for all of them. Calls and answers travel as words of 8
 // bytes, as the tables do.
 ghost use Rattle.std.specs.Prelude.{◌≡◌, ◌*◌, length};
-ghost use Rattle.model.specs.Answers.{reply_of};
-ghost use Rattle.model.specs.Exports.{lend_bytes, decoded_lent, gives, given, decoded};
+ghost use Rattle.model.specs.Exports.{lend_bytes, decoded_lent, gives, decoded};
 ghost use Rattle.model.specs.RunCalls.{whole_words, run_calls, run_shown, run_exported, run_called};
 
-use crate::{c, codec};
-use model::{Answer, Given, Params};
-use native_ms::{run, said};
+use crate::{call, codec};
+use model::{Given, Params, Said};
+use native_ms::run;
 
 // The words of a row of 1,024 calls, and of its answers.
 const MOST_CALLS: usize = 1024;
@@ -15,16 +14,6 @@ const MOST_CALLS: usize = 1024;
 const ROW_WORDS: usize = 6 * MOST_CALLS;
 
 const ROOM_WORDS: usize = 5 * MOST_CALLS;
-
-// The number of what `run` says.
-fn number_of(x: Answer) -> usize
-    ensures { result ≡ (reply_of x).number }
-{
-    match x {
-        Answer::Done => 0,
-        Answer::Refused(refusal) => said::refusal_number(refusal),
-    }
-}
 
 // The row between a decoding into w, c and a and an encoding back.
 fn run_words(
@@ -48,17 +37,14 @@ fn run_words(
     let done = run::run(p, row, a, w, states, marks, heap);
     codec::encode(words, w);
     codec::encode(answer, a);
-    number_of(done)
+    Said::from(done).number
 }
 
 // Whether a slice of this length holds whole words, and at most so many.
 fn whole_words(len: usize, most: usize) -> bool
     ensures { result ≡ whole_words len most }
 {
-    if len % c::WORD_BYTES != 0 {
-        return false;
-    }
-    len / c::WORD_BYTES <= most
+    len % call::WORD_BYTES == 0 && len / call::WORD_BYTES <= most
 }
 
 // Tests the lengths that decoding needs; `run` tests the others.
@@ -80,18 +66,18 @@ fn run_row(
     let len = words.len();
     let room = answer.len();
     let asked = calls.len();
-    if !whole_words(len, c::MOST_WORDS) {
-        return c::BAD_SETUP;
+    if !whole_words(len, call::MOST_WORDS) {
+        return call::BAD_SETUP;
     }
     if !whole_words(room, ROOM_WORDS) {
-        return c::BAD_SETUP;
+        return call::BAD_SETUP;
     }
     if !whole_words(asked, ROW_WORDS) {
-        return c::BAD_SETUP;
+        return call::BAD_SETUP;
     }
-    let n = len / c::WORD_BYTES;
-    let k = room / c::WORD_BYTES;
-    let m = asked / c::WORD_BYTES;
+    let n = len / call::WORD_BYTES;
+    let k = room / call::WORD_BYTES;
+    let m = asked / call::WORD_BYTES;
     run_words(
         p,
         words,
@@ -106,17 +92,9 @@ fn run_row(
     )
 }
 
-// Run. The answer: five words for each call, 0 or its refusal's number and its values; nothing is written where BadSetup is returned.
-pub fn native_ms_run(
-    base: usize,
-    bytes: usize,
-    blocks: usize,
-    min: usize,
-    max: usize,
-    offsets: usize,
-    unified: usize,
-    lower: i64,
-    eager: usize,
+// The answer: five words for each call, 0 or its refusal's number and its values; nothing is written where BadSetup is returned.
+pub fn export(
+    g: Given,
     words: &mut [u8],
     states: &mut [u8],
     marks: &mut [u8],
@@ -125,27 +103,16 @@ pub fn native_ms_run(
     answer: &mut [u8],
     calls: &[u8],
 ) -> usize
-    ensures { gives result (lend_bytes words.new states.new marks.new heap.new answer.new) ≡ run_called (given base bytes blocks min max offsets unified lower eager) rows.now (lend_bytes words.old states.old marks.old heap.old answer.old) calls.now }
+    ensures { gives result (lend_bytes words.new states.new marks.new heap.new answer.new) ≡ run_called g rows.now (lend_bytes words.old states.old marks.old heap.old answer.old) calls.now }
 {
-    let g = Given {
-        base,
-        bytes,
-        blocks,
-        min,
-        max,
-        offsets,
-        unified,
-        lower,
-        eager,
-    };
-    if !c::flags_ok(g) {
-        return c::BAD_SETUP;
+    if !call::flags_ok(g) {
+        return call::BAD_SETUP;
     }
-    if !c::rows_ok(rows) {
-        return c::BAD_SETUP;
+    if !call::rows_ok(rows) {
+        return call::BAD_SETUP;
     }
-    let p = c::params(g, rows);
-    let mut w = [0usize; c::MOST_WORDS];
+    let p = call::params(g, rows);
+    let mut w = [0usize; call::MOST_WORDS];
     let mut row = [0usize; ROW_WORDS];
     let mut room = [0usize; ROOM_WORDS];
     run_row(

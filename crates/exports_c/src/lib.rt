@@ -1,13 +1,43 @@
-// The exports for C: each calls the function of the same name in the crate exports, and promises the same. A crate is a library or a
-// static library, and not both; exports is the library. docs/HOST.md says how a host uses them, c/native_ms.h how it declares them.
-#![tactic(auto)]
+// The exports for C: each of them calls the function of the crate exports that makes every call, with the parameters that it was given as
+// numbers and with what it asks. They are alike, since C asks for a function and its parameters for each call. docs/HOST.md says how a host
+// uses them, c/native_ms.h how it declares them.
+#![tactic(auto, unfolding(exports::specs::Entry::inner_of, model::specs::Answers::call_of))]
 
 ghost use Rattle.std.specs.Prelude.{◌≡◌};
 ghost use Rattle.model.specs.Calls.{set_up, bind, destroy, alloc, prepare, mark, release, shared_release};
 ghost use Rattle.model.specs.Exports.{lend_bytes, gives, asks, given, called, check_gives, check_called, offered_by};
 ghost use Rattle.model.specs.RunCalls.{run_called};
 
-use exports::{c, row};
+use exports::{Entry, call, row};
+use model::{Ask, Given, Request};
+use native_ms::run;
+
+// The parameters as C gives them.
+fn given(
+    base: usize,
+    bytes: usize,
+    blocks: usize,
+    min: usize,
+    max: usize,
+    offsets: usize,
+    unified: usize,
+    lower: i64,
+    eager: usize,
+) -> Given
+    ensures { result ≡ given base bytes blocks min max offsets unified lower eager }
+{
+    Given {
+        base,
+        bytes,
+        blocks,
+        min,
+        max,
+        offsets,
+        unified,
+        lower,
+        eager,
+    }
+}
 
 // Set-up. The answer: no numbers.
 #[unsafe(no_mangle)]
@@ -30,10 +60,10 @@ pub extern "C" fn native_ms_set_up(
 ) -> usize
     ensures { gives result (lend_bytes words.new states.new marks.new heap.new answer.new) ≡ called (given base bytes blocks min max offsets unified lower eager) rows.now (lend_bytes words.old states.old marks.old heap.old answer.old) set_up }
 {
-    c::native_ms_set_up(
-        base, bytes, blocks, min, max, offsets, unified, lower, eager, words, states, marks, heap,
-        rows, answer,
-    )
+    let g = given(
+        base, bytes, blocks, min, max, offsets, unified, lower, eager,
+    );
+    call::export(g, words, states, marks, heap, rows, answer, Entry::SetUp)
 }
 
 // Bind. The answer: no numbers.
@@ -58,9 +88,18 @@ pub extern "C" fn native_ms_bind(
 ) -> usize
     ensures { gives result (lend_bytes words.new states.new marks.new heap.new answer.new) ≡ called (given base bytes blocks min max offsets unified lower eager) rows.now (lend_bytes words.old states.old marks.old heap.old answer.old) (asks (bind holder)) }
 {
-    c::native_ms_bind(
-        base, bytes, blocks, min, max, offsets, unified, lower, eager, words, states, marks, heap,
-        rows, answer, holder,
+    let g = given(
+        base, bytes, blocks, min, max, offsets, unified, lower, eager,
+    );
+    call::export(
+        g,
+        words,
+        states,
+        marks,
+        heap,
+        rows,
+        answer,
+        Entry::Call(Ask::Bind(holder)),
     )
 }
 
@@ -86,9 +125,18 @@ pub extern "C" fn native_ms_destroy(
 ) -> usize
     ensures { gives result (lend_bytes words.new states.new marks.new heap.new answer.new) ≡ called (given base bytes blocks min max offsets unified lower eager) rows.now (lend_bytes words.old states.old marks.old heap.old answer.old) (asks (destroy holder)) }
 {
-    c::native_ms_destroy(
-        base, bytes, blocks, min, max, offsets, unified, lower, eager, words, states, marks, heap,
-        rows, answer, holder,
+    let g = given(
+        base, bytes, blocks, min, max, offsets, unified, lower, eager,
+    );
+    call::export(
+        g,
+        words,
+        states,
+        marks,
+        heap,
+        rows,
+        answer,
+        Entry::Call(Ask::Destroy(holder)),
     )
 }
 
@@ -118,9 +166,26 @@ pub extern "C" fn native_ms_alloc(
 ) -> usize
     ensures { gives result (lend_bytes words.new states.new marks.new heap.new answer.new) ≡ called (given base bytes blocks min max offsets unified lower eager) rows.now (lend_bytes words.old states.old marks.old heap.old answer.old) (asks (alloc holder size align offset (offered_by offer))) }
 {
-    c::native_ms_alloc(
-        base, bytes, blocks, min, max, offsets, unified, lower, eager, words, states, marks, heap,
-        rows, answer, holder, size, align, offset, offer,
+    let g = given(
+        base, bytes, blocks, min, max, offsets, unified, lower, eager,
+    );
+    call::export(
+        g,
+        words,
+        states,
+        marks,
+        heap,
+        rows,
+        answer,
+        Entry::Call(Ask::Alloc {
+            holder,
+            request: Request {
+                size,
+                align,
+                offset,
+                offer: run::offered(offer),
+            },
+        }),
     )
 }
 
@@ -145,9 +210,18 @@ pub extern "C" fn native_ms_prepare(
 ) -> usize
     ensures { gives result (lend_bytes words.new states.new marks.new heap.new answer.new) ≡ called (given base bytes blocks min max offsets unified lower eager) rows.now (lend_bytes words.old states.old marks.old heap.old answer.old) (asks prepare) }
 {
-    c::native_ms_prepare(
-        base, bytes, blocks, min, max, offsets, unified, lower, eager, words, states, marks, heap,
-        rows, answer,
+    let g = given(
+        base, bytes, blocks, min, max, offsets, unified, lower, eager,
+    );
+    call::export(
+        g,
+        words,
+        states,
+        marks,
+        heap,
+        rows,
+        answer,
+        Entry::Call(Ask::Prepare),
     )
 }
 
@@ -174,9 +248,18 @@ pub extern "C" fn native_ms_mark(
 ) -> usize
     ensures { gives result (lend_bytes words.new states.new marks.new heap.new answer.new) ≡ called (given base bytes blocks min max offsets unified lower eager) rows.now (lend_bytes words.old states.old marks.old heap.old answer.old) (asks (mark place block)) }
 {
-    c::native_ms_mark(
-        base, bytes, blocks, min, max, offsets, unified, lower, eager, words, states, marks, heap,
-        rows, answer, place, block,
+    let g = given(
+        base, bytes, blocks, min, max, offsets, unified, lower, eager,
+    );
+    call::export(
+        g,
+        words,
+        states,
+        marks,
+        heap,
+        rows,
+        answer,
+        Entry::Call(Ask::Mark { place, block }),
     )
 }
 
@@ -202,9 +285,18 @@ pub extern "C" fn native_ms_release(
 ) -> usize
     ensures { gives result (lend_bytes words.new states.new marks.new heap.new answer.new) ≡ called (given base bytes blocks min max offsets unified lower eager) rows.now (lend_bytes words.old states.old marks.old heap.old answer.old) (asks (release holder)) }
 {
-    c::native_ms_release(
-        base, bytes, blocks, min, max, offsets, unified, lower, eager, words, states, marks, heap,
-        rows, answer, holder,
+    let g = given(
+        base, bytes, blocks, min, max, offsets, unified, lower, eager,
+    );
+    call::export(
+        g,
+        words,
+        states,
+        marks,
+        heap,
+        rows,
+        answer,
+        Entry::Call(Ask::Release(holder)),
     )
 }
 
@@ -229,9 +321,18 @@ pub extern "C" fn native_ms_shared_release(
 ) -> usize
     ensures { gives result (lend_bytes words.new states.new marks.new heap.new answer.new) ≡ called (given base bytes blocks min max offsets unified lower eager) rows.now (lend_bytes words.old states.old marks.old heap.old answer.old) (asks shared_release) }
 {
-    c::native_ms_shared_release(
-        base, bytes, blocks, min, max, offsets, unified, lower, eager, words, states, marks, heap,
-        rows, answer,
+    let g = given(
+        base, bytes, blocks, min, max, offsets, unified, lower, eager,
+    );
+    call::export(
+        g,
+        words,
+        states,
+        marks,
+        heap,
+        rows,
+        answer,
+        Entry::Call(Ask::SharedRelease),
     )
 }
 
@@ -252,9 +353,10 @@ pub extern "C" fn native_ms_check_classes(
 ) -> usize
     ensures { check_gives result answer.new ≡ check_called (given base bytes blocks min max offsets unified lower eager) rows.now answer.old }
 {
-    c::native_ms_check_classes(
-        base, bytes, blocks, min, max, offsets, unified, lower, eager, rows, answer,
-    )
+    let g = given(
+        base, bytes, blocks, min, max, offsets, unified, lower, eager,
+    );
+    call::check(g, rows, answer)
 }
 
 // Run. The answer: five words for each call, 0 or its refusal's number and its values; nothing is written where BadSetup is returned.
@@ -279,8 +381,8 @@ pub extern "C" fn native_ms_run(
 ) -> usize
     ensures { gives result (lend_bytes words.new states.new marks.new heap.new answer.new) ≡ run_called (given base bytes blocks min max offsets unified lower eager) rows.now (lend_bytes words.old states.old marks.old heap.old answer.old) calls.now }
 {
-    row::native_ms_run(
-        base, bytes, blocks, min, max, offsets, unified, lower, eager, words, states, marks, heap,
-        rows, answer, calls,
-    )
+    let g = given(
+        base, bytes, blocks, min, max, offsets, unified, lower, eager,
+    );
+    row::export(g, words, states, marks, heap, rows, answer, calls)
 }

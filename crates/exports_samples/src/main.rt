@@ -3,30 +3,17 @@
 // A trace's lines replayed through the exports, on the space of the census: for each line the number returned and the bytes of the
 // slice for the answer, which are 0xA5 before it. What must be printed was worked out from document 01 by another program
 // (sample.py). No rows are lent: the classes are document 01's.
-use exports::c;
-use model::{Ask, Offer};
-use std::io::Stdin;
-use trace::{Line, NextLine, lines};
-
-const BASE: usize = 16384;
-
-const BYTES: usize = 4096;
+use exports::{Entry, call};
+use model::{Ask, Given, Request};
+use native_ms::run;
+use std::io::{Result, Stdin};
+use trace::lines;
 
 const BLOCKS: usize = 4;
 
-const MIN: usize = 8;
-
-const MAX: usize = 8;
-
-const OFFSETS: usize = 0;
-
-const UNIFIED: usize = 1;
-
-const LOWER: i64 = 0;
-
-const EAGER: usize = 0;
-
 const WORDS_LEN: usize = 23888;
+
+const MARKS: usize = 256;
 
 const HEAP: usize = 16384;
 
@@ -37,367 +24,100 @@ const TRACE: usize = 16384;
 
 const MOST_LINES: usize = 256;
 
-fn say(rt: &impl Eprint, text: &str) {
-    let _ = rt.eprint(text);
+// What is lent to a call.
+#[derive(Drop)]
+struct Space {
+    words: [u8; WORDS_LEN],
+    states: [u8; BLOCKS],
+    marks: [u8; MARKS],
+    heap: [u8; HEAP],
 }
 
-// Whether it was written.
-fn put(rt: &impl Print, bytes: &[u8]) -> bool {
-    rt.write_all(bytes).is_ok()
-}
-
-fn set_up(
-    words: &mut [u8],
-    states: &mut [u8],
-    marks: &mut [u8],
-    heap: &mut [u8],
-    answer: &mut [u8],
-) -> usize {
-    c::native_ms_set_up(
-        BASE, BYTES, BLOCKS, MIN, MAX, OFFSETS, UNIFIED, LOWER, EAGER, words, states, marks, heap,
-        b"", answer,
+// A call through the exports: on this space, with this slice for the answer.
+fn make(space: &mut Space, answer: &mut [u8], entry: Entry) -> usize {
+    call::export(
+        Given::from(listing::space::params()),
+        &mut space.words,
+        &mut space.states,
+        &mut space.marks,
+        &mut space.heap,
+        b"",
+        answer,
+        entry,
     )
 }
 
-fn bind(
-    words: &mut [u8],
-    states: &mut [u8],
-    marks: &mut [u8],
-    heap: &mut [u8],
-    answer: &mut [u8],
-    holder: usize,
-) -> usize {
-    c::native_ms_bind(
-        BASE, BYTES, BLOCKS, MIN, MAX, OFFSETS, UNIFIED, LOWER, EAGER, words, states, marks, heap,
-        b"", answer, holder,
-    )
-}
-
-fn destroy(
-    words: &mut [u8],
-    states: &mut [u8],
-    marks: &mut [u8],
-    heap: &mut [u8],
-    answer: &mut [u8],
-    holder: usize,
-) -> usize {
-    c::native_ms_destroy(
-        BASE, BYTES, BLOCKS, MIN, MAX, OFFSETS, UNIFIED, LOWER, EAGER, words, states, marks, heap,
-        b"", answer, holder,
-    )
-}
-
-fn alloc(
-    words: &mut [u8],
-    states: &mut [u8],
-    marks: &mut [u8],
-    heap: &mut [u8],
-    answer: &mut [u8],
-    holder: usize,
-    size: usize,
-    align: usize,
-    offset: usize,
-    offer: usize,
-) -> usize {
-    c::native_ms_alloc(
-        BASE, BYTES, BLOCKS, MIN, MAX, OFFSETS, UNIFIED, LOWER, EAGER, words, states, marks, heap,
-        b"", answer, holder, size, align, offset, offer,
-    )
-}
-
-fn prepare(
-    words: &mut [u8],
-    states: &mut [u8],
-    marks: &mut [u8],
-    heap: &mut [u8],
-    answer: &mut [u8],
-) -> usize {
-    c::native_ms_prepare(
-        BASE, BYTES, BLOCKS, MIN, MAX, OFFSETS, UNIFIED, LOWER, EAGER, words, states, marks, heap,
-        b"", answer,
-    )
-}
-
-fn mark(
-    words: &mut [u8],
-    states: &mut [u8],
-    marks: &mut [u8],
-    heap: &mut [u8],
-    answer: &mut [u8],
-    place: usize,
-    block: usize,
-) -> usize {
-    c::native_ms_mark(
-        BASE, BYTES, BLOCKS, MIN, MAX, OFFSETS, UNIFIED, LOWER, EAGER, words, states, marks, heap,
-        b"", answer, place, block,
-    )
-}
-
-fn release(
-    words: &mut [u8],
-    states: &mut [u8],
-    marks: &mut [u8],
-    heap: &mut [u8],
-    answer: &mut [u8],
-    holder: usize,
-) -> usize {
-    c::native_ms_release(
-        BASE, BYTES, BLOCKS, MIN, MAX, OFFSETS, UNIFIED, LOWER, EAGER, words, states, marks, heap,
-        b"", answer, holder,
-    )
-}
-
-fn shared_release(
-    words: &mut [u8],
-    states: &mut [u8],
-    marks: &mut [u8],
-    heap: &mut [u8],
-    answer: &mut [u8],
-) -> usize {
-    c::native_ms_shared_release(
-        BASE, BYTES, BLOCKS, MIN, MAX, OFFSETS, UNIFIED, LOWER, EAGER, words, states, marks, heap,
-        b"", answer,
-    )
-}
-
-// The number that stands for an offer.
-fn number_of(offer: Offer) -> usize {
-    match offer {
-        Offer::Nothing => 18446744073709551615,
-        Offer::Fresh(block) => block.0,
-    }
-}
-
-// The call that is asked for.
-fn make(
-    words: &mut [u8],
-    states: &mut [u8],
-    marks: &mut [u8],
-    heap: &mut [u8],
-    answer: &mut [u8],
-    ask: Ask,
-) -> usize {
+// The call as C tells it: an offer is a number there, of which 2^64 − 1 offers none.
+fn told(ask: Ask) -> Ask {
     match ask {
-        Ask::Bind(h) => bind(words, states, marks, heap, answer, h),
-        Ask::Destroy(h) => destroy(words, states, marks, heap, answer, h),
-        Ask::Alloc {
-            holder,
-            size,
-            align,
-            offset,
-            offer,
-        } => alloc(
-            words,
-            states,
-            marks,
-            heap,
-            answer,
-            holder,
-            size,
-            align,
-            offset,
-            number_of(offer),
-        ),
-        Ask::Prepare => prepare(words, states, marks, heap, answer),
-        Ask::Mark { place, block } => mark(words, states, marks, heap, answer, place, block),
-        Ask::Release(h) => release(words, states, marks, heap, answer, h),
-        Ask::SharedRelease => shared_release(words, states, marks, heap, answer),
-    }
-}
-
-fn tell_byte(rt: &impl Print, b: u8) -> bool {
-    let mut two = [0u8; 16];
-    let k = io::hex(b as u64, 2, &mut two);
-    put(rt, &two[..k])
-}
-
-fn tell_bytes(rt: &impl Print, s: &[u8]) -> bool {
-    let mut i: usize = 0;
-    while i < s.len() {
-        let written = tell_byte(rt, s[i]);
-        if !written {
-            return false;
+        Ask::Alloc { holder, request } => {
+            let number = request.offer.map_or(run::NO_OFFER, |block| block.0);
+            let offer = run::offered(number);
+            Ask::Alloc {
+                holder,
+                request: Request { offer, ..request },
+            }
         }
-        i = i + 1;
+        other => other,
     }
-    true
 }
 
-// Prints the number and the slice; whether that was written. So do the next three.
-fn tell(rt: &impl Print, number: usize, answer: &[u8; ANSWER]) -> bool {
-    let mut digits = [0u8; 20];
-    let k = io::decimal(number as u64, &mut digits);
-    if !put(rt, &digits[..k]) {
-        return false;
+// Prints the number and the slice.
+fn tell(rt: &impl Print, number: usize, answer: &[u8; ANSWER]) -> Result<()> {
+    print!(rt; "{number} ")?;
+    for byte in answer {
+        print!(rt; "{byte:02x}")?;
     }
-    if !put(rt, b" ") {
-        return false;
-    }
-    if !tell_bytes(rt, answer) {
-        return false;
-    }
-    put(rt, b"\n")
+    println!(rt)
 }
 
-fn tell_set_up(
-    rt: &impl Print,
-    words: &mut [u8],
-    states: &mut [u8],
-    marks: &mut [u8],
-    heap: &mut [u8],
-) -> bool {
+fn tell_set_up(rt: &impl Print, space: &mut Space) -> Result<()> {
     let mut answer = [0xA5u8; ANSWER];
-    let number = set_up(words, states, marks, heap, &mut answer);
+    let number = make(space, &mut answer, Entry::SetUp);
     tell(rt, number, &answer)
 }
 
-fn tell_call(
-    rt: &impl Print,
-    words: &mut [u8],
-    states: &mut [u8],
-    marks: &mut [u8],
-    heap: &mut [u8],
-    ask: Ask,
-) -> bool {
+fn tell_line(rt: &impl Print, space: &mut Space, line: Option<Ask>) -> Result<()> {
+    let Some(ask) = line else {
+        return println!(rt; "bad");
+    };
     let mut answer = [0xA5u8; ANSWER];
-    let number = make(words, states, marks, heap, &mut answer, ask);
+    let number = make(space, &mut answer, Entry::Call(told(ask)));
     tell(rt, number, &answer)
 }
 
-fn tell_line(
-    rt: &impl Print,
-    words: &mut [u8],
-    states: &mut [u8],
-    marks: &mut [u8],
-    heap: &mut [u8],
-    line: Line,
-) -> bool {
-    let Line::Asks(ask) = line else {
-        return put(rt, b"bad\n");
-    };
-    tell_call(rt, words, states, marks, heap, ask)
-}
-
-// Where the next line begins, and whether what was to be printed was written.
-#[derive(Clone, Copy)]
-struct Told {
-    next: usize,
-    written: bool,
-}
-
-// The line that begins at `at`.
-fn turn(
-    rt: &impl Print,
-    s: &[u8],
-    at: usize,
-    words: &mut [u8],
-    states: &mut [u8],
-    marks: &mut [u8],
-    heap: &mut [u8],
-) -> Told {
-    let NextLine::Line { from, to, next } = lines::next_line(s, at) else {
-        return Told {
-            next: s.len(),
-            written: true,
-        };
-    };
-    if to < from {
-        return Told {
-            next,
-            written: true,
-        };
-    }
-    if s.len() < to {
-        return Told {
-            next,
-            written: true,
-        };
-    }
-    let written = tell_line(rt, words, states, marks, heap, lines::parse(&s[from..to]));
-    Told { next, written }
-}
-
-// No line begins where nothing follows, so the turns that are left then do nothing. Whether all was written.
-fn replay_lines(
-    rt: &impl Print,
-    s: &[u8],
-    words: &mut [u8],
-    states: &mut [u8],
-    marks: &mut [u8],
-    heap: &mut [u8],
-) -> bool {
+fn replay(rt: &impl Print, s: &[u8], space: &mut Space) -> Result<()> {
+    tell_set_up(rt, space)?;
     let mut at: usize = 0;
-    let mut n: usize = 0;
-    while n < MOST_LINES {
-        let done = turn(rt, s, at, words, states, marks, heap);
-        if !done.written {
-            return false;
+    for _ in 0..MOST_LINES {
+        let Some(line) = lines::next_line(s, at) else {
+            return Ok(());
+        };
+        if let Some(bytes) = s.get(line.from..line.to) {
+            tell_line(rt, space, lines::parse(bytes))?;
         }
-        at = done.next;
-        n = n + 1;
+        at = line.next;
     }
-    true
+    Ok(())
 }
 
-fn replay(
-    rt: &impl Print,
-    s: &[u8],
-    words: &mut [u8],
-    states: &mut [u8],
-    marks: &mut [u8],
-    heap: &mut [u8],
-) -> bool {
-    if !tell_set_up(rt, words, states, marks, heap) {
-        return false;
-    }
-    replay_lines(rt, s, words, states, marks, heap)
-}
-
-fn read_and_replay(
-    rt: &(impl Print + Eprint),
-    from: Stdin,
-    input: &mut [u8],
-    words: &mut [u8],
-    states: &mut [u8],
-    marks: &mut [u8],
-    heap: &mut [u8],
-) {
-    let read = streams::read_input(from, input);
-    if read.failed {
-        say(rt, "exports_samples: standard input can't be read\n");
+fn read_and_replay(rt: &(impl Print + Eprint), from: Stdin, input: &mut [u8], space: &mut Space) {
+    let Ok(n) = streams::read_input(from, input) else {
+        let _ = rt.eprint("exports_samples: standard input can't be read\n");
         return;
+    };
+    if replay(rt, &input[..n], space).is_err() {
+        let _ = rt.eprint("exports_samples: standard output can't be written\n");
     }
-    let n = read.len;
-    if !replay(rt, &input[..n], words, states, marks, heap) {
-        say(rt, "exports_samples: standard output can't be written\n");
-    }
-}
-
-fn lend(
-    rt: &(impl Print + Eprint),
-    from: Stdin,
-    input: &mut [u8; TRACE],
-    words: &mut [u8; WORDS_LEN],
-    states: &mut [u8; BLOCKS],
-    marks: &mut [u8; 256],
-    heap: &mut [u8; HEAP],
-) {
-    read_and_replay(rt, from, input, words, states, marks, heap);
 }
 
 fn main(rt: HostRuntime) {
     let mut input = [0u8; TRACE];
-    let mut words = [0xA5u8; WORDS_LEN];
-    let mut states = [0xA5u8; BLOCKS];
-    let mut marks = [0xA5u8; 256];
-    let mut heap = [0xA5u8; HEAP];
-    lend(
-        &rt,
-        rt.stdin(),
-        &mut input,
-        &mut words,
-        &mut states,
-        &mut marks,
-        &mut heap,
-    );
+    let mut space = Space {
+        words: [0xA5u8; WORDS_LEN],
+        states: [0xA5u8; BLOCKS],
+        marks: [0xA5u8; MARKS],
+        heap: [0xA5u8; HEAP],
+    };
+    read_and_replay(&rt, rt.stdin(), &mut input, &mut space);
 }

@@ -4,14 +4,14 @@ use mathlib.Core.Path.{◌≡◌, refl, sym, ap, ◌∙◌}
 use mathlib.Core.Logic.{◌⊎◌, inl, inr, ⊎_elim}
 use mathlib.Core.Bool.{Bool, true, false, ◌||◌}
 use mathlib.Core.List.{List, [], ◌∷◌, ◌++◌}
-use Prim.Native.Nat.{ℕ, zero, suc, ◌+◌, ◌<◌}
+use Prim.Native.Nat.{ℕ, zero, suc, ◌<◌}
 use native.Mathlib.Decide.{dec_lt}
 use native.Mathlib.Omega.{arith}
 use lib.Dec.{eqb}
 use borrow.Author.Tests.{eqb-true, eq-eqb}
 use Rattle.laws.proofs.Below.{true_not_false}
 pub use Rattle.laws.proofs.Below.{and_left, and_right, or_cases, or_left, or_right, same_test, test as Bool_cases, all_below_at as all_below_lem, all_below_from as below_all, any_below_from as below_any, any_below_none as below_none_any}
-use Rattle.model.specs.Base.{all_below, any_below, member, filter, In, Pairwise}
+use Rattle.model.specs.Base.{any_below, member, filter, In, Pairwise}
 
 -- ---- tests
 

@@ -1,11 +1,12 @@
--- Laws of the tests of model/specs/Base.antt: `&&`, `||`, every i below n, some i below n. Assumes nothing.
-use Prim.Native.Nat.{ℕ, zero, suc, ◌-◌, ◌<◌, ◌≤◌}
+-- Laws of the tests and sums of model/specs/Base.antt: `&&`, `||`, every i below n, some i below n, a sum below n. Assumes nothing.
+use Prim.Native.Nat.{ℕ, zero, suc, ◌+◌, ◌-◌, ◌<◌, ◌≤◌}
 use mathlib.Core.Path.{◌≡◌, refl, sym, ap, ◌∙◌}
 use mathlib.Core.Bool.{Bool, true, false, ◌&&◌, ◌||◌}
 use mathlib.Core.Logic.{◌⊎◌, inl, inr, ⊎_elim}
 use native.Mathlib.Nat.{not-suc-le-zero, eq-or-lt_of_le, le_of_suc-le-suc, lt-suc_self, le_step}
+use native.Mathlib.Numerals.{add-one}
 use native.Mathlib.Omega.{arith}
-use Rattle.model.specs.Base.{all_below, any_below}
+use Rattle.model.specs.Base.{all_below, any_below, sum_below}
 
 pub true_not_false : true ≡ false → ⊥
 true_not_false e = let z : ◌≡◌ {A = ℕ} 0 1 = cc in omega arith
@@ -159,3 +160,20 @@ module _ (f : ℕ → Bool) where
   any_step (suc k) h e =
       let d : suc k - 1 ≡ k = omega arith in
       rw (d, ap f (sym d) ∙ e)
+
+-- ---- a loop that counts up: r is the test of the i-th, which settles all; and the sum of those passed
+
+module _ (n : ℕ) (f : ℕ → Bool) (i : ℕ) {r : Bool} (l : i < n) (e : r ≡ f i) where
+  pub all_fails : r ≡ false → false ≡ all_below n f
+  all_fails z = sym (all_below_off n f i l (sym e ∙ z))
+
+  pub any_passes : r ≡ true → true ≡ any_below n f
+  any_passes y = sym (any_below_from n f i l (sym e ∙ y))
+
+pub sum_start : (f : ℕ → ℕ) → sum_below 0 f ≡ 0
+unfolding sum_below
+sum_start f = refl
+
+pub sum_up : (k : ℕ) (f : ℕ → ℕ) → sum_below (k + 1) f ≡ f k + sum_below k f
+unfolding sum_below
+sum_up k f = rw add-one

@@ -15,12 +15,12 @@ use lib.ListN.{length}
 use borrow.Author.Tests.{leb-true, eqb-true, lt-ltb, le-leb, lt-leb, eq-eqb}
 use Rattle.model.specs.declared.Params.{Params}
 use Rattle.model.specs.Base.{In, Pairwise}
-use Rattle.model.specs.Params.{start, block_at, in_heap, heap_bytes}
+use Rattle.model.specs.Params.{start, block_at, heap_bytes}
 use Rattle.model.specs.Memory.{load, store}
-use Rattle.model.specs.Block.{cell_count, is_cell, cells_down, link_all, chain_from, ChainStands}
+use Rattle.model.specs.Block.{cell_count, is_cell, cells_down, link_all, ChainStands}
 use Rattle.laws.proofs.Below.{and_four, and_both}
 use Rattle.laws.proofs.Base.{if_cases, below_last, pairwise_more}
-use Rattle.laws.proofs.Params.{Bounds, start_in, start_end, block_at_within, in_heap_yes}
+use Rattle.laws.proofs.Params.{Bounds, start_in, start_end, block_at_within}
 use Rattle.laws.proofs.Memory.{Apart, Same, same_trans, same_store, length_store, load_store, load_same}
 
 -- ---- whole cells

@@ -4,7 +4,7 @@
 use Prim.Native.Nat.{ℕ, zero, suc, ◌+◌, ◌-◌, ◌*◌, ◌/◌, ◌%◌, ◌≤◌, ◌<◌}
 use mathlib.Core.Path.{◌≡◌, refl, sym, ap, ◌∙◌}
 use mathlib.Core.Logic.{◌≢◌, inl, inr, ⊎_elim}
-use mathlib.Core.Bool.{Bool, true, false, ◌&&◌, ◌||◌}
+use mathlib.Core.Bool.{true, false}
 use mathlib.Core.List.{List, [], ◌∷◌, map}
 use native.Mathlib.Nat.{suc-mul, div-add-mod', le-div_iff_mul-le}
 use native.Mathlib.Omega.{arith}
@@ -13,7 +13,7 @@ use lib.ListN.{length, get_or, length-map}
 use borrow.Author.Tests.{eqb-true, eq-eqb, ne_eqb, ltb-true, leb-true, le-leb}
 use Rattle.model.specs.declared.Params.{Params}
 use Rattle.model.specs.Base.{In, Pairwise, member}
-use Rattle.model.specs.Params.{good_params, start}
+use Rattle.model.specs.Params.{start}
 use Rattle.model.specs.Memory.{load}
 use Rattle.model.specs.Tables.{Words}
 use Rattle.model.specs.Block.{cell_count, is_cell, ChainStands, chain_from}

@@ -9,7 +9,7 @@ use native.Mathlib.Nat.{sub-zero, zero-mod, add-mod_right, add-mul-mod_self_left
 use native.Mathlib.Omega.{arith}
 use lib.Dec.{eqb, ltb, leb}
 use lib.ListN.{length, get_or, get_or-eq_default}
-use borrow.Author.Tests.{eqb-true, ltb-true, ltb-false, leb-true, leb-false, lt-ltb, le-ltb, eq-eqb, ne_eqb, le-leb, lt-leb}
+use borrow.Author.Tests.{eqb-true, ltb-true, ltb-false, leb-true, leb-false, le-ltb, eq-eqb, ne_eqb, le-leb, lt-leb}
 use Rattle.model.specs.declared.Params.{Params}
 use Rattle.model.specs.Base.{all_below, any_below, least_from}
 use Rattle.model.specs.Params.{power_of_two}

@@ -9,9 +9,8 @@ use lib.Dec.{eqb, ltb, leb, lit<}
 use borrow.Author.Tests.{eqb-true, ltb-true, leb-true, eq-eqb, ne_eqb, lt-ltb, le-ltb, le-leb, lt-leb}
 use Rattle.model.specs.declared.Params.{Params}
 use Rattle.model.specs.Base.{all_below, any_below}
-use lib.ListN.{length}
-use Rattle.model.specs.Params.{good_params, max_rows, Lent, fits, word_count, power_of_two, lower_ok, heap_end, heap_bytes}
-use Rattle.laws.proofs.Below.{and_left, and_right, and_first, and_second, and_three, and_four, and_five, and_both, or_cases, or_left, or_right, all_below_at, any_below_at, any_below_from, any_miss, same_test}
+use Rattle.model.specs.Params.{good_params, max_rows, word_count, power_of_two, lower_ok, heap_end, heap_bytes}
+use Rattle.laws.proofs.Below.{and_left, and_right, and_first, and_second, and_three, and_five, or_cases, all_below_at, any_below_at, any_below_from, any_miss, same_test}
 use lib.IntN.{nat_abs}
 
 pub record Good (p : Params) : Type 0 where

@@ -12,7 +12,7 @@ use Rattle.model.specs.Params.{good_params, Lent, fits, word_count, heap_bytes}
 use Rattle.model.specs.Tables.{Words, Tables, tables_of}
 use Rattle.model.specs.Classes.{classes_fit}
 use Rattle.model.specs.Global.{fresh_tables}
-use Rattle.model.specs.Calls.{Reply, answered, refusal_number, Call, step, Result, tables_in, lent_of, result_from, bad_setup, bad_classes, call, set_up}
+use Rattle.model.specs.Calls.{Reply, answered, refusal_number, Call, step, Returned, tables_in, lent_of, result_from, bad_setup, bad_classes, call, set_up}
 use Rattle.laws.proofs.Base.{if_true, if_false}
 use Rattle.laws.proofs.Below.{and_both, and_five}
 use Rattle.laws.proofs.Tables.{Sized, view_flat, length_flat}
@@ -43,7 +43,7 @@ answered_fits p l e = go (fits p l) refl
   where
     go : (b : Bool) → fits p l ≡ b → fits p l ≡ true
     go true f = f
-    go false f = absurd (omega (arith, ap (λ (r : Reply). r.number) (sym (ap (λ (x : Result). x.reply) (if_false (fits p l) _ (bad_setup l) f)) ∙ e)))
+    go false f = absurd (omega (arith, ap (λ (r : Reply). r.number) (sym (ap (λ (x : Returned). x.reply) (if_false (fits p l) _ (bad_setup l) f)) ∙ e)))
 
 pub answered_classes : (p : Params) (l : Lent) → (set_up p l).reply ≡ answered [] → classes_fit p ≡ true
 unfolding set_up refusal_number
@@ -54,7 +54,7 @@ answered_classes p l e = go (classes_fit p) refl
     go false f =
         absurd
         (omega
-        (arith, ap (λ (r : Reply). r.number) (sym (ap (λ (x : Result). x.reply) (if_true (fits p l) _ (bad_setup l) (answered_fits p l e) ∙ if_false (classes_fit p) _ (bad_classes l) f)) ∙ e)))
+        (arith, ap (λ (r : Reply). r.number) (sym (ap (λ (x : Returned). x.reply) (if_true (fits p l) _ (bad_setup l) (answered_fits p l e) ∙ if_false (classes_fit p) _ (bad_classes l) f)) ∙ e)))
 
 -- and what it leaves
 pub set_up_is : (p : Params) (l : Lent) → fits p l ≡ true → classes_fit p ≡ true

@@ -3,7 +3,7 @@ use mathlib.Core.Path.{◌≡◌, refl, sym, ap, ◌∙◌, subst}
 use mathlib.Core.Logic.{◌⊎◌, inl, inr}
 use mathlib.Core.List.{List, [], ◌∷◌}
 use Prim.Native.Nat.{ℕ, zero, suc, ◌+◌, ◌-◌, ◌*◌, ◌/◌, ◌%◌, ◌^◌, ◌≤◌, ◌<◌}
-use native.Mathlib.Nat.{div-lt_iff_lt-mul, pow-suc, pow-le-pow_right, lt_of_lt_of_le, div-add-mod', mod-lt, not-suc-le-zero, le_of_suc-le-suc, add-zero, zero-add}
+use native.Mathlib.Nat.{div-lt_iff_lt-mul, pow-suc, pow-le-pow_right, lt_of_lt_of_le, div-add-mod', not-suc-le-zero, le_of_suc-le-suc, add-zero, zero-add}
 use native.Mathlib.Numerals.{add-one}
 use native.Mathlib.Omega.{arith}
 use lib.ListN.{length, get_or, set, replicate, length-replicate, get_or-eq_default}

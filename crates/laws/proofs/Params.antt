@@ -1,8 +1,8 @@
 -- What good parameters are, as plain facts on numbers (`Bounds`), and where blocks stand.
 -- Leans on the laws of tests and on `Good`. Assumes nothing.
-use Prim.Native.Nat.{ℕ, zero, suc, ◌+◌, ◌-◌, ◌*◌, ◌/◌, ◌%◌, ◌^◌, ◌<◌, ◌≤◌}
+use Prim.Native.Nat.{ℕ, suc, ◌+◌, ◌-◌, ◌*◌, ◌/◌, ◌%◌, ◌^◌, ◌<◌, ◌≤◌}
 use mathlib.Core.Path.{◌≡◌, refl, sym, ap, ◌∙◌}
-use mathlib.Core.Bool.{Bool, true, false, not, ◌&&◌, ◌||◌}
+use mathlib.Core.Bool.{Bool, true, false, not, ◌||◌}
 use mathlib.Core.Logic.{◌⊎◌, ⊎_elim}
 use native.Mathlib.Nat.{zero-mod, mod-eq_of_lt, mod-mod_of_dvd, dvd_of_mod-eq-zero, mul-le-mul, mul-le-mul_right, mul-add-div_right, mul-mod_left, suc-mul, div-add-mod', div-eq_of_lt, div-lt_iff_lt-mul}
 use native.Mathlib.Omega.{arith}
@@ -12,8 +12,7 @@ use borrow.Author.Tests.{ltb-true, ltb-false, leb-true, eqb-true, lt-ltb, le-ltb
 use Rattle.model.specs.declared.Params.{Params}
 use Rattle.model.specs.Base.{all_below}
 use Rattle.model.specs.Params.{power_of_two, lower_ok, biased, heap_bytes, heap_end, good_params, start, block_at, in_heap, is_start, list_word}
-use Rattle.model.specs.Block.{simple}
-use Rattle.laws.proofs.Below.{true_not_false, and_left, and_right, and_three, and_both, and_first, and_second, or_cases}
+use Rattle.laws.proofs.Below.{true_not_false, and_left, and_right, and_both, and_first, and_second, or_cases}
 use Rattle.laws.proofs.Good.{Good, good, each_power}
 
 -- a power of two from 4,096 on is whole pages: all the powers, by one computed test

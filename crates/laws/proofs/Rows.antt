@@ -1,14 +1,13 @@
 -- Laws of a customer's class table (02, R-5): the least number that passes a test (`least_from`), a sum that is 1, what the checker names
 -- (`names_the_first`), and what accepted rows cover (`accepted_covers`). Assumes nothing.
-use Rattle.std.specs.Prelude.{if◌then◌else◌}
 use Prim.Native.Nat.{ℕ, zero, suc, ◌+◌, ◌-◌, ◌*◌, ◌/◌, ◌<◌, ◌≤◌}
-use mathlib.Core.Path.{◌≡◌, refl, sym, ap, ◌∙◌, subst}
-use mathlib.Core.Bool.{Bool, true, false, not, ◌&&◌, ◌||◌}
+use mathlib.Core.Path.{◌≡◌, refl, sym, ap, ◌∙◌}
+use mathlib.Core.Bool.{Bool, true, false, not, ◌&&◌}
 use mathlib.Core.Logic.{◌⊎◌, inl, inr, ⊎_elim, ◌≢◌}
-use native.Mathlib.Nat.{not-suc-le-zero, eq-or-lt_of_le, le_of_suc-le-suc, lt-suc_self, le_step}
+use native.Mathlib.Nat.{not-suc-le-zero, eq-or-lt_of_le, lt-suc_self, le_step}
 use native.Mathlib.Omega.{arith}
 use lib.Dec.{eqb, ltb, leb}
-use borrow.Author.Tests.{eqb-true, ltb-true, leb-true, eq-eqb, ne_eqb, lt-ltb, le-leb, lt-leb}
+use borrow.Author.Tests.{eqb-true, ltb-true, leb-true, lt-ltb, le-leb}
 use Rattle.model.specs.declared.Params.{Params}
 use Rattle.model.specs.declared.Row.{Row}
 use Rattle.model.specs.Base.{sum_below, least_from, flag}

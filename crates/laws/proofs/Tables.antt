@@ -1,7 +1,6 @@
 -- The words of all tables in one list, taken apart by `view`: a store in one table is that table's store in the view, and
 -- changes no other; `view` and `flat` undo one another; no store changes how long a table is.
 -- The twelve parts follow each other, so all of it is one induction over their lengths (`cuts`). Assumes nothing.
-use Rattle.std.specs.Prelude.{if◌then◌else◌}
 use Prim.Native.Nat.{ℕ, zero, suc, ◌+◌, ◌-◌, ◌*◌, ◌/◌, ◌<◌, ◌≤◌}
 use mathlib.Core.Path.{◌≡◌, refl, sym, ap, ◌∙◌}
 use mathlib.Core.Bool.{Bool, true, false}

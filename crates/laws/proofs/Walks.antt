@@ -1,7 +1,7 @@
 -- The walks of the machine, each taken apart by induction once: the search of an alloc, the release of a list's blocks, and the
 -- rows of releases and appends. What holds before a walk and is kept by each of its steps holds after it. What is kept may speak
 -- of words, states and the events so far, and so of heap, book and counts, which go by events. Assumes nothing.
-use Rattle.std.specs.Prelude.{if◌then◌else◌}
+use Rattle.std.specs.Prelude.{if◌then◌else◌, Option}
 use Prim.Native.Nat.{ℕ, zero, suc, ◌*◌, ◌/◌, ◌%◌, ◌<◌}
 use mathlib.Core.Path.{◌≡◌, refl, ap, ◌∙◌, subst}
 use mathlib.Core.Bool.{true, ◌&&◌}
@@ -12,7 +12,7 @@ use lib.Dec.{eqb}
 use lib.ListN.{get_or, set}
 use borrow.Author.Tests.{eqb-true, eqb-false, eq-eqb, ne_eqb}
 use Rattle.model.specs.declared.Params.{Params}
-use Rattle.model.specs.declared.Offer.{Offer}
+use Rattle.model.specs.declared.Block.{Block}
 use Rattle.model.specs.Base.{each_below}
 use Rattle.model.specs.Params.{block_at, list_of, local_sets, abandoned, in_gc, available, unswept, consumed, bins}
 use Rattle.model.specs.Tables.{Words, Tables, set_tls}
@@ -177,7 +177,7 @@ plain_steps p ms h bin P out onto mine sweep =
 -- the whole search: its end is an offer after nothing was found, or a block found
 module _ (p : Params) (h bin : ℕ) (t : Tables) (On : List Event → Words → Type 0) (Got : List Event → ℕ → Words → Type 0)
     (S : Steps p t.marks h bin On Got) where
-  pub find_keeps : (R : Search → Type 0) (offer : Offer)
+  pub find_keeps : (R : Search → Type 0) (offer : Option Block)
       → ((f : Found) → f.at ≡ 0 → On f.events f.words → R (acquire_fresh p h bin offer f t))
       → ((f : Found) → f.at ≢ 0 → Got f.events f.at f.words → R (in_found f t))
       → On [] t.words → R (find_block p h bin offer t)

@@ -1,19 +1,44 @@
 -- What the printing functions put, piece by piece. Assumes nothing.
 use mathlib.Core.Path.{◌≡◌, refl, sym, ap, ◌∙◌}
 use mathlib.Core.List.{List, [], ◌∷◌, ◌++◌, append_assoc, flatten}
-use Prim.Native.Nat.{ℕ, zero, suc, ◌+◌, ◌-◌, ◌/◌, ◌%◌, ◌≤◌, ◌<◌, min}
+use Prim.Native.Nat.{ℕ, zero, suc, ◌+◌, ◌-◌, ◌/◌, ◌%◌, ◌≤◌, ◌<◌}
 use native.Mathlib.Numerals.{add-one}
 use native.Mathlib.Omega.{arith}
-use lib.ListN.{length, get_or, take, drop, drop_of_length-le}
-use lib.Seq.{take-suc, take_all, drop-cons}
+use lib.ListN.{length, get_or, take, drop, length-map, drop_of_length-le}
+use lib.Seq.{take-suc, drop-cons}
 use borrow.Author.Tests.{lt-ltb, le-ltb}
 use Rattle.model.specs.Census.{newline, space, digits, decimal, spaced, section, refused_row}
-use Rattle.model.specs.Text.{Printed}
-use Rattle.laws.proofs.Text.{printed_nil, printed_append, Remains, remains_round, remains_end}
-use Rattle.listing.specs.Print.{refused_from, refused_rows}
+use Rattle.laws.proofs.Text.{printed_nil, printed_append, Remains, remains_start, remains_round, remains_end}
+use Rattle.listing.specs.declared.print.Page.{Page}
+use Rattle.listing.specs.declared.print.Refused.{Refused}
+use Rattle.listing.specs.Print.{Puts, refused_rows}
+
+-- ---- texts put one behind the other
+
+pub puts_nil : (p : Page) → Puts p p []
+puts_nil p = record { printed = printed_nil p.bytes.now p.at; same_reference = refl }
+
+pub puts_append : {p q r : Page} {xs ys : List ℕ} → Puts p q xs → Puts q r ys → Puts p r (xs ++ ys)
+puts_append a b =
+    record { printed = printed_append a.printed b.printed; same_reference = b.same_reference ∙ a.same_reference }
+
+-- of a whole text this is left to put
+pub record Left (before page : Page) (whole rest : List ℕ) : Type 0 where
+  pub remains : Remains before.bytes.now page.bytes.now before.at page.at whole rest
+  pub same_reference : page.bytes.ghost_name ≡ before.bytes.ghost_name
+
+pub left_start : (p : Page) (whole : List ℕ) → Left p p whole whole
+left_start p whole = record { remains = remains_start p.bytes.now p.at whole; same_reference = refl }
+
+pub left_round : {p q r : Page} {whole x : List ℕ} (rest : List ℕ) → Left p q whole (x ++ rest) → Puts q r x → Left p r whole rest
+left_round rest left put =
+    record { remains = remains_round rest left.remains put.printed; same_reference = put.same_reference ∙ left.same_reference }
+
+pub left_end : {p q : Page} {whole : List ℕ} → Left p q whole [] → Puts p q whole
+left_end left = record { printed = remains_end left.remains; same_reference = left.same_reference }
 
 -- the same text, written otherwise
-pub retext : {h h' : List ℕ} {at r : ℕ} {xs ys : List ℕ} → xs ≡ ys → Printed h h' at r xs → Printed h h' at r ys
+pub retext : {p r : Page} {xs ys : List ℕ} → xs ≡ ys → Puts p r xs → Puts p r ys
 retext e p = rw e at p
 
 -- ---- decimal
@@ -28,27 +53,24 @@ unfolding digits
 digits_high zero n e l = absurd (e refl)
 digits_high (suc k) n e l = let d : suc k - 1 ≡ k = omega arith in rw (d, le-ltb n 10 l)
 
-pub print_none : (h : List ℕ) (at k n : ℕ) → k ≡ 0 → Printed h h at at (digits k n)
+pub print_none : (p : Page) (k n : ℕ) → k ≡ 0 → Puts p p (digits k n)
 unfolding digits
-print_none h at k n e = rw e (printed_nil h at)
+print_none p k n e = rw e (puts_nil p)
 
-pub print_low : {h h' : List ℕ} {at r b : ℕ} (k n : ℕ) → (k ≡ 0 → ⊥) → n < 10 → b ≡ 48 + n → Printed h h' at r (b ∷ [])
-    → Printed h h' at r (digits k n)
+pub print_low : {p r : Page} {b : ℕ} (k n : ℕ) → (k ≡ 0 → ⊥) → n < 10 → b ≡ 48 + n → Puts p r (b ∷ [])
+    → Puts p r (digits k n)
 print_low k n z l e p = retext (ap (λ (x : ℕ). x ∷ []) e ∙ digits_low k n z l) p
 
-pub print_high : {h h' h'' : List ℕ} {at q r b : ℕ} (k n : ℕ) → (k ≡ 0 → ⊥) → 10 ≤ n → b ≡ 48 + n % 10
-    → Printed h h' at q (digits (k - 1) (n / 10)) → Printed h' h'' q r (b ∷ []) → Printed h h'' at r (digits k n)
+pub print_high : {p q r : Page} {b : ℕ} (k n : ℕ) → (k ≡ 0 → ⊥) → 10 ≤ n → b ≡ 48 + n % 10
+    → Puts p q (digits (k - 1) (n / 10)) → Puts q r (b ∷ []) → Puts p r (digits k n)
 print_high k n z l e p q =
-    retext (ap (λ (x : ℕ). digits (k - 1) (n / 10) ++ (x ∷ [])) e ∙ digits_high k n z l) (printed_append p q)
+    retext (ap (λ (x : ℕ). digits (k - 1) (n / 10) ++ (x ∷ [])) e ∙ digits_high k n z l) (puts_append p q)
 
 -- ---- a text, byte by byte
 
-pub print_round : {h h' h'' : List ℕ} {at q r : ℕ} (s : List ℕ) (i : ℕ) → i < length s → Printed h h' at q (take i s)
-    → Printed h' h'' q r (get_or s i 0 ∷ []) → Printed h h'' at r (take (i + 1) s)
-print_round s i l p q = retext (sym (take-suc s i 0 l) ∙ ap (λ (n : ℕ). take n s) (sym (add-one i))) (printed_append p q)
-
-pub print_all : {h h' : List ℕ} {at r : ℕ} (s : List ℕ) (i : ℕ) → length s ≤ i → Printed h h' at r (take i s) → Printed h h' at r s
-print_all s i l p = retext (take_all i s l) p
+pub print_round : {p q r : Page} (s : List ℕ) (i : ℕ) → i < length s → Puts p q (take i s)
+    → Puts q r (get_or s i 0 ∷ []) → Puts p r (take (i + 1) s)
+print_round s i l p q = retext (sym (take-suc s i 0 l) ∙ ap (λ (n : ℕ). take n s) (sym (add-one i))) (puts_append p q)
 
 -- ---- rows: each word with the space or the newline behind it
 
@@ -60,57 +82,41 @@ pub spaced_more : (w v : List ℕ) (ws : List (List ℕ)) → (w ++ (space ∷ [
 unfolding spaced
 spaced_more w v ws = append_assoc w (space ∷ []) (spaced (v ∷ ws))
 
-pub row_more : (w v : List ℕ) (ws : List (List ℕ)) {h h' h'' : List ℕ} {at q r : ℕ}
-    → Printed h h' at q (w ++ (space ∷ [])) → Printed h' h'' q r (spaced (v ∷ ws)) → Printed h h'' at r (spaced (w ∷ (v ∷ ws)))
-row_more w v ws p q = retext (spaced_more w v ws) (printed_append p q)
+pub row_more : (w v : List ℕ) (ws : List (List ℕ)) {p q r : Page}
+    → Puts p q (w ++ (space ∷ [])) → Puts q r (spaced (v ∷ ws)) → Puts p r (spaced (w ∷ (v ∷ ws)))
+row_more w v ws p q = retext (spaced_more w v ws) (puts_append p q)
 
-pub row_last : (w : List ℕ) {h h' : List ℕ} {at r : ℕ} → Printed h h' at r (w ++ (newline ∷ [])) → Printed h h' at r (spaced (w ∷ []))
+pub row_last : (w : List ℕ) {p r : Page} → Puts p r (w ++ (newline ∷ [])) → Puts p r (spaced (w ∷ []))
 row_last w p = retext (spaced_one w) p
 
 -- ---- a section: its head, then its rows one after the other
 
-pub print_section : (name : List ℕ) (rows : List (List ℕ)) (n : ℕ) {h h' h'' : List ℕ} {at q r : ℕ} → n ≡ length rows
-    → Printed h h' at q (spaced (name ∷ decimal n ∷ [])) → Printed h' h'' q r (flatten rows) → Printed h h'' at r (section name rows)
+pub print_section : (name : List ℕ) (rows : List (List ℕ)) (n : ℕ) {p q r : Page} → n ≡ length rows
+    → Puts p q (spaced (name ∷ decimal n ∷ [])) → Puts q r (flatten rows) → Puts p r (section name rows)
 unfolding section
-print_section name rows n e p q = printed_append (rw e at p) q
+print_section name rows n e p q = puts_append (rw e at p) q
 
-pub rows_round : (x : List ℕ) (xs : List (List ℕ)) {h h' h'' : List ℕ} {at at' at'' : ℕ} {whole : List ℕ}
-    → Remains h h' at at' whole (flatten (x ∷ xs)) → Printed h' h'' at' at'' x → Remains h h'' at at'' whole (flatten xs)
+pub rows_round : (x : List ℕ) (xs : List (List ℕ)) {p q r : Page} {whole : List ℕ}
+    → Left p q whole (flatten (x ∷ xs)) → Puts q r x → Left p r whole (flatten xs)
 unfolding flatten
-rows_round x xs i p = remains_round (flatten xs) i p
+rows_round x xs i put = left_round (flatten xs) i put
 
--- ---- the refused lines, kept as two lists of numbers
+-- ---- the refused lines
 
 -- how many there are
-pub refused_count : (ls ns : List ℕ) → min (length ls) (length ns) ≡ length (refused_rows ls ns)
-unfolding refused_rows refused_from
-refused_count [] ns = omega arith
-refused_count (l ∷ ls) [] = omega arith
-refused_count (l ∷ ls) (n ∷ ns) = omega (arith, refused_count ls ns)
+pub refused_count : (rs : List Refused) → length rs ≡ length (refused_rows rs)
+unfolding refused_rows
+refused_count rs = simp length-map
 
--- a loop over them: what is left from i on, printed here, makes all printed there
-abbrev pub RefusedLeft : List ℕ → List ℕ → List ℕ → List ℕ → ℕ → ℕ → ℕ → Type 0
-RefusedLeft ls ns h h' at at' i =
-    Remains h h' at at' (flatten (refused_rows ls ns)) (flatten (refused_rows (drop i ls) (drop i ns)))
+-- a loop over them: those from i on are left
+module _ (rs : List Refused) {p q : Page} (i : ℕ) (left : Left p q (flatten (refused_rows rs)) (flatten (refused_rows (drop i rs)))) where
+  pub refused_round : {r : Page} (d : Refused) → i < length rs
+      → Puts q r (spaced (decimal (get_or rs i d).line ∷ decimal (get_or rs i d).number ∷ []))
+      → Left p r (flatten (refused_rows rs)) (flatten (refused_rows (drop (i + 1) rs)))
+  unfolding refused_rows refused_row
+  refused_round d l put =
+      rw (add-one i) (rows_round _ (refused_rows (drop (suc i) rs)) (rw (drop-cons rs i d l) at left) put)
 
-none : (ns : List ℕ) → flatten (refused_rows [] ns) ≡ []
-unfolding flatten refused_rows refused_from
-none ns = refl
-
-nothing : (ls : List ℕ) → flatten (refused_rows ls []) ≡ []
-unfolding flatten refused_rows refused_from
-nothing [] = refl
-nothing (l ∷ ls) = refl
-
-module _ (ls ns : List ℕ) {h h' : List ℕ} {at at' : ℕ} (i : ℕ) (r : RefusedLeft ls ns h h' at at' i) where
-  pub refused_round : {h'' : List ℕ} {at'' : ℕ} → i < length ls → i < length ns
-      → Printed h' h'' at' at'' (spaced (decimal (get_or ls i 0) ∷ decimal (get_or ns i 0) ∷ [])) → RefusedLeft ls ns h h'' at at'' (i + 1)
-  unfolding refused_rows refused_from refused_row
-  refused_round l m p =
-      rw (add-one i) (rows_round _ (refused_rows (drop (suc i) ls) (drop (suc i) ns)) (rw (drop-cons ls i 0 l, drop-cons ns i 0 m) at r) p)
-
-  pub refused_over : length ns ≤ i → Printed h h' at at' (flatten (refused_rows ls ns))
-  refused_over m = remains_end (rw (drop_of_length-le ns m, nothing (drop i ls)) at r)
-
-  pub refused_end : length ls ≤ i → Printed h h' at at' (flatten (refused_rows ls ns))
-  refused_end l = remains_end (rw (drop_of_length-le ls l, none (drop i ns)) at r)
+  pub refused_end : length rs ≤ i → Puts p q (flatten (refused_rows rs))
+  unfolding refused_rows flatten
+  refused_end l = left_end (rw (drop_of_length-le rs l) at left)

@@ -3,6 +3,9 @@
 use mathlib.Core.Path.{◌≡◌, refl, sym, ap, ◌∙◌}
 use mathlib.Core.Bool.{Bool, true, false, not, ◌&&◌}
 use mathlib.Core.Logic.{◌≢◌, ⊎_elim}
+use Rattle.std.specs.Prelude.{if◌then◌else◌, cond, count_by}
+use Rattle.std.specs.List.{range_with_len}
+use Rattle.std.proofs.lemmas.List.Recursion.{is_count_by}
 use mathlib.Core.List.{List, [], ◌∷◌, ◌++◌, map, append_assoc, append-nil, flatten, flat_map}
 use Prim.Native.Nat.{ℕ, zero, suc, ◌+◌, ◌-◌, ◌*◌, ◌/◌, ◌≤◌, ◌<◌}
 use native.Mathlib.Nat.{not-suc-le-zero, suc-mul, mul-le-mul_right, div-le_self}
@@ -25,12 +28,13 @@ use Rattle.model.specs.Sound.{state_of, set_named}
 use Rattle.model.specs.Census.{census_params, decimal, spaced, section, up_to, occupied, letter}
 use Rattle.model.specs.Census.{block_row, awaits_sweep, printed_chain, free_rows, free_section}
 use Rattle.model.specs.Text.{Printed}
-use Rattle.laws.proofs.Text.{Remains, remains_start, remains_end, printed_append}
 use Rattle.laws.proofs.Below.{and_left, and_right}
 use Rattle.laws.proofs.Base.{below_last, if_cases}
 use Rattle.laws.proofs.Cells.{length_cells_down, cells_down_kept, cells_down_freed}
-use Rattle.listing.proofs.PrintLaws.{rows_round}
-use Rattle.listing.specs.Print.{refused_rows}
+use Rattle.listing.proofs.PrintLaws.{Left, left_start, left_end, puts_append, rows_round}
+use Rattle.listing.specs.declared.print.Page.{Page}
+use Rattle.listing.specs.declared.print.Refused.{Refused}
+use Rattle.listing.specs.Print.{Puts, refused_rows}
 use Rattle.listing.specs.Listing.{listing_text}
 use Rattle.listing.specs.Sections.{blocks_text, cell_rows, chain_swept, free_text, is_occupied, occupied_in, tables_read}
 
@@ -120,9 +124,6 @@ count_start heap t b e =
     record { all = omega arith; few = rw e (omega (arith, div-le_self 4096 (get_or t.size b.0 0))) }
 
 module _ (heap : List ℕ) (w₀ w : ChainWalk) (n : ℕ) (c : CellsCounted heap w₀ w n) where
-  pub count_room : more_cells census_params w ≡ true → n < 4096
-  count_room y = omega (arith, cells_left heap w y, c.few)
-
   pub count_round : {w' : ChainWalk} → more_cells census_params w ≡ true → w' ≡ next_cell census_params heap w → CellsCounted heap w₀ w' (n + 1)
   unfolding next_cell
   count_round y e =
@@ -138,25 +139,25 @@ module _ (heap : List ℕ) (w₀ w : ChainWalk) (n : ℕ) (c : CellsCounted heap
       omega (arith, ap length (cells_end heap w z), c.all, ap length (ap (cells_of heap) e ∙ cells_first heap t b))
 
 -- a loop that prints them: the rows of those that are left, printed here, make all printed there
-abbrev pub CellsLeft : List ℕ → List ℕ → ℕ → ChainWalk → List ℕ → List ℕ → ℕ → ℕ → Type 0
-CellsLeft words heap b w h h' at at' =
-    Remains h h' at at' (flatten (cell_rows b (free_chain census_params heap b (view words))))
+abbrev pub CellsLeft : List ℕ → List ℕ → ℕ → ChainWalk → Page → Page → Type 0
+CellsLeft words heap b w p q =
+    Left p q (flatten (cell_rows b (free_chain census_params heap b (view words))))
     (flatten (cell_rows b (cells_of heap w)))
 
-pub cells_start : (words heap : List ℕ) (b : Block) (h : List ℕ) (at : ℕ) {w : ChainWalk} → w ≡ first_cell census_params (view words) b
-    → CellsLeft words heap b.0 w h h at at
-cells_start words heap b h at e = rw (e, cells_first heap (view words) b) (remains_start h at _)
+pub cells_start : (words heap : List ℕ) (b : Block) (p : Page) {w : ChainWalk} → w ≡ first_cell census_params (view words) b
+    → CellsLeft words heap b.0 w p p
+cells_start words heap b p e = rw (e, cells_first heap (view words) b) (left_start p _)
 
-module _ (words heap : List ℕ) (b : ℕ) (w : ChainWalk) {h h' : List ℕ} {at at' : ℕ} (r : CellsLeft words heap b w h h' at at') where
-  pub cells_round : {w' : ChainWalk} {h'' : List ℕ} {at'' : ℕ} → more_cells census_params w ≡ true → w' ≡ next_cell census_params heap w
-      → Printed h' h'' at' at'' (spaced (decimal b ∷ decimal w.at.0 ∷ [])) → CellsLeft words heap b w' h h'' at at''
+module _ (words heap : List ℕ) (b : ℕ) (w : ChainWalk) {p q : Page} (left : CellsLeft words heap b w p q) where
+  pub cells_round : {w' : ChainWalk} {r : Page} → more_cells census_params w ≡ true → w' ≡ next_cell census_params heap w
+      → Puts q r (spaced (decimal b ∷ decimal w.at.0 ∷ [])) → CellsLeft words heap b w' p r
   unfolding cell_rows
-  cells_round y e p =
-      rw e (rows_round _ (cell_rows b (cells_of heap (next_cell census_params heap w))) (rw (cells_more heap w y) at r) p)
+  cells_round y e put =
+      rw e (rows_round _ (cell_rows b (cells_of heap (next_cell census_params heap w))) (rw (cells_more heap w y) at left) put)
 
-  pub cells_printed : more_cells census_params w ≡ false → Printed h h' at at' (flatten (cell_rows b (free_chain census_params heap b (view words))))
+  pub cells_printed : more_cells census_params w ≡ false → Puts p q (flatten (cell_rows b (free_chain census_params heap b (view words))))
   unfolding cell_rows flatten
-  cells_printed z = remains_end (rw (cells_end heap w z) at r)
+  cells_printed z = left_end (rw (cells_end heap w z) at left)
 
 -- ---- the cells of one block that a sweep would free
 
@@ -197,86 +198,64 @@ module _ (marks : List ℕ) (b s k : ℕ) (l : k < cell_count census_params s) w
       → swept_of marks b s (k + 1) ≡ swept_of marks b s k
   swept_no e f z = sym (cells_down_kept _ (start census_params b) s k refl (not-false _ (sym (frees_here e f) ∙ z)))
 
--- a loop that counts them, from the highest of n₀ cells down: k are left, n were freed
-pub record SweptCounted (marks : List ℕ) (b s n₀ k n : ℕ) : Type 0 where
-  pub all : n + length (swept_of marks b s k) ≡ length (swept_of marks b s n₀)
-  pub few : n + k ≤ n₀
-
-pub swept_start : (marks : List ℕ) (b s n₀ : ℕ) → SweptCounted marks b s n₀ n₀ 0
-swept_start marks b s n₀ = record { all = omega arith; few = omega arith }
-
-module _ (marks : List ℕ) (b s n₀ k n : ℕ) (c : SweptCounted marks b s n₀ k n) (e : n₀ ≡ cell_count census_params s) (l : 0 < k) where
-  under : k - 1 < cell_count census_params s
-  under = omega (arith, c.few, e, l)
-
-  again : (k - 1) + 1 ≡ k
-  again = omega (arith, l)
-
-  pub swept_room : n < 4096
-  swept_room = omega (arith, c.few, l, count_few s e)
-
-  pub swept_count_yes : {p : Params} {r : Bool} → p ≡ census_params → r ≡ frees_cell p marks b s (k - 1) → r ≡ true → SweptCounted marks b s n₀ (k - 1) (n + 1)
-  swept_count_yes ep f y =
-      record {
-        all = omega (arith, ap (λ (x : ℕ). length (swept_of marks b s x)) again, ap length (swept_yes marks b s (k - 1) under ep f y), c.all);
-        few = omega (arith, c.few, l);
-      }
-
-  pub swept_count_no : {p : Params} {r : Bool} → p ≡ census_params → r ≡ frees_cell p marks b s (k - 1) → r ≡ false → SweptCounted marks b s n₀ (k - 1) n
-  swept_count_no ep f z =
-      record {
-        all = omega (arith, ap (λ (x : ℕ). length (swept_of marks b s x)) again, ap length (swept_no marks b s (k - 1) under ep f z), c.all);
-        few = omega (arith, c.few, l);
-      }
-
-swept_none : (marks : List ℕ) (b s : ℕ) {k : ℕ} → k ≡ 0 → swept_of marks b s k ≡ []
+-- a loop that counts them, from the lowest up: those below k are counted
+pub swept_none : (marks : List ℕ) (b s : ℕ) {k : ℕ} → k ≡ 0 → swept_of marks b s k ≡ []
 unfolding cells_down
 swept_none marks b s q = rw q
 
-pub swept_count_end : {w : ChainWalk} (words marks : List ℕ) (b : Block) (k n : ℕ) → w ≡ first_cell census_params (view words) b
-    → SweptCounted marks b.0 w.size w.left k n → k ≤ 0 → n ≡ length (chain_swept words marks b.0)
-swept_count_end {w} words marks b k n e c z =
-    let low : k ≡ 0 = omega (arith, z) in
-    omega (arith, ap length (swept_none marks b.0 w.size low), c.all, ap length (swept_first words marks b e))
+pub swept_few : (marks : List ℕ) (b s k : ℕ) → length (swept_of marks b s k) ≤ k
+swept_few marks b s k = length_cells_down (keeps census_params (marked census_params marks) s) (start census_params b) s k
 
--- a loop that prints them: the rows of those that are left, printed here, make all printed there
-pub record SweptLeft (marks : List ℕ) (b s n₀ k : ℕ) (h h' : List ℕ) (at at' : ℕ) : Type 0 where
-  pub rows : Remains h h' at at' (flatten (cell_rows b (swept_of marks b s n₀))) (flatten (cell_rows b (swept_of marks b s k)))
+-- one cell more, below the cells of its size
+module _ {w : ChainWalk} {p : Params} {r : Bool} (words marks : List ℕ) (b : Block) (k : ℕ) (l : k < w.left)
+    (e : w ≡ first_cell census_params (view words) b) (ep : p ≡ census_params) (f : r ≡ frees_cell p marks b.0 w.size k) where
+  inside : k < cell_count census_params w.size
+  inside = omega (arith, l, walk_count words b e)
+
+  pub count_yes : r ≡ true → length (swept_of marks b.0 w.size (k + 1)) ≡ suc (length (swept_of marks b.0 w.size k))
+  count_yes y = ap length (swept_yes marks b.0 w.size k inside ep f y)
+
+  pub count_no : r ≡ false → length (swept_of marks b.0 w.size (k + 1)) ≡ length (swept_of marks b.0 w.size k)
+  count_no z = ap length (swept_no marks b.0 w.size k inside ep f z)
+
+pub swept_count_end : {w : ChainWalk} (words marks : List ℕ) (b : Block) (k n : ℕ) → w ≡ first_cell census_params (view words) b
+    → k ≡ w.left → n ≡ length (swept_of marks b.0 w.size k) → n ≡ length (chain_swept words marks b.0)
+swept_count_end words marks b k n e q c = c ∙ ap length (rw q (swept_first words marks b e))
+
+-- a loop that prints them: of the rows of the lowest n₀ cells, those of the lowest k are left
+pub record SweptLeft (marks : List ℕ) (b s n₀ k : ℕ) (p q : Page) : Type 0 where
+  pub rows : Left p q (flatten (cell_rows b (swept_of marks b s n₀))) (flatten (cell_rows b (swept_of marks b s k)))
   pub few : k ≤ n₀
 
-pub left_start : (marks : List ℕ) (b s n₀ : ℕ) (h : List ℕ) (at : ℕ) → SweptLeft marks b s n₀ n₀ h h at at
-left_start marks b s n₀ h at = record { rows = remains_start h at _; few = omega arith }
-
-module _ (marks : List ℕ) (b s n₀ k : ℕ) {h h' : List ℕ} {at at' : ℕ} (c : SweptLeft marks b s n₀ k h h' at at')
-    (e : n₀ ≡ cell_count census_params s) (l : 0 < k) where
+module _ (marks : List ℕ) (b s n₀ k : ℕ) {p q : Page} (c : SweptLeft marks b s n₀ k p q) (e : n₀ ≡ cell_count census_params s) (l : 0 < k) where
   below : k - 1 < cell_count census_params s
   below = omega (arith, c.few, e, l)
 
   -- with the highest of them in sight
-  split : Remains h h' at at' (flatten (cell_rows b (swept_of marks b s n₀))) (flatten (cell_rows b (swept_of marks b s ((k - 1) + 1))))
+  split : Left p q (flatten (cell_rows b (swept_of marks b s n₀))) (flatten (cell_rows b (swept_of marks b s ((k - 1) + 1))))
   split = let q : (k - 1) + 1 ≡ k = omega (arith, l) in rw q c.rows
 
-  pub left_yes : {p : Params} {r : Bool} {a : ℕ} {h'' : List ℕ} {at'' : ℕ} → p ≡ census_params → r ≡ frees_cell p marks b s (k - 1) → r ≡ true → a ≡ cell_at p b s (k - 1)
-      → Printed h' h'' at' at'' (spaced (decimal b ∷ decimal a ∷ [])) → SweptLeft marks b s n₀ (k - 1) h h'' at at''
+  pub swept_put : {ps : Params} {y : Bool} {a : ℕ} {r : Page} → ps ≡ census_params → y ≡ frees_cell ps marks b s (k - 1) → y ≡ true
+      → a ≡ cell_at ps b s (k - 1) → Puts q r (spaced (decimal b ∷ decimal a ∷ [])) → SweptLeft marks b s n₀ (k - 1) p r
   unfolding cell_rows
-  left_yes ep f y ea q =
+  swept_put ep f y ea put =
       record {
         rows = rows_round _ (cell_rows b (swept_of marks b s (k - 1))) (rw (swept_yes marks b s (k - 1) below ep f y) at split)
-            (rw (cell_here marks b s (k - 1) below ep ea) at q);
+            (rw (cell_here marks b s (k - 1) below ep ea) at put);
         few = omega (arith, c.few);
       }
 
-  pub left_no : {p : Params} {r : Bool} → p ≡ census_params → r ≡ frees_cell p marks b s (k - 1) → r ≡ false → SweptLeft marks b s n₀ (k - 1) h h' at at'
-  left_no ep f z =
+  pub swept_over : {ps : Params} {y : Bool} → ps ≡ census_params → y ≡ frees_cell ps marks b s (k - 1) → y ≡ false
+      → SweptLeft marks b s n₀ (k - 1) p q
+  swept_over ep f z =
       record { rows = rw (swept_no marks b s (k - 1) below ep f z) at split; few = omega (arith, c.few) }
 
-pub left_end : {w : ChainWalk} (words marks : List ℕ) (b : Block) (k : ℕ) {h h' : List ℕ} {at at' : ℕ} → w ≡ first_cell census_params (view words) b
-    → SweptLeft marks b.0 w.size w.left k h h' at at' → k ≤ 0
-    → Printed h h' at at' (flatten (cell_rows b.0 (chain_swept words marks b.0)))
-unfolding cell_rows flatten cells_down
-left_end {w} words marks b k e c z =
+pub swept_end : {w : ChainWalk} (words marks : List ℕ) (b : Block) (k : ℕ) {p q : Page} → w ≡ first_cell census_params (view words) b
+    → SweptLeft marks b.0 w.size w.left k p q → k ≤ 0 → Puts p q (flatten (cell_rows b.0 (chain_swept words marks b.0)))
+unfolding cell_rows flatten
+swept_end {w} words marks b k e c z =
     let low : k ≡ 0 = omega (arith, z) in
-    rw (← swept_first words marks b e) (remains_end (rw low at c.rows))
+    rw (← swept_first words marks b e) (left_end (rw (low, swept_none marks b.0 w.size {k = 0} refl) at c.rows))
 
 -- ---- which of the two is printed
 
@@ -404,23 +383,22 @@ module _ (f : ℕ → Bool) (g : ℕ → ℕ) (n k i m : ℕ) (c : Counted f g n
 abbrev pub texts : (ℕ → List ℕ) → List ℕ → List ℕ
 texts g bs = flatten (map g bs)
 
-abbrev pub TextsLeft : (ℕ → Bool) → (ℕ → List ℕ) → ℕ → List ℕ → List ℕ → ℕ → ℕ → ℕ → Type 0
-TextsLeft f g n h h' at at' i = Remains h h' at at' (texts g (filter f (up_to n))) (texts g (passing f n i))
+abbrev pub TextsLeft : (ℕ → Bool) → (ℕ → List ℕ) → ℕ → Page → Page → ℕ → Type 0
+TextsLeft f g n p q i = Left p q (texts g (filter f (up_to n))) (texts g (passing f n i))
 
-pub texts_start : (f : ℕ → Bool) (g : ℕ → List ℕ) (n : ℕ) (h : List ℕ) (at : ℕ) → TextsLeft f g n h h at at 0
-texts_start f g n h at = rw (passing_all f n) (remains_start h at _)
+pub texts_start : (f : ℕ → Bool) (g : ℕ → List ℕ) (n : ℕ) (p : Page) → TextsLeft f g n p p 0
+texts_start f g n p = rw (passing_all f n) (left_start p _)
 
-module _ (f : ℕ → Bool) (g : ℕ → List ℕ) (n : ℕ) {h h' : List ℕ} {at at' : ℕ} (i : ℕ) (r : TextsLeft f g n h h' at at' i) where
-  pub texts_yes : {h'' : List ℕ} {at'' : ℕ} → i < n → f i ≡ true → Printed h' h'' at' at'' (g i)
-      → TextsLeft f g n h h'' at at'' (i + 1)
-  texts_yes l y p = rows_round (g i) (map g (passing f n (i + 1))) (rw (passing_yes f n i l y) at r) p
+module _ (f : ℕ → Bool) (g : ℕ → List ℕ) (n : ℕ) {p q : Page} (i : ℕ) (left : TextsLeft f g n p q i) where
+  pub texts_yes : {r : Page} → i < n → f i ≡ true → Puts q r (g i) → TextsLeft f g n p r (i + 1)
+  texts_yes l y put = rows_round (g i) (map g (passing f n (i + 1))) (rw (passing_yes f n i l y) at left) put
 
-  pub texts_no : i < n → f i ≡ false → TextsLeft f g n h h' at at' (i + 1)
-  texts_no l z = rw (passing_no f n i l z) at r
+  pub texts_no : i < n → f i ≡ false → TextsLeft f g n p q (i + 1)
+  texts_no l z = rw (passing_no f n i l z) at left
 
-  pub texts_end : n ≤ i → Printed h h' at at' (texts g (filter f (up_to n)))
+  pub texts_end : n ≤ i → Puts p q (texts g (filter f (up_to n)))
   unfolding flatten
-  texts_end l = remains_end (rw (passing_end f n i l) at r)
+  texts_end l = left_end (rw (passing_end f n i l) at left)
 
 -- ---- the blocks that are not Unallocated, by their state bytes
 
@@ -459,14 +437,22 @@ module _ (words states marks heap : List ℕ) {phase : ℕ} (e : phase ≡ (view
 
 -- ---- their rows
 
-pub blocks_count : (words states : List ℕ) {n : ℕ} → n ≡ length (occupied_in states)
-    → n ≡ length (map (block_row (tables_read words states [])) (occupied_in states))
-blocks_count words states e = e ∙ sym (length-map (occupied_in states) (block_row (tables_read words states [])))
+-- how many pass, by the library's words
+count_filter : (f : ℕ → Bool) (xs : List ℕ) → count_by f xs ≡ length (filter f xs)
+unfolding filter
+count_filter f xs = sym (is_count_by (λ ys. length (filter f ys)) f refl (λ x ys. go (f x) (filter f ys) x) xs)
+  where
+    go : (b : Bool) (l : List ℕ) (x : ℕ) → length (if b then (x ∷ l) else l) ≡ cond b (1 + length l) (length l)
+    go true l x = omega arith
+    go false l x = refl
 
-pub total_ones : (bs : List ℕ) → total (λ b. 1) bs ≡ length bs
-unfolding total
-total_ones [] = refl
-total_ones (b ∷ bs) = omega (arith, total_ones bs)
+occupied_count : (states : List ℕ) → count_by (λ b. is_occupied states b) (range_with_len 0 4) ≡ length (occupied_in states)
+unfolding occupied_in up_to
+occupied_count states = count_filter (is_occupied states) (up_to 4)
+
+pub blocks_count : (words states : List ℕ) {n : ℕ} → n ≡ count_by (λ b. is_occupied states b) (range_with_len 0 4)
+    → n ≡ length (map (block_row (tables_read words states [])) (occupied_in states))
+blocks_count words states e = e ∙ occupied_count states ∙ sym (length-map (occupied_in states) (block_row (tables_read words states [])))
 
 -- a row from what was read
 module _ (words states : List ℕ) (b : ℕ) {state size set list holder : ℕ} where
@@ -504,10 +490,12 @@ module _ (words states marks heap : List ℕ) where
 
 -- ---- the whole listing
 
--- printed one behind the other
-pub three_printed : {h h' h'' h''' : List ℕ} {r b f : ℕ} (lines numbers words states marks heap : List ℕ)
-    → Printed h h' 0 r (section (114 ∷ 101 ∷ 102 ∷ 117 ∷ 115 ∷ 101 ∷ 100 ∷ []) (refused_rows lines numbers))
-    → Printed h' h'' r b (blocks_text words states) → Printed h'' h''' b f (free_text words states marks heap)
-    → Printed h h''' 0 f (listing_text lines numbers words states marks heap)
+-- put one behind the other, and the buffer then handed back
+pub three_put : {p q r z : Page} {h : List ℕ} (refused : List Refused) (words states marks heap : List ℕ) → p.at ≡ 0
+    → Puts p q (section (114 ∷ 101 ∷ 102 ∷ 117 ∷ 115 ∷ 101 ∷ 100 ∷ []) (refused_rows refused))
+    → Puts q r (blocks_text words states) → Puts r z (free_text words states marks heap)
+    → (p.bytes.ghost_name ≡ z.bytes.ghost_name → h ≡ z.bytes.now)
+    → Printed p.bytes.now h 0 z.at (listing_text refused words states marks heap)
 unfolding listing_text
-three_printed lines numbers words states marks heap p q r = printed_append p (printed_append q r)
+three_put refused words states marks heap e a b c back =
+    let all = puts_append a (puts_append b c) in rw (e, ← back (sym all.same_reference)) at all.printed

@@ -4,13 +4,15 @@ ghost use mathlib.Core.List.{flatten};
 ghost use Rattle.model.specs.Tables.{view};
 ghost use Rattle.model.specs.Block.{free_chain};
 ghost use Rattle.model.specs.Census.{census_params};
-ghost use Rattle.model.specs.Text.{Printed};
+ghost use Rattle.listing.specs.Print.{Puts};
 ghost use Rattle.listing.specs.Sections.{cell_rows, chain_swept};
 
-use crate::{print, space};
+use crate::print::Page;
+use crate::space;
 use model::Block;
 use native_ms::free_chain;
 
+// Two loops, and not one walk that takes a closure: its contract, over any closure's states, would be longer than both.
 pub(crate) fn count(words: &[usize], heap: &[u8], b: Block) -> usize
     ensures { result ≡ length (free_chain census_params heap.now b.0 (view words.now)) }
 {
@@ -19,64 +21,47 @@ pub(crate) fn count(words: &[usize], heap: &[u8], b: Block) -> usize
     let mut n: usize = 0;
     while free_chain::more(p, w) {
         w = free_chain::next(p, heap, w);
-        n = n + 1;
+        n += 1;
     }
     n
 }
 
-pub(crate) fn rows(out: &mut [u8], at: usize, words: &[usize], heap: &[u8], b: Block) -> usize
-    ensures { Printed out.old out.new at result (flatten (cell_rows b.0 (free_chain census_params heap.now b.0 (view words.now)))) }
+pub(crate) fn rows(page: &mut Page<'_>, words: &[usize], heap: &[u8], b: Block)
+    ensures { Puts page.old page.new (flatten (cell_rows b.0 (free_chain census_params heap.now b.0 (view words.now)))) }
 {
     let p = space::params();
     let mut w = free_chain::first(p, words, b);
-    let mut place = at;
     while free_chain::more(p, w) {
-        let cell = w.at;
-        place = print::pair_row(out, place, b.0, cell.0);
+        page.pair_row(b.0, w.at.0);
         w = free_chain::next(p, heap, w);
     }
-    place
 }
 
-// A sweep links the highest cell first. The mark is tested last in a turn, so that the turn's two ends never meet.
 pub(crate) fn count_swept(words: &[usize], marks: &[u8], b: Block) -> usize
     ensures { result ≡ length (chain_swept words.now marks.now b.0) }
 {
     let p = space::params();
     let w = free_chain::first(p, words, b);
-    let size = w.size;
-    let mut left = w.left;
     let mut freed: usize = 0;
-    while 0 < left {
-        left = left - 1;
-        if free_chain::frees_cell(p, marks, b, size, left) {
-            freed = freed + 1;
+    for cell in 0..w.left {
+        if free_chain::frees_cell(p, marks, b, w.size, cell) {
+            freed += 1;
         }
     }
     freed
 }
 
-pub(crate) fn rows_swept(
-    out: &mut [u8],
-    at: usize,
-    words: &[usize],
-    marks: &[u8],
-    b: Block,
-) -> usize
-    ensures { Printed out.old out.new at result (flatten (cell_rows b.0 (chain_swept words.now marks.now b.0))) }
+// A sweep links the highest cell first.
+pub(crate) fn rows_swept(page: &mut Page<'_>, words: &[usize], marks: &[u8], b: Block)
+    ensures { Puts page.old page.new (flatten (cell_rows b.0 (chain_swept words.now marks.now b.0))) }
 {
     let p = space::params();
     let w = free_chain::first(p, words, b);
-    let size = w.size;
-    let mut left = w.left;
-    let mut place = at;
-    while 0 < left {
-        left = left - 1;
-        let free = free_chain::cell_at(p, b, size, left);
-        let is_free = free_chain::frees_cell(p, marks, b, size, left);
+    for cell in (0..w.left).rev() {
+        let free = free_chain::cell_at(p, b, w.size, cell);
+        let is_free = free_chain::frees_cell(p, marks, b, w.size, cell);
         if is_free {
-            place = print::pair_row(out, place, b.0, free.0);
+            page.pair_row(b.0, free.0);
         }
     }
-    place
 }

@@ -5,24 +5,29 @@
 ghost use Rattle.model.specs.Text.{Printed};
 ghost use Rattle.listing.specs.Listing.{listing_text};
 
+use print::{Page, Refused};
+
 mod chain;
 pub mod print;
 mod sections;
 pub mod space;
 
-// The three sections of what stands after a trace's lines.
-pub fn listing(
-    out: &mut [u8],
-    lines: &[usize],
-    numbers: &[usize],
-    words: &[usize],
-    states: &[u8],
-    marks: &[u8],
-    heap: &[u8],
-) -> usize
-    ensures { Printed out.old out.new 0 result (listing_text lines.now numbers.now words.now states.now marks.now heap.now) }
+// What stands after a trace's lines: the words, the blocks' states, the marks and the heap.
+#[derive(Clone, Copy)]
+pub struct Standing<'a> {
+    pub words: &'a [usize],
+    pub states: &'a [u8],
+    pub marks: &'a [u8],
+    pub heap: &'a [u8],
+}
+
+// The three sections of what stands after a trace's lines. The answer is how many bytes were put.
+pub fn listing(out: &mut [u8], refused: &[Refused], standing: &Standing<'_>) -> usize
+    ensures { Printed out.old out.new 0 result (listing_text refused.now standing.now.words.now standing.now.states.now standing.now.marks.now standing.now.heap.now) }
 {
-    let refused = print::refused_section(out, 0, lines, numbers);
-    let blocks = sections::blocks_section(out, refused, words, states);
-    sections::free_section(out, blocks, words, states, marks, heap)
+    let mut page = Page { bytes: out, at: 0 };
+    page.refused_section(refused);
+    standing.blocks_section(&mut page);
+    standing.free_section(&mut page);
+    page.at
 }

@@ -1,6 +1,6 @@
 -- "Block": states, whole cells, the chain of free cells, init, the two sweeps and the choice between them, release.
 -- A chain is the list of its cells' addresses, the free head first.
-use Rattle.std.specs.Prelude.{if◌then◌else◌, ℕ, zero, suc, ◌+◌, ◌-◌, ◌*◌, ◌/◌, ◌%◌, ◌≡◌, Bool, true, false, not, ◌&&◌, eqb, ltb, leb, get_or, set, length}
+use Rattle.std.specs.Prelude.{if◌then◌else◌, ℕ, zero, suc, ◌+◌, ◌-◌, ◌*◌, ◌/◌, ◌%◌, ◌≡◌, Bool, false, not, ◌&&◌, eqb, ltb, leb, get_or, length}
 use mathlib.Core.List.{List, [], ◌∷◌, head_d}
 use Rattle.model.specs.declared.Params.{Params}
 use Rattle.model.specs.declared.Block.{Block}

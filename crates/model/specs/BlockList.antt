@@ -1,7 +1,7 @@
 -- "Block lists": push, pop, remove and append on the words, walks along next, and pages used.
 -- A list is by its number from 0, a block by its number, a link by its address with 0 for none.
 -- Each operation makes the Rust's stores in the Rust's order, list words too.
-use Rattle.std.specs.Prelude.{if◌then◌else◌, ℕ, zero, suc, ◌+◌, ◌*◌, ◌/◌, Bool, true, false, not, ◌&&◌, List, [], ◌∷◌, eqb, length, get_or}
+use Rattle.std.specs.Prelude.{if◌then◌else◌, ℕ, zero, suc, ◌+◌, ◌*◌, ◌/◌, Bool, true, ◌&&◌, List, [], ◌∷◌, eqb, length, get_or}
 use Rattle.model.specs.declared.Params.{Params}
 use Rattle.model.specs.Base.{all_below, sum_below}
 use Rattle.model.specs.Params.{start, block_at, is_start, last_bin, list_word}

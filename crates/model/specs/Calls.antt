@@ -3,14 +3,11 @@
 --
 -- A call on sound tables is planned by the tables and marks alone (`plan_sound`). The heap is read by the test of chains before
 -- (`plan`) and by `finish`, at the link of the one cell taken.
-use Rattle.std.specs.Prelude.{if◌then◌else◌, ℕ, ◌+◌, ◌-◌, ◌%◌, Bool, true, not, ◌&&◌, ◌||◌, List, [], ◌∷◌, ◌++◌, eqb, ltb, leb, length, get_or}
+use Rattle.std.specs.Prelude.{if◌then◌else◌, ℕ, ◌+◌, ◌-◌, ◌%◌, Bool, true, not, ◌&&◌, ◌||◌, List, [], ◌∷◌, ◌++◌, eqb, ltb, leb, length, get_or, Result, ⊤, Ok, Err, Option, None, Some}
 use Rattle.model.specs.declared.Params.{Params}
-use Rattle.model.specs.declared.Offer.{Offer}
-use Rattle.model.specs.declared.Offer.TheVariants.{Nothing, Fresh}
+use Rattle.model.specs.declared.Block.{Block}
 use Rattle.model.specs.declared.Refusal.{Refusal}
 use Rattle.model.specs.declared.Refusal.TheVariants.{BadSetup, BadTables, WrongPhase, BadHolder, BadRequest, TooBig, BadOffer, BadLink, Exhausted, BadObject, BadLine, BadClasses}
-use Rattle.model.specs.declared.Tested.{Tested}
-use Rattle.model.specs.declared.Tested.TheVariants.{Passed, Refused}
 use Rattle.model.specs.Base.{sum_below, flag}
 use Rattle.model.specs.Params.{good_params, power_of_two, Lent, fits, word_count, in_heap, start, block_at, minus_lower, bins, last_bin, local_sets, abandoned}
 use Rattle.model.specs.Memory.{load, marked}
@@ -63,7 +60,7 @@ pub data Call : Type 0 where
   -- the holder
   bind destroy release : ℕ → Call
   -- holder, size, align, offset, offer
-  alloc : ℕ → ℕ → ℕ → ℕ → Offer → Call
+  alloc : ℕ → ℕ → ℕ → ℕ → Option Block → Call
   -- place and block
   mark : ℕ → ℕ → Call
   prepare shared_release : Call
@@ -98,8 +95,8 @@ unfoldable pub too_big : Params → ℕ → ℕ → Bool
 too_big p size align = ltb p.bytes (raised p size align)
 
 -- "BadOffer: offer out of range or not Unallocated, even if not needed"
-unfoldable pub good_offer : Params → Tables → Offer → Bool
-good_offer p t = elim [ Nothing ↦ true | Fresh b ↦ ltb b.0 p.blocks && eqb (state_of t b.0) state_unallocated ]
+unfoldable pub good_offer : Params → Tables → Option Block → Bool
+good_offer p t = elim [ None ↦ true | Some b ↦ ltb b.0 p.blocks && eqb (state_of t b.0) state_unallocated ]
 
 -- "BadObject: mark place not in the heap at a multiple of 8, block out of range or Unallocated, or place − L outside that
 -- block"
@@ -120,50 +117,50 @@ may_release w = eqb w.phase phase_marking || eqb w.phase phase_releasing
 
 -- ---- the tests of each call on sound tables, in the order of the refusals' numbers: passed, or the first refusal
 
-abbrev pub refused_if : Bool → Refusal → Tested
-refused_if bad refusal = if bad then Refused refusal else Passed
+abbrev pub refused_if : Bool → Refusal → Result ⊤ Refusal
+refused_if bad refusal = if bad then Err refusal else Ok tt
 
 -- tests that follow others
-unfoldable pub and_then : Tested → Tested → Tested
-and_then Passed later = later
-and_then (Refused refusal) later = Refused refusal
+unfoldable pub and_then : Result ⊤ Refusal → Result ⊤ Refusal → Result ⊤ Refusal
+and_then (Ok tt) later = later
+and_then (Err refusal) later = Err refusal
 
 -- "WrongPhase: call not of this phase"
-unfoldable pub phase_test : Words → ℕ → Tested
+unfoldable pub phase_test : Words → ℕ → Result ⊤ Refusal
 phase_test w phase = refused_if (not (eqb w.phase phase)) WrongPhase
 
 -- "BadHolder: not 1 to 8; bound already (bind)
-unfoldable pub bind_tests : Words → ℕ → Tested
+unfoldable pub bind_tests : Words → ℕ → Result ⊤ Refusal
 bind_tests w holder = and_then (phase_test w phase_running) (refused_if (not (is_holder holder) || is_bound w holder) BadHolder)
 
 -- ; not bound (others)": destroy,
-unfoldable pub leave_tests : Words → ℕ → Tested
+unfoldable pub leave_tests : Words → ℕ → Result ⊤ Refusal
 leave_tests w holder = and_then (refused_if (not (may_leave w)) WrongPhase) (refused_if (not (is_bound w holder)) BadHolder)
 
 -- and alloc
-unfoldable pub bound_tests : Words → ℕ → Tested
+unfoldable pub bound_tests : Words → ℕ → Result ⊤ Refusal
 bound_tests w holder = and_then (phase_test w phase_running) (refused_if (not (is_bound w holder)) BadHolder)
 
 -- what is asked for: BadRequest, TooBig, BadOffer
-unfoldable pub request_tests : Params → Tables → ℕ → ℕ → ℕ → Offer → Tested
+unfoldable pub request_tests : Params → Tables → ℕ → ℕ → ℕ → Option Block → Result ⊤ Refusal
 request_tests p t size align offset offer =
     and_then (refused_if (not (good_request p size align offset)) BadRequest)
     (and_then (refused_if (too_big p size align) TooBig) (refused_if (not (good_offer p t offer)) BadOffer))
 
-unfoldable pub mark_tests : Params → Tables → ℕ → ℕ → Tested
+unfoldable pub mark_tests : Params → Tables → ℕ → ℕ → Result ⊤ Refusal
 mark_tests p t place b = and_then (phase_test t.words phase_marking) (refused_if (not (good_object p t place b)) BadObject)
 
 -- "WrongPhase: call not of this phase, or released already"
-unfoldable pub release_tests : Words → ℕ → Tested
+unfoldable pub release_tests : Words → ℕ → Result ⊤ Refusal
 release_tests w holder =
     and_then (refused_if (not (may_release w) || (is_holder holder && has_released w holder)) WrongPhase)
     (refused_if (not (is_bound w holder)) BadHolder)
 
 -- the shared part has no holder
-unfoldable pub shared_tests : Words → Tested
+unfoldable pub shared_tests : Words → Result ⊤ Refusal
 shared_tests w = refused_if (not (may_release w) || has_released w 0) WrongPhase
 
-unfoldable pub call_tests : Params → Tables → Call → Tested
+unfoldable pub call_tests : Params → Tables → Call → Result ⊤ Refusal
 call_tests p t (bind holder) = bind_tests t.words holder
 call_tests p t (destroy holder) = leave_tests t.words holder
 call_tests p t (alloc holder size align offset offer) =
@@ -204,9 +201,9 @@ plan_passed p t shared_release = release_plan p 0 t (sweep_later p t.words t.sta
 -- ---- plans
 
 -- a call that a test refuses changes nothing
-unfoldable pub if_passed : Tested → Tables → Plan → Plan
-if_passed Passed t q = q
-if_passed (Refused refusal) t q = refuses t refusal
+unfoldable pub if_passed : Result ⊤ Refusal → Tables → Plan → Plan
+if_passed (Ok tt) t q = q
+if_passed (Err refusal) t q = refuses t refusal
 
 -- on tables that are sound
 unfoldable pub plan_sound : Params → Tables → Call → Plan
@@ -255,7 +252,7 @@ step p t h c = carried p h (plan p t h c)
 
 -- ---- the calls on what is lent: "BadSetup: a parameter or buffer length is off", and then nothing is touched
 
-pub record Result : Type 0 where
+pub record Returned : Type 0 where
   pub reply : Reply
   pub lent : Lent
 
@@ -265,25 +262,25 @@ tables_in l = tables_of (view l.words) l.states l.marks
 abbrev pub lent_of : Tables → List ℕ → Lent
 lent_of t h = record { words = flat t.words; states = t.states; marks = t.marks; heap = h }
 
-abbrev pub result_from : Step → Result
+abbrev pub result_from : Step → Returned
 result_from done = record { reply = done.reply; lent = lent_of done.tables done.heap }
 
-abbrev pub bad_setup : Lent → Result
+abbrev pub bad_setup : Lent → Returned
 bad_setup l = record { reply = refused BadSetup; lent = l }
 
 -- 02, R-5: "Turned away: 12 BadClasses, from set-up and any other call given rows the checker rejects, right after 1."
-abbrev pub bad_classes : Lent → Result
+abbrev pub bad_classes : Lent → Returned
 bad_classes l = record { reply = refused BadClasses; lent = l }
 
 -- what every call tests first: parameters and lengths, and then the rows
-abbrev pub admitted : Params → Lent → Result → Result
+abbrev pub admitted : Params → Lent → Returned → Returned
 admitted p l r = if fits p l then (if classes_fit p then r else bad_classes l) else bad_setup l
 
 -- every call but set-up
-unfoldable pub call : Params → Lent → Call → Result
+unfoldable pub call : Params → Lent → Call → Returned
 call p l c = admitted p l (result_from (step p (tables_in l) l.heap c))
 
-unfoldable pub set_up : Params → Lent → Result
+unfoldable pub set_up : Params → Lent → Returned
 set_up p l = admitted p l (record { reply = answered []; lent = lent_of (fresh_tables p) l.heap })
 
 -- pages used of 49 records, by their firsts: BadSetup or BadTables are its only refusals, and nothing is written

@@ -1,8 +1,7 @@
 -- "Marked for proof" and "Limits": one computed table and one theorem. And 01's example trace, computed on the machine.
-use Rattle.std.specs.Prelude.{ℕ, suc, ◌+◌, ◌-◌, ◌*◌, Bool, true, false, ◌&&◌, ◌||◌, List, [], ◌∷◌, ◌++◌, eqb, ltb, leb, pos, length, replicate}
+use Rattle.std.specs.Prelude.{ℕ, suc, ◌+◌, ◌-◌, ◌*◌, Bool, true, false, ◌&&◌, ◌||◌, List, [], ◌∷◌, ◌++◌, eqb, ltb, leb, pos, length, replicate, Some}
 use Rattle.model.specs.declared.Params.{Params}
 use Rattle.model.specs.declared.Row.{Row}
-use Rattle.model.specs.declared.Offer.TheVariants.{Fresh}
 use Rattle.model.specs.Base.{all_below}
 use Rattle.model.specs.Params.{bins, last_bin, sets, lists, holders, parts, phase_word, bound_words, released_words, head_words, Lent, start, max_rows}
 use Rattle.model.specs.Memory.{set_mark}
@@ -12,8 +11,8 @@ use Rattle.model.specs.BlockList.{push, appended}
 use Rattle.model.specs.Block.{state_unallocated, state_unmarked, init_chain, sweep_chain}
 use Rattle.model.specs.Events.{releases}
 use Rattle.model.specs.Global.{fresh_words, release_from}
-use Rattle.model.specs.Calls.{Result, bind, alloc, prepare, call, set_up, check_classes}
-use Rattle.model.specs.Census.{before, census_params, census_lent}
+use Rattle.model.specs.Calls.{Returned, bind, alloc, prepare, call, set_up, check_classes}
+use Rattle.model.specs.Census.{census_params, census_lent}
 
 -- what the definitions give, and what 01 says
 pub record Case : Type 0 where
@@ -44,7 +43,7 @@ max_sixteen =
 unfoldable pub first_alloc : ℕ → ℕ → ℕ
 first_alloc size align =
     let l : Lent = (set_up max_sixteen census_lent).lent in
-    (call max_sixteen (call max_sixteen l (bind 1)).lent (alloc 1 size align 0 (Fresh (record { 0 = 2 })))).reply.number
+    (call max_sixteen (call max_sixteen l (bind 1)).lent (alloc 1 size align 0 (Some (record { 0 = 2 })))).reply.number
 
 -- ---- 02, R-5: tables of four rows, as the two offices want them, in blocks of 4,096 bytes: 512 words
 
@@ -64,7 +63,7 @@ offices = with_rows (row 1 8 8 ∷ row 9 9 9 ∷ row 10 64 64 ∷ row 65 512 512
 unfoldable pub office_alloc : ℕ → List ℕ
 office_alloc size =
     let l : Lent = (set_up offices census_lent).lent in
-    let r : Result = call offices (call offices l (bind 1)).lent (alloc 1 size 8 0 (Fresh (record { 0 = 2 }))) in
+    let r : Returned = call offices (call offices l (bind 1)).lent (alloc 1 size 8 0 (Some (record { 0 = 2 }))) in
     r.reply.number ∷ r.reply.values
 
 -- what the checker answers: kind and number

@@ -1,20 +1,18 @@
 -- "The census program": from the bytes of a trace to the bytes of the listing, as R-4 of document 02 amends it.
-use Rattle.std.specs.Prelude.{if◌then◌else◌, ℕ, zero, suc, ◌+◌, ◌-◌, ◌*◌, ◌/◌, ◌%◌, ◌^◌, ◌≡◌, Bool, true, false, not, ◌&&◌, ◌||◌, eqb, ltb, leb, pos, length, get_or, take, replicate}
+use Rattle.std.specs.Prelude.{if◌then◌else◌, ℕ, zero, suc, ◌+◌, ◌-◌, ◌*◌, ◌/◌, ◌%◌, ◌^◌, ◌≡◌, Bool, true, false, not, ◌&&◌, ◌||◌, eqb, ltb, leb, pos, length, get_or, take, replicate, Option, Some, None}
 use mathlib.Core.List.{List, [], ◌∷◌, ◌++◌, map, foldl, flatten, flat_map}
-use Rattle.std.proofs.Math.Option.{Option, some, none}
 use Rattle.model.specs.declared.Params.{Params}
-use Rattle.model.specs.declared.Offer.{Offer}
-use Rattle.model.specs.declared.Offer.TheVariants.{Nothing, Fresh}
+use Rattle.model.specs.declared.Block.{Block}
 use Rattle.model.specs.declared.Refusal.TheVariants.{BadLine}
 use Rattle.model.specs.Base.{filter, all_below, member, In}
-use Rattle.model.specs.Params.{Lent, word_count, heap_bytes, abandoned, in_gc}
+use Rattle.model.specs.Params.{Lent, word_count, abandoned, in_gc}
 use Rattle.model.specs.Tables.{Words, Tables}
 use Rattle.model.specs.SizeClasses.{no_rows}
 use Rattle.model.specs.Block.{state_unallocated, sweep_chain, free_chain}
 use Rattle.model.specs.Events.{swept}
 use Rattle.model.specs.Global.{phase_marking}
 use Rattle.model.specs.Sound.{state_of, set_named}
-use Rattle.model.specs.Calls.{Reply, refused, Call, bind, destroy, alloc, prepare, mark, release, shared_release, Result, tables_in, step, call, set_up}
+use Rattle.model.specs.Calls.{refused, Call, bind, destroy, alloc, prepare, mark, release, shared_release, Returned, tables_in, step, call, set_up}
 
 -- ---- the trace's lines
 
@@ -86,21 +84,21 @@ is_alloc words =
     is_word 97 (get_or words 0 []) && eqb (length words) 6 && numbers_to 5 words
     && (is_word 45 (get_or words 5 []) || is_number (get_or words 5 []))
 
-unfoldable pub offer_of : List ℕ → Offer
-offer_of word = if is_word 45 word then Nothing else Fresh (record { 0 = value_of word })
+unfoldable pub offer_of : List ℕ → Option Block
+offer_of word = if is_word 45 word then None else Some (record { 0 = value_of word })
 
 -- "Lines, decimal, one space: `b h`, `d h`, `a h size align offset block` (`-` for none), `p`, `m place block`, `r h`, `s`
--- (shared)." None of them: none
+-- (shared)." none of them: none
 unfoldable pub line_of : List (List ℕ) → Option Call
 line_of words =
-    if is_line 98 2 words then some (bind (arg words 1))
-    else if is_line 100 2 words then some (destroy (arg words 1))
-    else if is_alloc words then some (alloc (arg words 1) (arg words 2) (arg words 3) (arg words 4) (offer_of (get_or words 5 [])))
-    else if is_line 112 1 words then some prepare
-    else if is_line 109 3 words then some (mark (arg words 1) (arg words 2))
-    else if is_line 114 2 words then some (release (arg words 1))
-    else if is_line 115 1 words then some shared_release
-    else none
+    if is_line 98 2 words then Some (bind (arg words 1))
+    else if is_line 100 2 words then Some (destroy (arg words 1))
+    else if is_alloc words then Some (alloc (arg words 1) (arg words 2) (arg words 3) (arg words 4) (offer_of (get_or words 5 [])))
+    else if is_line 112 1 words then Some prepare
+    else if is_line 109 3 words then Some (mark (arg words 1) (arg words 2))
+    else if is_line 114 2 words then Some (release (arg words 1))
+    else if is_line 115 1 words then Some shared_release
+    else None
 
 -- ---- running it: "Set-up: 4 blocks of 4,096, base 16384, MIN = MAX = 8, unified, no offsets, L 0."
 
@@ -113,8 +111,8 @@ unfoldable pub census_lent : Lent
 census_lent =
     record { words = replicate (word_count census_params) 0; states = replicate 4 0; marks = replicate 256 0; heap = replicate 16384 0 }
 
-unfoldable pub line_result : Lent → Option Call → Result
-line_result l = elim [ some c ↦ call census_params l c | none ↦ record { reply = refused BadLine; lent = l } ]
+unfoldable pub line_result : Lent → Option Call → Returned
+line_result l = elim [ Some c ↦ call census_params l c | None ↦ record { reply = refused BadLine; lent = l } ]
 
 -- a refused line: its number, and the refusal's
 pub record RefusedLine : Type 0 where
@@ -129,7 +127,7 @@ pub record Ran : Type 0 where
 unfoldable pub run_lines : ℕ → List (List ℕ) → Lent → Ran
 run_lines i [] l = record { refusals = []; lent = l }
 run_lines i (x ∷ xs) l =
-    let r : Result = line_result l (line_of (pieces space x)) in
+    let r : Returned = line_result l (line_of (pieces space x)) in
     let rest : Ran = run_lines (i + 1) xs r.lent in
     let refusal : RefusedLine = record { line = i; number = r.reply.number } in
     record { refusals = if eqb refusal.number 0 then rest.refusals else (refusal ∷ rest.refusals); lent = rest.lent }
@@ -217,7 +215,7 @@ census bytes = listing (run_lines 1 (lines_of bytes) (set_up census_params censu
 -- tables and heap. Proved in crates/soundness (`printed_is_built`)
 abbrev pub PrintedIsBuilt : Type 0
 PrintedIsBuilt =
-    (t : Tables) (heap : List ℕ) (holder size align offset : ℕ) (offer : Offer) (b : ℕ) (chain : List ℕ)
+    (t : Tables) (heap : List ℕ) (holder size align offset : ℕ) (offer : Option Block) (b : ℕ) (chain : List ℕ)
     → awaits_sweep t.words b ≡ true
     → In (swept b chain) (step census_params t heap (alloc holder size align offset offer)).events
     → chain ≡ printed_chain t heap b

@@ -3,7 +3,7 @@
 --
 -- The checker is asked of the rows that are given and of the block's size; with no rows it passes. It looks at counts first and at rows
 -- only if every count is right.
-use Rattle.std.specs.Prelude.{if◌then◌else◌, ℕ, suc, ◌*◌, ◌/◌, ◌<◌, ◌≤◌, ◌≡◌, ◌≢◌, Bool, true, false, not, ◌&&◌, ◌||◌, eqb, ltb, leb}
+use Rattle.std.specs.Prelude.{ℕ, suc, ◌*◌, ◌/◌, ◌<◌, ◌≤◌, ◌≡◌, ◌≢◌, Bool, true, false, not, ◌&&◌, ◌||◌, eqb, ltb, leb}
 use Rattle.model.specs.declared.Params.{Params}
 use Rattle.model.specs.declared.Row.{Row}
 use Rattle.model.specs.Base.{sum_below, least_from, flag}

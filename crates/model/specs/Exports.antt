@@ -4,19 +4,18 @@
 -- A host lends table words as bytes. The machine works on what they decode to, and its words go back encoded. Each undoes the
 -- other (`Inverse`), so a run through the exports is a run of the machine (`RunThroughExports`), and demand 3 holds of it
 -- (`Demand3ThroughExports`). crates/exports proves all three.
-use Rattle.std.specs.Prelude.{if◌then◌else◌, ℕ, zero, suc, ◌+◌, ◌*◌, ◌/◌, ◌%◌, ◌^◌, ◌<◌, ◌≡◌, Bool, ◌&&◌, ◌||◌, List, [], ◌∷◌, ◌++◌, map, eqb, leb, ℤ, length, get_or}
+use Rattle.std.specs.Prelude.{if◌then◌else◌, ℕ, zero, suc, ◌+◌, ◌*◌, ◌/◌, ◌%◌, ◌^◌, ◌<◌, ◌≡◌, Bool, ◌&&◌, ◌||◌, List, [], ◌∷◌, ◌++◌, map, eqb, leb, ℤ, length, get_or, Option, None, Some}
 use Rattle.model.specs.declared.Params.{Params}
 use Rattle.model.specs.declared.Row.{Row}
 use Rattle.model.specs.declared.Given.{Given}
 use Rattle.model.specs.declared.Said.{Said}
-use Rattle.model.specs.declared.Offer.{Offer}
-use Rattle.model.specs.declared.Offer.TheVariants.{Nothing, Fresh}
+use Rattle.model.specs.declared.Block.{Block}
 use Rattle.model.specs.declared.Refusal.TheVariants.{BadSetup, Exhausted}
-use Rattle.model.specs.Base.{In}
+use Rattle.model.specs.Base.{In, flag}
 use Rattle.model.specs.Params.{Lent, max_rows}
 use Rattle.model.specs.Memory.{load_bytes, bytes_of}
 use Rattle.model.specs.SizeClasses.{tabulated}
-use Rattle.model.specs.Calls.{refusal_number, Reply, answered, Call, Result, call, set_up, check_classes}
+use Rattle.model.specs.Calls.{refusal_number, Reply, answered, Call, Returned, call, set_up, check_classes}
 use Rattle.model.specs.Answers.{said_of}
 use Rattle.model.specs.Runs.{written, Turn, State, result_of, turned, begun, HoldersWrite, RunKeeps}
 
@@ -78,7 +77,7 @@ abbrev pub answer_after : Reply → List ℕ → List ℕ
 answer_after reply answer = if tells reply.number then answer_bytes (said_of reply) else answer
 
 -- a result of the machine, as bytes: "It returns 0 or the refusal's number"
-unfoldable pub shown : List ℕ → Result → Export
+unfoldable pub shown : List ℕ → Returned → Export
 shown answer r =
     gives r.reply.number
     (lend_bytes (encoded r.lent.words) r.lent.states r.lent.marks r.lent.heap (answer_after r.reply answer))
@@ -87,7 +86,7 @@ shown answer r =
 
 -- the inner call that it makes: `set_up`, or any other by `asks`
 abbrev pub Inner : Type 0
-Inner = Params → Lent → Result
+Inner = Params → Lent → Returned
 
 abbrev pub asks : Call → Inner
 asks c p l = call p l c
@@ -105,6 +104,10 @@ exported p l inner = if lengths_ok l then shown l.answer (inner p (decoded_lent 
 abbrev pub given : ℕ → ℕ → ℕ → ℕ → ℕ → ℕ → ℕ → ℤ → ℕ → Given
 given base bytes blocks min max offsets unified lower eager =
     record { base = base; bytes = bytes; blocks = blocks; min = min; max = max; offsets = offsets; unified = unified; lower = lower; eager = eager }
+
+-- those of parameters, a yes as 1
+abbrev pub given_of : Params → Given
+given_of p = given p.base p.bytes p.blocks p.min p.max (flag p.offsets) (flag p.unified) p.lower (flag p.eager)
 
 -- 02, R-5: "Set-up takes up to 48 rows: from words, to words, cell words": three such words each, in a slice of their own
 abbrev pub row_bytes : ℕ
@@ -152,8 +155,8 @@ check_called g rows answer =
     else check_gives (refusal_number BadSetup) answer
 
 -- "2^64 − 1 offers none."
-unfoldable pub offered_by : ℕ → Offer
-offered_by n = if eqb n 18446744073709551615 then Nothing else Fresh (record { 0 = n })
+unfoldable pub offered_by : ℕ → Option Block
+offered_by n = if eqb n 18446744073709551615 then None else Some (record { 0 = n })
 
 -- ---- a run through the exports
 

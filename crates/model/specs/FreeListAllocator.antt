@@ -1,9 +1,8 @@
 -- "Allocator": the search for a block with a free cell, by tables and marks alone. The heap is not looked at here: it is
 -- read where chains are tested and where the cell is taken (Calls.antt).
-use Rattle.std.specs.Prelude.{if◌then◌else◌, ℕ, zero, suc, Bool, true, false, List, [], ◌∷◌, ◌++◌, eqb, get_or, set}
+use Rattle.std.specs.Prelude.{if◌then◌else◌, ℕ, zero, suc, Bool, true, false, List, [], ◌∷◌, ◌++◌, eqb, get_or, set, Option, None, Some}
 use Rattle.model.specs.declared.Params.{Params}
-use Rattle.model.specs.declared.Offer.{Offer}
-use Rattle.model.specs.declared.Offer.TheVariants.{Nothing, Fresh}
+use Rattle.model.specs.declared.Block.{Block}
 use Rattle.model.specs.Params.{start, block_at, local_sets, abandoned, available, unswept, consumed}
 use Rattle.model.specs.Tables.{Words, Tables, tables_of, with_words, set_tls}
 use Rattle.model.specs.SizeClasses.{cell_bytes}
@@ -87,9 +86,9 @@ abbrev pub in_found : Found → Tables → Search
 in_found f t = record { at = f.at; fresh = false; tables = with_words f.words t; events = f.events }
 
 -- "the offer": pushed on the available list, then initialised
-unfoldable pub acquire_fresh : Params → ℕ → ℕ → Offer → Found → Tables → Search
-acquire_fresh p holder bin Nothing f t = in_found f t
-acquire_fresh p holder bin (Fresh b) f t =
+unfoldable pub acquire_fresh : Params → ℕ → ℕ → Option Block → Found → Tables → Search
+acquire_fresh p holder bin None f t = in_found f t
+acquire_fresh p holder bin (Some b) f t =
     let size : ℕ = cell_bytes p bin in
     let w : Words = init_block p b.0 size holder (push p (available (local_sets holder) bin) b.0 f.words) in
     let t' : Tables = tables_of w (set t.states b.0 state_unmarked) t.marks in
@@ -97,7 +96,7 @@ acquire_fresh p holder bin (Fresh b) f t =
     record { at = start p b.0; fresh = true; tables = t'; events = events }
 
 -- the whole search of a holder for a block of this bin
-unfoldable pub find_block : Params → ℕ → ℕ → Offer → Tables → Search
+unfoldable pub find_block : Params → ℕ → ℕ → Option Block → Tables → Search
 find_block p holder bin offer t =
     let owner : ℕ = local_sets holder in
     let skimmed : Found = find_free_block_with p.blocks p (available owner bin) (consumed owner bin) t.words in

@@ -14,7 +14,7 @@
 --
 -- With the choice of eager sweeping (02, R-8) nothing becomes unswept: what a release leaves stays available or consumed, and the last
 -- one sweeps every occupied block and moves consumed blocks that have a free cell to available before the merge.
-use Rattle.std.specs.Prelude.{if◌then◌else◌, ℕ, zero, suc, ◌+◌, ◌-◌, ◌*◌, ◌/◌, Bool, true, false, not, ◌&&◌, ◌||◌, List, [], ◌∷◌, ◌++◌, map, eqb, leb, get_or, set, replicate}
+use Rattle.std.specs.Prelude.{if◌then◌else◌, ℕ, zero, suc, ◌+◌, ◌-◌, ◌/◌, Bool, not, ◌&&◌, ◌||◌, List, [], ◌∷◌, ◌++◌, map, eqb, leb, get_or, set, replicate}
 use Rattle.model.specs.declared.Params.{Params}
 use Rattle.model.specs.Base.{all_below, sum_below, each_below}
 use Rattle.model.specs.Params.{word_count, block_at, heap_bytes, bins, holders, parts, local_sets, abandoned, in_gc, available, unswept, consumed}

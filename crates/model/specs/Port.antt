@@ -3,7 +3,7 @@
 use Rattle.std.specs.Prelude.{◌≡◌, List, [], ◌∷◌, map, ℕ}
 use Rattle.model.specs.declared.Params.{Params}
 use Rattle.model.specs.Params.{Lent}
-use Rattle.model.specs.Calls.{answered, Result, set_up, pages}
+use Rattle.model.specs.Calls.{answered, Returned, set_up, pages}
 use Rattle.model.specs.Promise.{Promised, SetUpPromised}
 use Rattle.model.specs.Runs.{Turn, State, found_by, step_of, result_of, book_of, turned, empty_book, begun, HoldersWrite, Seen, seen, CallKeeps}
 
@@ -12,7 +12,7 @@ use Rattle.model.specs.Runs.{Turn, State, found_by, step_of, result_of, book_of,
 -- a call of the port, after what holders wrote: the reply that it gave and the buffers that it left
 pub record Made : Type 0 where
   pub turn : Turn
-  pub gave : Result
+  pub gave : Returned
 
 -- "every call gets the tables that the one before left and the parameters, buffers and choices that set-up was given": each call
 -- kept its promise on the buffers that the one before left, with the bytes that holders wrote
@@ -24,7 +24,7 @@ EachPromised p l (made ∷ rest) =
 pub record PortRun (p : Params) : Type 0 where
   -- what was lent to set-up, and what it gave
   pub given : Lent
-  pub first : Result
+  pub first : Returned
   pub made : List Made
   pub set_up_kept : SetUpPromised p given first.reply first.lent
   pub calls_kept : EachPromised p first.lent made

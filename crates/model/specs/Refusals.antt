@@ -17,7 +17,7 @@ use Rattle.model.specs.Block.{state_unallocated, sweep_chain}
 use Rattle.model.specs.Events.{sweeps}
 use Rattle.model.specs.Global.{phase_running}
 use Rattle.model.specs.Sound.{set_named, ChainSound, chain_ok, sound_on}
-use Rattle.model.specs.Calls.{refusal_number, answered, step, Call, bind, destroy, alloc, prepare, mark, release, shared_release, Result, tables_in, call, set_up, bad_setup, bad_classes}
+use Rattle.model.specs.Calls.{refusal_number, answered, step, Call, bind, destroy, alloc, prepare, mark, release, shared_release, Returned, tables_in, call, set_up, bad_setup, bad_classes}
 use Rattle.model.specs.Runs.{Turn, begun, HoldersWrite, Seen, seen_in}
 
 -- the block b names the list
@@ -94,7 +94,7 @@ OfAlloc p P (mark place b) = ⊥
 OfAlloc p P prepare = ⊥
 OfAlloc p P shared_release = ⊥
 
-pub record Refused (p : Params) (l : Lent) (c : Call) (r : Result) : Type 0 where
+pub record Refused (p : Params) (l : Lent) (c : Call) (r : Returned) : Type 0 where
   -- "A refusal returns its number only."
   pub values : r.reply.number ≢ refusal_number Exhausted → r.reply.values ≡ []
   -- 02, R-12: "Exhausted must report its swept count too (an export writes it in its place, zeros elsewhere)": the number of block sweeps

@@ -3,15 +3,14 @@
 -- it are a run of the machine (`RunOfRows`, proved in crates/runs), of which demand 3 speaks.
 --
 -- Its reason is time alone: parameters, rows, lengths, tables and chains are tested once for all its calls.
-use Rattle.std.specs.Prelude.{if◌then◌else◌, ℕ, zero, suc, ◌+◌, ◌*◌, ◌/◌, ◌%◌, ◌≡◌, Bool, true, ◌&&◌, List, [], ◌∷◌, ◌++◌, map, eqb, leb, length, get_or}
-use Rattle.std.proofs.Math.Option.{Option, some, none}
+use Rattle.std.specs.Prelude.{if◌then◌else◌, ℕ, zero, suc, ◌+◌, ◌*◌, ◌/◌, ◌%◌, ◌≡◌, Bool, true, ◌&&◌, List, [], ◌∷◌, ◌++◌, eqb, leb, length, get_or, Option, Some, None}
 use Rattle.model.specs.declared.Params.{Params}
 use Rattle.model.specs.declared.Given.{Given}
 use Rattle.model.specs.declared.Said.{Said}
 use Rattle.model.specs.declared.Refusal.TheVariants.{BadSetup, BadLine}
 use Rattle.model.specs.Base.{In}
 use Rattle.model.specs.Params.{Lent}
-use Rattle.model.specs.Calls.{refusal_number, Reply, answered, refused, Call, bind, destroy, alloc, prepare, mark, release, shared_release, Result, call}
+use Rattle.model.specs.Calls.{refusal_number, Reply, answered, refused, Call, bind, destroy, alloc, prepare, mark, release, shared_release, Returned, call}
 use Rattle.model.specs.Answers.{said_of}
 use Rattle.model.specs.Runs.{Write, written, Turn, State, Seen, seen_in}
 use Rattle.model.specs.Spans.{after_turns}
@@ -27,18 +26,18 @@ call_words = 6
 unfoldable pub call_at : List ℕ → ℕ → Option Call
 call_at calls i =
     let word : ℕ → ℕ = λ k. get_or calls (i + k) 0 in
-    if eqb (word 0) 1 then some (bind (word 1))
-    else if eqb (word 0) 2 then some (destroy (word 1))
-    else if eqb (word 0) 3 then some (alloc (word 1) (word 2) (word 3) (word 4) (offered_by (word 5)))
-    else if eqb (word 0) 4 then some prepare
-    else if eqb (word 0) 5 then some (mark (word 1) (word 2))
-    else if eqb (word 0) 6 then some (release (word 1))
-    else if eqb (word 0) 7 then some shared_release
-    else none
+    if eqb (word 0) 1 then Some (bind (word 1))
+    else if eqb (word 0) 2 then Some (destroy (word 1))
+    else if eqb (word 0) 3 then Some (alloc (word 1) (word 2) (word 3) (word 4) (offered_by (word 5)))
+    else if eqb (word 0) 4 then Some prepare
+    else if eqb (word 0) 5 then Some (mark (word 1) (word 2))
+    else if eqb (word 0) 6 then Some (release (word 1))
+    else if eqb (word 0) 7 then Some shared_release
+    else None
 
 -- "Another kind answers 11 BadLine and changes nothing."
-unfoldable pub made : Params → Lent → Option Call → Result
-made p l = elim [ some c ↦ call p l c | none ↦ record { reply = refused BadLine; lent = l } ]
+unfoldable pub made : Params → Lent → Option Call → Returned
+made p l = elim [ Some c ↦ call p l c | None ↦ record { reply = refused BadLine; lent = l } ]
 
 -- ---- "An answer is five words: the refusal's number or 0, then the values, zeros after."
 
@@ -62,7 +61,7 @@ pub record RowRan : Type 0 where
 unfoldable pub run_from : ℕ → Params → Lent → List ℕ → ℕ → RowRan
 run_from zero p l calls i = record { answers = []; lent = l }
 run_from (suc n) p l calls i =
-    let r : Result = made p l (call_at calls i) in
+    let r : Returned = made p l (call_at calls i) in
     let rest : RowRan = run_from n p r.lent calls (i + call_words) in
     record { answers = words_of r.reply ++ rest.answers; lent = rest.lent }
 
@@ -127,8 +126,8 @@ pub record Turns : Type 0 where
 -- what was written before the first call is its turn's; between the calls of a row nobody writes. What names no call is no turn
 unfoldable pub turns_from : List Write → List (Option Call) → Turns
 turns_from writes [] = record { turns = []; left = writes }
-turns_from writes (none ∷ cs) = turns_from writes cs
-turns_from writes (some c ∷ cs) =
+turns_from writes (None ∷ cs) = turns_from writes cs
+turns_from writes (Some c ∷ cs) =
     let rest : Turns = turns_from [] cs in record { turns = record { writes = writes; call = c } ∷ rest.turns; left = rest.left }
 
 -- the turns of rows, after what was written before them
@@ -142,9 +141,9 @@ turns_of_rows writes (row ∷ rows) =
 -- the machine's replies, as answers' words, 11 where no call is named
 unfoldable pub answers_in : List (Option Call) → List Seen → List ℕ
 answers_in [] xs = []
-answers_in (none ∷ cs) xs = words_of (refused BadLine) ++ answers_in cs xs
-answers_in (some c ∷ cs) [] = []
-answers_in (some c ∷ cs) (x ∷ xs) = words_of x.reply ++ answers_in cs xs
+answers_in (None ∷ cs) xs = words_of (refused BadLine) ++ answers_in cs xs
+answers_in (Some c ∷ cs) [] = []
+answers_in (Some c ∷ cs) (x ∷ xs) = words_of x.reply ++ answers_in cs xs
 
 unfoldable pub calls_of_rows : List RunRow → List (Option Call)
 calls_of_rows [] = []

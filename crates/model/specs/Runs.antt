@@ -4,17 +4,17 @@
 -- First the book, by which 01 ("Runs and held cells") says what is held; then runs, with what holders write between calls; then
 -- the demand's premises, what a reader of two runs sees, and what holds in each. Words in quotes after "01:" are 01's; the others
 -- are the demand's own.
-use Rattle.std.specs.Prelude.{if◌then◌else◌, ℕ, ◌+◌, ◌-◌, ◌≤◌, ◌<◌, ◌≡◌, Bool, true, false, not, ◌&&◌, eqb, get_or, set}
+use Rattle.std.specs.Prelude.{if◌then◌else◌, ℕ, ◌+◌, ◌-◌, ◌≤◌, ◌<◌, ◌≡◌, Bool, true, false, not, ◌&&◌, eqb, get_or, set, Option}
 use mathlib.Core.List.{List, [], ◌∷◌, map, foldl}
 use Rattle.model.specs.declared.Params.{Params}
-use Rattle.model.specs.declared.Offer.{Offer}
+use Rattle.model.specs.declared.Block.{Block}
 use Rattle.model.specs.declared.Refusal.TheVariants.{Exhausted}
 use Rattle.model.specs.Base.{member, filter, any, In, Pairwise}
 use Rattle.model.specs.Params.{Lent, heap_end, block_at}
 use Rattle.model.specs.SizeClasses.{align_allocation}
 use Rattle.model.specs.Block.{keeps}
 use Rattle.model.specs.Events.{Event, initialised, swept, released, taken, spent, sweeps, releases}
-use Rattle.model.specs.Calls.{refusal_number, Reply, answered, Call, bind, destroy, alloc, prepare, mark, release, shared_release, Step, step, Result, tables_in, result_from, call, set_up, pages, Question, ask}
+use Rattle.model.specs.Calls.{refusal_number, Reply, answered, Call, bind, destroy, alloc, prepare, mark, release, shared_release, Step, step, Returned, tables_in, result_from, call, set_up, pages, Question, ask}
 
 -- ---- the book. 01: "The book says what is held. [..] It has cells (start, size, holder, old or new) and mark places, and is empty
 -- after set-up. [..] A cell is held by that holder while it stands there, lost when struck out"
@@ -114,7 +114,7 @@ found_by p l u =
 unfoldable pub step_of : Params → State → Turn → Step
 step_of p s u = step p (tables_in s.lent) (found_by p s.lent u).heap u.call
 
-unfoldable pub result_of : Params → State → Turn → Result
+unfoldable pub result_of : Params → State → Turn → Returned
 result_of p s u = call p (found_by p s.lent u) u.call
 
 unfoldable pub book_of : Params → State → Turn → Book
@@ -156,7 +156,7 @@ pub record Seen : Type 0 where
   pub states : List ℕ
   pub marks : List ℕ
 
-abbrev pub seen : Result → List Event → Seen
+abbrev pub seen : Returned → List Event → Seen
 seen r es =
     let l : Lent = r.lent in
     record { reply = r.reply; swept = sweeps es; released = releases es; words = l.words; states = l.states; marks = l.marks }
@@ -186,7 +186,7 @@ Zeroed p es h =
 -- the size asked for lies within the cell. This ties what the book enters to what the caller is told
 unfoldable pub Served : Call → Reply → List Event → Type 0
 Served c reply es =
-    (holder size align offset : ℕ) (offer : Offer) → c ≡ alloc holder size align offset offer → reply.number ≡ 0
+    (holder size align offset : ℕ) (offer : Option Block) → c ≡ alloc holder size align offset offer → reply.number ≡ 0
     → (a : ℕ) × (cell_size : ℕ) × In (taken a cell_size) es × (get_or reply.values 0 0 ≡ align_allocation a align offset)
     × (get_or reply.values 1 0 ≡ cell_size) × (align_allocation a align offset + size ≤ a + cell_size)
 
@@ -238,7 +238,7 @@ LostExactly p holder (e ∷ es) bk =
     × LostExactly p holder es (book_event p holder e bk))
 
 -- all of it, of the call c on the heap h and the book bk, with its events es, that gave r and left the book bk'
-pub record CallKeeps (p : Params) (c : Call) (es : List Event) (r : Result) (h : List ℕ) (bk bk' : Book) : Type 0 where
+pub record CallKeeps (p : Params) (c : Call) (es : List Event) (r : Returned) (h : List ℕ) (bk bk' : Book) : Type 0 where
   pub served : Served c r.reply es
   pub counted : Counted c r.reply es
   pub zeroed : Zeroed p es r.lent.heap

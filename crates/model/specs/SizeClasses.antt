@@ -1,6 +1,6 @@
 -- "Size classes": the cell sizes of the bins, the bin of a size, raising a size, shifting an address. And the rows that a customer may
 -- give in place of 01's classes (02, R-5): which of them accepted tables are is said in Classes.antt.
-use Rattle.std.specs.Prelude.{if◌then◌else◌, ℕ, zero, suc, ◌+◌, ◌-◌, ◌*◌, ◌/◌, ◌%◌, ◌^◌, Bool, ◌&&◌, List, [], ◌∷◌, ◌++◌, eqb, ltb, leb, get_or, replicate}
+use Rattle.std.specs.Prelude.{if◌then◌else◌, ℕ, zero, suc, ◌+◌, ◌-◌, ◌*◌, ◌/◌, ◌%◌, ◌^◌, Bool, ◌&&◌, List, [], ◌∷◌, eqb, ltb, leb, get_or, replicate}
 use Rattle.std.specs.Int.Count.{count_leading_zeros}
 use Rattle.model.specs.declared.Params.{Params}
 use Rattle.model.specs.declared.Row.{Row}

@@ -2,10 +2,10 @@
 -- A test with a part for each item of 01's sentence, in its order. "Exactly the list it names" is in two parts (`on_list_named`,
 -- `linked`), and `flags_known` is about words that 01 leaves to us. R-8's and R-7's sentences are at the end; the test of
 -- chains alone reads the heap.
-use Rattle.std.specs.Prelude.{if◌then◌else◌, ℕ, zero, suc, ◌+◌, ◌-◌, ◌*◌, ◌/◌, ◌%◌, Bool, true, false, not, ◌&&◌, ◌||◌, ◌≡◌, ◌≢◌, List, eqb, ltb, leb, get_or, length}
+use Rattle.std.specs.Prelude.{if◌then◌else◌, ℕ, zero, suc, ◌+◌, ◌-◌, ◌*◌, ◌/◌, ◌%◌, Bool, true, not, ◌&&◌, ◌||◌, ◌≡◌, ◌≢◌, List, eqb, ltb, leb, get_or, length}
 use Rattle.model.specs.declared.Params.{Params}
 use Rattle.model.specs.Base.{all_below, any_below, member, In, Pairwise}
-use Rattle.model.specs.Params.{start, block_at, is_start, bins, lists, holders, parts, list_of, list_word, local_sets, abandoned, in_gc}
+use Rattle.model.specs.Params.{block_at, is_start, bins, lists, holders, parts, list_of, list_word, local_sets, abandoned, in_gc}
 use Rattle.model.specs.Memory.{load}
 use Rattle.model.specs.Tables.{Words, Tables}
 use Rattle.model.specs.SizeClasses.{cell_bytes}

@@ -2,7 +2,7 @@
 -- the other in a lent buffer.
 use Rattle.std.specs.Prelude.{if◌then◌else◌, ◌≡◌, List, [], ◌∷◌, ◌++◌, ℕ, suc, ◌+◌, ◌≤◌, min, max, eqb, length, take, drop}
 use Rattle.model.specs.Memory.{overwrite}
-use Rattle.model.specs.Census.{newline, before, pieces, drop_blank_end}
+use Rattle.model.specs.Census.{newline, pieces, drop_blank_end}
 
 -- how many bytes stand before the first separator, or before the end
 unfoldable pub until : ℕ → List ℕ → ℕ

@@ -1,12 +1,15 @@
 // The plain types of the port: what callers hand over and what calls answer. specs/ defines the machine over them.
 #![tactic(auto)]
 
+mod answers;
+mod host;
+
 // An address of the heap; 0 means none.
-#[derive(Clone, Copy)]
+#[derive(Clone, Copy, Debug, PartialEq, Eq)]
 pub struct Address(pub usize);
 
 // A block, by its number from 0. Only base + number × block size makes it an address.
-#[derive(Clone, Copy)]
+#[derive(Clone, Copy, Debug, PartialEq, Eq)]
 pub struct Block(pub usize);
 
 // How many rows a class table may have (02, R-5).
@@ -94,11 +97,13 @@ pub struct ChainWalk {
     pub left: usize,
 }
 
-// What an alloc is offered in place of `Space::acquire`: nothing, or a block to use as new.
+// What an alloc asks for. Its offer stands in place of `Space::acquire`: none, or a block to use as new.
 #[derive(Clone, Copy)]
-pub enum Offer {
-    Nothing,
-    Fresh(Block),
+pub struct Request {
+    pub size: usize,
+    pub align: usize,
+    pub offset: usize,
+    pub offer: Option<Block>,
 }
 
 // What is asked of the space after set-up: a call of the machine, by value.
@@ -106,24 +111,15 @@ pub enum Offer {
 pub enum Ask {
     Bind(usize),
     Destroy(usize),
-    Alloc {
-        holder: usize,
-        size: usize,
-        align: usize,
-        offset: usize,
-        offer: Offer,
-    },
+    Alloc { holder: usize, request: Request },
     Prepare,
-    Mark {
-        place: usize,
-        block: usize,
-    },
+    Mark { place: usize, block: usize },
     Release(usize),
     SharedRelease,
 }
 
 // Document 01's refusals, in the order in which they are tested, and 02's BadClasses, tested right after BadSetup.
-#[derive(Clone, Copy)]
+#[derive(Clone, Copy, Debug, PartialEq, Eq)]
 pub enum Refusal {
     BadSetup,
     BadTables,
@@ -139,86 +135,41 @@ pub enum Refusal {
     BadClasses,
 }
 
-// How the tests of a call end: passed, or the first refusal.
-#[derive(Clone, Copy)]
-pub enum Tested {
-    Passed,
+// An alloc that was served: where the object may start, its cell's size, whether the offer was used, how many blocks were swept.
+#[derive(Clone, Copy, Debug, PartialEq, Eq)]
+pub struct Served {
+    pub address: Address,
+    pub cell_size: usize,
+    pub offer_used: bool,
+    pub swept: usize,
+}
+
+// An alloc that was not: where no cell was found and none offered, how many blocks were swept (02, R-12); `Refused` holds the other
+// refusals.
+#[derive(Clone, Copy, Debug, PartialEq, Eq)]
+pub enum Unserved {
+    Exhausted { swept: usize },
     Refused(Refusal),
 }
 
-// The answer of set-up, bind and prepare.
-#[derive(Clone, Copy)]
-pub enum Answer {
-    Done,
-    Refused(Refusal),
+// What release and shared release answer: how many blocks it made Unallocated, how many it merged from in-gc, and how many it swept.
+#[derive(Clone, Copy, Debug, PartialEq, Eq)]
+pub struct Released {
+    pub blocks: usize,
+    pub merged: usize,
+    pub swept: usize,
 }
 
-// The answer of alloc: where the object may start, its cell's size, whether the offer was used, how many blocks were swept. Where no
-// cell was found and none offered, how many were swept (02, R-12); `Refused` holds the other refusals.
-#[derive(Clone, Copy)]
-pub enum AllocAnswer {
-    Served {
-        address: Address,
-        cell_size: usize,
-        offer_used: bool,
-        swept: usize,
-    },
-    Exhausted {
-        swept: usize,
-    },
-    Refused(Refusal),
-}
-
-// The answer of mark: whether the mark is new.
-#[derive(Clone, Copy)]
-pub enum MarkAnswer {
-    Marked { new: bool },
-    Refused(Refusal),
-}
-
-// The answer of destroy: how many blocks went over to abandoned.
-#[derive(Clone, Copy)]
-pub enum DestroyAnswer {
-    Destroyed { blocks: usize },
-    Refused(Refusal),
-}
-
-// The answer of release and shared release: how many blocks it made Unallocated, how many it merged from in-gc, and how many it swept.
-#[derive(Clone, Copy)]
-pub enum ReleaseAnswer {
-    Released {
-        blocks: usize,
-        merged: usize,
-        swept: usize,
-    },
-    Refused(Refusal),
-}
-
-// The answer of pages used.
-#[derive(Clone, Copy)]
-pub enum PagesAnswer {
-    Pages(usize),
-    Refused(Refusal),
-}
-
-// The answer of the total free cells of a bin.
-#[derive(Clone, Copy)]
-pub enum CellsAnswer {
-    Cells(usize),
-    Refused(Refusal),
-}
-
-// The answer of the check of a class table: accepted, the least bad count of words, or the first unfit row (02, R-5).
-#[derive(Clone, Copy)]
-pub enum ClassesAnswer {
+// What the check of a class table says: accepted, the least bad count of words, or the first unfit row (02, R-5).
+#[derive(Clone, Copy, Debug, PartialEq, Eq)]
+pub enum Verdict {
     Accepted,
     BadCount(usize),
     BadRow(usize),
-    Refused(Refusal),
 }
 
 // What any call says, as numbers: 0 or its refusal's number, and the answer's numbers in order, zeros after.
-#[derive(Clone, Copy)]
+#[derive(Clone, Copy, Debug, Default, PartialEq, Eq)]
 pub struct Said {
     pub number: usize,
     pub first: usize,

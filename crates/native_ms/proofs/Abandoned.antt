@@ -1,16 +1,17 @@
 -- The search of abandoned blocks, turn by turn: one law for each way on or out. Plain values alone stand here. Assumes nothing.
 use Rattle.std.specs.Prelude.{if◌then◌else◌}
-use Prim.Native.Nat.{ℕ, zero, suc, ◌+◌, ◌-◌, ◌<◌, ◌≤◌}
+use Prim.Native.Nat.{ℕ, zero, suc, ◌+◌, ◌<◌, ◌≤◌}
 use mathlib.Core.Path.{◌≡◌, refl}
 use mathlib.Core.Bool.{Bool, true, false}
 use mathlib.Core.List.{List}
+use mir.Val.{bool_byte}
 use native.Mathlib.Nat.{add-zero, not-suc-le-zero}
 use native.Mathlib.Omega.{arith}
 use lib.Dec.{eqb}
 use lib.ListN.{get_or}
 use borrow.Author.Tests.{eq-eqb, ne_eqb}
 use Rattle.model.specs.declared.Params.{Params}
-use Rattle.model.specs.Base.{filter, flag}
+use Rattle.model.specs.Base.{filter}
 use Rattle.model.specs.Params.{block_at, local_sets, available, unswept, consumed}
 use Rattle.model.specs.Tables.{Words, set_tls}
 use Rattle.model.specs.BlockList.{Popped, popped, pop, push}
@@ -52,18 +53,9 @@ module _ (p : Params) (ms : List ℕ) (holder bin b : ℕ) (t : Words) (h : List
 
 -- ---- turns
 
-pub flag_yes : (q : Bool) → q ≡ true → 1 ≡ flag q
-unfolding flag
-flag_yes q e = rw e
-
-pub flag_no : (q : Bool) → q ≡ false → 0 ≡ flag q
-unfolding flag
-flag_no q e = rw e
-
-pub flag_low : (q : Bool) {r : ℕ} → r ≡ flag q → r ≤ 1
-unfolding flag
-flag_low true e = omega arith
-flag_low false e = omega arith
+pub one_at_most : (q : Bool) {r : ℕ} → r ≡ bool_byte q → r ≤ 1
+one_at_most true e = omega arith
+one_at_most false e = omega arith
 
 module _ (p : Params) (ms : List ℕ) (holder bin : ℕ) where
   -- a turn with k blocks left, from the next block on
@@ -114,22 +106,19 @@ module _ (p : Params) (ms : List ℕ) (holder bin : ℕ) where
     acquire_none (suc k) e l z = rw (turn_is k t, ← e, eq-eqb v 0 z, add-zero n)
 
     module _ {b m : ℕ} {r : Bool} {t₂ : Words} {h₁ : List ℕ} (nz : v ≡ 0 → ⊥) (eb : b ≡ block_at p v) where
-      pub acquire_found : (k : ℕ) (q : Bool) → next_of v q t₁ ≡ pop_abandoned p bin t → TakenOver p ms holder bin b q t₁ h r t₂ h₁ → m ≡ flag q → 0 < k → r ≡ true
+      pub acquire_found : (k : ℕ) (q : Bool) → next_of v q t₁ ≡ pop_abandoned p bin t → TakenOver p ms holder bin b q t₁ h r t₂ h₁ → m ≡ bool_byte q → 0 < k → r ≡ true
           → reached v (n + m) t₂ h₁ ≡ closed p n h (acquire_abandoned k p ms holder bin t)
-      unfolding turn events_heap event_heap sweeps filter is_sweep flag
+      unfolding turn events_heap event_heap sweeps filter is_sweep
       acquire_found zero q e o em l z = absurd (not-suc-le-zero l)
       acquire_found (suc k) true e o em l z =
           rw (turn_is k t, ← e, ne_eqb v 0 nz, ← eb, o.none, o.words, z, o.heap, em, one_more n)
       acquire_found (suc k) false e o em l z =
           rw (turn_is k t, ← e, ne_eqb v 0 nz, ← eb, o.none, o.words, z, o.heap, em)
 
-      pub acquire_step : (k : ℕ) (q : Bool) → next_of v q t₁ ≡ pop_abandoned p bin t → TakenOver p ms holder bin b q t₁ h r t₂ h₁ → m ≡ flag q → 0 < k → r ≡ false
-          → closed p (n + m) h₁ (acquire_abandoned (k - 1) p ms holder bin t₂) ≡ closed p n h (acquire_abandoned k p ms holder bin t)
-      unfolding turn events_heap event_heap sweeps filter is_sweep flag
-      acquire_step zero q e o em l z = absurd (not-suc-le-zero l)
-      acquire_step (suc k) true e o em l z =
-          let d : suc k - 1 ≡ k = omega arith in
-          rw (d, turn_is k t, ← e, ne_eqb v 0 nz, ← eb, o.none, o.words, z, o.heap, em, more)
-      acquire_step (suc k) false e o em l z =
-          let d : suc k - 1 ≡ k = omega arith in
-          rw (d, turn_is k t, ← e, ne_eqb v 0 nz, ← eb, o.none, o.words, z, o.heap, em, add-zero n)
+      pub acquire_step : {k j : ℕ} (q : Bool) → next_of v q t₁ ≡ pop_abandoned p bin t → TakenOver p ms holder bin b q t₁ h r t₂ h₁ → m ≡ bool_byte q → k ≡ suc j → r ≡ false
+          → closed p (n + m) h₁ (acquire_abandoned j p ms holder bin t₂) ≡ closed p n h (acquire_abandoned k p ms holder bin t)
+      unfolding turn events_heap event_heap sweeps filter is_sweep
+      acquire_step {j = j} true e o em ek z =
+          rw (ek, turn_is j t, ← e, ne_eqb v 0 nz, ← eb, o.none, o.words, z, o.heap, em, more)
+      acquire_step {j = j} false e o em ek z =
+          rw (ek, turn_is j t, ← e, ne_eqb v 0 nz, ← eb, o.none, o.words, z, o.heap, em, add-zero n)

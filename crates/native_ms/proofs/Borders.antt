@@ -1,27 +1,29 @@
 -- From border to border (02, R-5): up to the next border every row covers what it covers at a, so counts are bad as a is. And the loops
 -- over rows. Assumes nothing.
 use Prim.Native.Nat.{ℕ, suc, ◌+◌, ◌-◌, ◌*◌, ◌/◌, ◌<◌, ◌≤◌}
-use mathlib.Core.Path.{◌≡◌, refl, sym, ap, ◌∙◌, subst}
+use mathlib.Core.Path.{◌≡◌, sym, ap, ◌∙◌, subst}
 use mathlib.Core.Bool.{Bool, true, false, not}
 use mathlib.Core.List.{List}
 use mathlib.Core.Logic.{◌⊎◌, inl, inr, ◌≢◌}
 use native.Mathlib.Omega.{arith}
-use lib.Dec.{eqb, ltb, leb}
+use lib.Dec.{eqb, leb}
 use native.Mathlib.Nat.{mul_comm, eq-zero-or-pos}
 use lib.ListN.{length, get_or, set, replicate, length-set, length-replicate, get_or-eq_default}
 use lib.Seq.{get_or-set_same, get_or-set_other}
-use borrow.Author.Tests.{eqb-true, eqb-false, leb-true, leb-false, ne_eqb, lt-ltb, le-leb, lt-leb}
+use borrow.Author.Count.{below_more}
+use borrow.Author.Tests.{eqb-true, eqb-false, leb-true, leb-false, ne_eqb}
 use Rattle.model.specs.declared.Params.{Params}
 use Rattle.model.specs.declared.Row.{Row}
 use Rattle.model.specs.Base.{sum_below, least_from, flag}
 use Rattle.model.specs.SizeClasses.{class_words, class_bytes, no_row, row_at, covers, cell_bytes}
-use Rattle.model.specs.Classes.{block_words, rows_over, is_bad_count, row_fits, bad_count, classes_fit}
+use Rattle.model.specs.Classes.{block_words, rows_over, is_bad_count, bad_count, classes_fit}
 use Rattle.laws.proofs.Below.{test}
 use Rattle.laws.proofs.Pigeon.{sum_same}
-use Rattle.laws.proofs.Rows.{least_hit, least_miss, least_end, least_jump, none_least, covers_no, covers_yes, accepted_row}
+use Rattle.laws.proofs.Rows.{least_hit, least_end, first_least, least_jump, none_least, covers_no, covers_yes, accepted_row}
 use Rattle.laws.proofs.Classes.{class_bytes_most, plain_cell, row_cell, rowless_cell, zero_cell}
 use Rattle.laws.proofs.Params.{Bounds}
 use Rattle.laws.proofs.Memory.{get_d_zeros}
+use Rattle.laws.proofs.Tables.{by_lt}
 use Rattle.native_ms.specs.Borders.{Level, Surveyed, Sizes}
 
 module _ (r : Row) (a b : ℕ) where
@@ -66,106 +68,40 @@ pub row_next : (p : Params) (i : ℕ) → row_at p (i + 1) ≡ get_or p.rows i n
 unfolding row_at
 row_next p i = let e : (i + 1) - 1 ≡ i = omega arith in ap (λ (n : ℕ). get_or p.rows n no_row) e
 
--- ---- a loop that looks at each number in turn
+-- ---- a loop that looks at one after the other, which are counted from 1: none of the first n passes
 
-module _ (f : ℕ → Bool) (count n : ℕ) where
-  pub walk_hit : n < count → f (n + 1) ≡ true → least_from (count - n) (n + 1) f ≡ n + 1
-  walk_hit h t =
-      let e : count - n ≡ suc (count - (n + 1)) = omega arith in
-      ap (λ (k : ℕ). least_from k (n + 1) f) e ∙ least_hit f (count - (n + 1)) (n + 1) t
+module _ (g : ℕ → Bool) (count n : ℕ) (before : (k : ℕ) → k < n → g k ≡ false) where
+  abbrev from_one : ℕ → Bool
+  from_one m = g (m - 1)
 
-  pub walk_miss : n < count → f (n + 1) ≡ false → least_from (count - n) (n + 1) f ≡ least_from (count - (n + 1)) (n + 1 + 1) f
-  walk_miss h t =
-      let e : count - n ≡ suc (count - (n + 1)) = omega arith in
-      let d : suc (n + 1) ≡ n + 1 + 1 = omega arith in
-      ap (λ (k : ℕ). least_from k (n + 1) f) e ∙ least_miss f (count - (n + 1)) (n + 1) t ∙ ap (λ (i : ℕ). least_from (count - (n + 1)) i f) d
+  pub first_of : n < count → g n ≡ true → n + 1 ≡ least_from count 1 from_one
+  first_of h t =
+      let d : n + 1 - 1 ≡ n = omega arith in
+      sym (first_least from_one count 1 (n + 1) (record { from = omega arith; to = omega arith; passes = ap g d ∙ t; before = λ m a b. before (m - 1) (omega arith) }))
 
-  pub walk_end : count ≤ n → least_from (count - n) (n + 1) f ≡ 0
-  walk_end h = let e : count - n ≡ 0 = omega arith in ap (λ (k : ℕ). least_from k (n + 1) f) e ∙ least_end f (n + 1)
+  pub none_of : ((k : ℕ) → n ≤ k → k < count → g k ≡ false) → 0 ≡ least_from count 1 from_one
+  none_of past = sym (none_least from_one count 1 (λ m a b. by_lt (m - 1) n (λ l. before (m - 1) l) (λ l. past (m - 1) l (omega arith))))
 
-pub walk_start : (f : ℕ → Bool) (count : ℕ) → least_from (count - 0) (0 + 1) f ≡ least_from count 1 f
-walk_start f count = let e : count - 0 ≡ count = omega arith in ap (λ (k : ℕ). least_from k 1 f) e
-
--- ---- the row that words fall in
-
-abbrev pub in_row : List Row → ℕ → ℕ → Bool
-in_row rows words n = covers (get_or rows (n - 1) no_row) words
-
--- past the rows there are none
-pub rows_past : (rows : List Row) (words count n : ℕ) → length rows ≤ n → least_from (count - n) (n + 1) (in_row rows words) ≡ 0
+-- no count of words falls in a row past the list
+pub covers_past : (rows : List Row) (words n : ℕ) → length rows ≤ n → covers (get_or rows n no_row) words ≡ false
 unfolding covers
-rows_past rows words count n h =
-    none_least (in_row rows words) (count - n) (n + 1)
-    (λ m a b. let l : length rows ≤ m - 1 = omega arith in rw (get_or-eq_default rows no_row l))
-
-pub in_next : (rows : List Row) (words n : ℕ) → in_row rows words (n + 1) ≡ covers (get_or rows n no_row) words
-in_next rows words n = let e : (n + 1) - 1 ≡ n = omega arith in ap (λ (i : ℕ). covers (get_or rows i no_row) words) e
-
--- ---- covers and fits, by their tests
-
-module _ (r : Row) (words : ℕ) where
-  pub covers_none : r.from ≡ 0 → false ≡ covers r words
-  unfolding covers
-  covers_none e = rw e
-
-  pub covers_later : (r.from ≡ 0 → ⊥) → words < r.from → false ≡ covers r words
-  unfolding covers
-  covers_later n h = let s : ltb 0 r.from ≡ true = lt-ltb 0 r.from (omega (arith, n)) in rw (s, lt-leb r.from words h)
-
-  pub covers_to : (r.from ≡ 0 → ⊥) → r.from ≤ words → leb words r.to ≡ covers r words
-  unfolding covers
-  covers_to n h = let s : ltb 0 r.from ≡ true = lt-ltb 0 r.from (omega (arith, n)) in rw (s, le-leb r.from words h)
-
-module _ (p : Params) (r : Row) where
-  pub fits_none : r.from ≡ 0 → false ≡ row_fits p r
-  unfolding row_fits
-  fits_none e = rw e
-
-  module _ (n : r.from ≡ 0 → ⊥) where
-    some : ltb 0 r.from ≡ true
-    some = lt-ltb 0 r.from (omega (arith, n))
-
-    pub fits_empty : r.to < r.from → false ≡ row_fits p r
-    unfolding row_fits
-    fits_empty h = rw (some, lt-leb r.from r.to h)
-
-    pub fits_short : r.from ≤ r.to → r.cell < r.to → false ≡ row_fits p r
-    unfolding row_fits
-    fits_short h k = rw (some, le-leb r.from r.to h, lt-leb r.to r.cell k)
-
-    pub fits_block : r.from ≤ r.to → r.to ≤ r.cell → leb r.cell (p.bytes / 8) ≡ row_fits p r
-    unfolding row_fits block_words
-    fits_block h k = rw (some, le-leb r.from r.to h, le-leb r.to r.cell k)
+covers_past rows words n h = rw (get_or-eq_default rows no_row h)
 
 -- ---- a survey
-
-sum_zero_below : (f : ℕ → ℕ) → sum_below 0 f ≡ 0
-unfolding sum_below
-sum_zero_below f = refl
 
 -- how many of the first rows cover a
 abbrev pub over : List Row → ℕ → ℕ → ℕ
 over rows a n = sum_below n (λ i. flag (covers (get_or rows i no_row) a))
-
-pub over_step : (rows : List Row) (a n k : ℕ) {c : ℕ} → 0 < n → c ≡ flag (covers (get_or rows (n - 1) no_row) a) → (k + c) + over rows a (n - 1) ≡ k + over rows a n
-unfolding sum_below
-over_step rows a n k {c} h e =
-    let m : suc (n - 1) ≡ n = omega arith in
-    let q : over rows a (suc (n - 1)) ≡ over rows a n = ap (over rows a) m in
-    omega arith
 
 pub over_all : (p : Params) (a : ℕ) → over p.rows a p.count ≡ rows_over p a
 unfolding rows_over
 over_all p a = sum_same p.count _ _ (λ i l. sym (ap (λ (r : Row). flag (covers r a)) (row_index p i)))
 
 -- one more row is level
-pub level_step : (rows : List Row) (a n count b c : ℕ) → 0 < n → Level (get_or rows (n - 1) no_row) a c → c ≤ b
-    → ((i : ℕ) → n ≤ i → i < count → Level (get_or rows i no_row) a b) → (i : ℕ) → n - 1 ≤ i → i < count → Level (get_or rows i no_row) a c
-level_step rows a n count b c h here less all i x y = go (test (eqb i (n - 1)))
-  where
-    go : (eqb i (n - 1) ≡ true) ⊎ (eqb i (n - 1) ≡ false) → Level (get_or rows i no_row) a c
-    go (inl t) = let e : i ≡ n - 1 = eqb-true i (n - 1) t in rw e here
-    go (inr t) = let k : n ≤ i = omega (arith, eqb-false i (n - 1) t) in level_less (get_or rows i no_row) a b c (all i k y) less
+pub level_step : (rows : List Row) (a n b c : ℕ) → Level (get_or rows n no_row) a c → c ≤ b
+    → ((i : ℕ) → i < n → Level (get_or rows i no_row) a b) → (i : ℕ) → i < n + 1 → Level (get_or rows i no_row) a c
+level_step rows a n b c here less all =
+    below_more (λ (i : ℕ). Level (get_or rows i no_row) a c) n (λ i l. level_less (get_or rows i no_row) a b c (all i l) less) here
 
 -- and the checker goes on from its border
 pub survey_jump : (p : Params) (w a over b : ℕ) → Surveyed p a (w + 1) over b → over ≡ 1 → a ≤ w
@@ -272,27 +208,13 @@ unfolding flag
 flag_most true = omega arith
 flag_most false = omega arith
 
-pub flag_low : {c : ℕ} (b : Bool) → c ≡ flag b → c ≤ 1
-flag_low b e = rw e (flag_most b)
-
-pub surveyed : (p : Params) (a end k n b : ℕ) → n ≤ 0 → k + over p.rows a n ≡ over p.rows a p.count → a < b → b ≤ end
-    → ((i : ℕ) → n ≤ i → i < p.count → Level (get_or p.rows i no_row) a b) → Surveyed p a end k b
-surveyed p a end k n b z e past low level =
+pub surveyed : (p : Params) (a end k n b : ℕ) → n ≤ p.count → p.count ≤ n → k ≡ over p.rows a n → a < b → b ≤ end
+    → ((i : ℕ) → i < n → Level (get_or p.rows i no_row) a b) → Surveyed p a end k b
+surveyed p a end k n b x y e past low level =
+    let q : n ≡ p.count = omega arith in
     record {
       past = past;
       low = low;
-      rows = whole (n_is n z) ∙ over_all p a;
-      level = λ i l. rw (row_index p i) (level i (omega arith) l);
+      rows = e ∙ ap (over p.rows a) q ∙ over_all p a;
+      level = λ i l. rw (row_index p i) (level i (omega arith));
     }
-  where
-    n_is : (n : ℕ) → n ≤ 0 → n ≡ 0
-    n_is n z = omega arith
-
-    whole : n ≡ 0 → k ≡ over p.rows a p.count
-    whole q = sum_end k (over p.rows a n) (ap (over p.rows a) q ∙ over_none p.rows a) ∙ e
-      where
-        sum_end : (k x : ℕ) → x ≡ 0 → k ≡ k + x
-        sum_end k x q = omega arith
-
-        over_none : (rows : List Row) (a : ℕ) → over rows a 0 ≡ 0
-        over_none rows a = sum_zero_below (λ i. flag (covers (get_or rows i no_row) a))

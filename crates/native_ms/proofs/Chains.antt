@@ -9,13 +9,13 @@ use native.Mathlib.Nat.{div-zero, mul-le-mul_right, suc-mul, div-mul-le_self}
 use native.Mathlib.Omega.{arith}
 use lib.Dec.{ltb}
 use lib.ListN.{length, get_or, set}
-use borrow.Author.Tests.{ne_eqb, eq-eqb, ltb-true}
+use borrow.Author.Tests.{ne_eqb, eq-eqb, ltb-true, lt-ltb}
 use Rattle.model.specs.declared.Params.{Params}
 use Rattle.model.specs.Params.{good_params, start}
 use Rattle.model.specs.Memory.{load, store, zeroed}
 use Rattle.model.specs.Tables.{Words, set_next, set_prev, set_free, set_size, set_list, set_tls, set_cells}
 use Rattle.model.specs.Block.{simple, cell_count, cells_down, link_all, keeps, sweep_chain, swept_words, clear_block, frees_cell}
-use Rattle.laws.proofs.Below.{and_left, and_right}
+use Rattle.laws.proofs.Below.{and_left, and_right, and_both}
 use Rattle.laws.proofs.Params.{Bounds, good_bounds, start_out, start_end}
 use Rattle.laws.proofs.Memory.{length_store}
 use Rattle.laws.proofs.Cells.{cells_down_kept, cells_down_freed, tri}
@@ -26,18 +26,6 @@ use Rattle.native_ms.specs.Block.{kept_by, Room, Built, SweptBy, Swept, Cleared,
 pub count_none : (p : Params) (s : ℕ) → s ≡ 0 → 0 ≡ cell_count p s
 unfolding cell_count
 count_none p s e = rw e (sym (div-zero p.bytes))
-
-pub simple_offsets : (p : Params) → p.offsets ≡ true → false ≡ simple p
-unfolding simple
-simple_offsets p e = rw e
-
-pub simple_sizes : (p : Params) → p.offsets ≡ false → (p.min ≡ p.max → ⊥) → false ≡ simple p
-unfolding simple
-simple_sizes p e n = rw (e, ne_eqb p.min p.max n)
-
-pub simple_unified : (p : Params) → p.offsets ≡ false → p.min ≡ p.max → p.unified ≡ simple p
-unfolding simple
-simple_unified p e m = rw (e, eq-eqb p.min p.max m)
 
 -- ---- room
 
@@ -71,41 +59,40 @@ cell_fits p b s k e =
     (block_room p b s (and_left (good_params p) (ltb k (cell_count p s)) e) refl refl)
     (ltb-true k (cell_count p s) (and_right (good_params p) (ltb k (cell_count p s)) e)) refl
 
+-- as the code tests that there is one
+pub cell_far : (p : Params) (b s k : ℕ) {g : Bool} {n : ℕ} → g ≡ good_params p → g ≡ true → n ≡ cell_count p s → k < n
+    → start p b + k * s + s ≤ 2 ^ 47 + 65536
+cell_far p b s k eg y en l = (cell_fits p b s k (and_both (sym eg ∙ y) (lt-ltb k (cell_count p s) (rw (sym en) l)))).0
+
 -- whether a sweep frees it, by what it keeps
 pub frees_kept : (p : Params) (ms : List ℕ) (b s k : ℕ) {f kept : Bool} {a : ℕ} → (good_params p && ltb k (cell_count p s)) ≡ true
     → f ≡ simple p → a ≡ start p b + k * s → kept ≡ kept_by f p ms s a → not kept ≡ frees_cell p ms b s k
 unfolding frees_cell kept_by keeps
 frees_kept p ms b s k here ef ea ek = rw (here, ek, ef, ea)
 
--- ---- linked so far: k of the n cells were looked at, the next is at `cell`, so many are linked, and h is what the heap h₀ became
+-- ---- linked so far: k of the cells were looked at, so many are linked, and h is what the heap h₀ became
 
-pub record Linking (p : Params) (kept : ℕ → Bool) (from s n k : ℕ) (h₀ : List ℕ) (cell last linked : ℕ) (h : List ℕ) : Type 0 where
-  pub done : k ≤ n
-  pub at : cell ≡ from + k * s
+pub record Linking (p : Params) (kept : ℕ → Bool) (from s k : ℕ) (h₀ : List ℕ) (last linked : ℕ) (h : List ℕ) : Type 0 where
   pub same : length h ≡ length h₀
   pub few : linked ≤ k
   pub built : Built p (cells_down kept from s k) h₀ last linked h
 
-pub linking_start : (p : Params) (kept : ℕ → Bool) (from s n : ℕ) (h : List ℕ) → Linking p kept from s n 0 h from 0 0 h
+pub linking_start : (p : Params) (kept : ℕ → Bool) (from s : ℕ) (h : List ℕ) → Linking p kept from s 0 h 0 0 h
 unfolding cells_down head_d link_all
-linking_start p kept from s n h =
+linking_start p kept from s h =
     record {
-      done = omega arith;
-      at = omega arith;
       same = refl;
       few = omega arith;
       built = record { linked = record { head = refl; heap = refl }; count = refl };
     }
 
-module _ (p : Params) (kept : ℕ → Bool) (from s n k : ℕ) (h₀ : List ℕ) (cell last linked : ℕ) (h : List ℕ)
-    (r : Linking p kept from s n k h₀ cell last linked h) (lt : k < n) where
-  pub linking_kept : kept cell ≡ true → Linking p kept from s n (k + 1) h₀ (cell + s) last linked h
+module _ (p : Params) (kept : ℕ → Bool) (from s k : ℕ) (h₀ : List ℕ) (last linked : ℕ) (h : List ℕ)
+    (r : Linking p kept from s k h₀ last linked h) where
+  pub linking_kept : kept (from + k * s) ≡ true → Linking p kept from s (k + 1) h₀ last linked h
   linking_kept e =
-      let c : cells_down kept from s k ≡ cells_down kept from s (k + 1) = cells_down_kept kept from s k r.at e in
+      let c : cells_down kept from s k ≡ cells_down kept from s (k + 1) = cells_down_kept kept from s k refl e in
       let l = r.built.linked in
       record {
-        done = omega arith;
-        at = omega (arith, r.at);
         same = r.same;
         few = omega (arith, r.few);
         built = record {
@@ -114,31 +101,23 @@ module _ (p : Params) (kept : ℕ → Bool) (from s n k : ℕ) (h₀ : List ℕ)
         };
       }
 
-  pub linking_freed : {h₁ : List ℕ} → kept cell ≡ false → h₁ ≡ store p h cell last
-      → Linking p kept from s n (k + 1) h₀ (cell + s) cell (linked + 1) h₁
+  pub linking_freed : {h₁ : List ℕ} → kept (from + k * s) ≡ false → h₁ ≡ store p h (from + k * s) last
+      → Linking p kept from s (k + 1) h₀ (from + k * s) (linked + 1) h₁
   unfolding head_d link_all
   linking_freed e st =
-      let c : (cell ∷ cells_down kept from s k) ≡ cells_down kept from s (k + 1) = cells_down_freed kept from s k r.at e in
+      let c : ((from + k * s) ∷ cells_down kept from s k) ≡ cells_down kept from s (k + 1) = cells_down_freed kept from s k refl e in
       let l = r.built.linked in
       record {
-        done = omega arith;
-        at = omega (arith, r.at);
-        same = ap length st ∙ length_store p h cell last ∙ r.same;
+        same = ap length st ∙ length_store p h (from + k * s) last ∙ r.same;
         few = omega (arith, r.few);
         built = record {
           linked = record {
             head = ap (λ (y : List ℕ). head_d y 0) c;
-            heap = st ∙ (λ i. store p (l.heap i) cell (l.head i)) ∙ ap (λ (y : List ℕ). link_all p y h₀) c;
+            heap = st ∙ (λ i. store p (l.heap i) (from + k * s) (l.head i)) ∙ ap (λ (y : List ℕ). link_all p y h₀) c;
           };
           count = omega (arith, r.built.count, ap length c);
         };
       }
-
-pub linking_end : (p : Params) (kept : ℕ → Bool) (from s n k : ℕ) (h₀ : List ℕ) (cell last linked : ℕ) (h : List ℕ)
-    → Linking p kept from s n k h₀ cell last linked h → n ≤ k → Built p (cells_down kept from s n) h₀ last linked h
-linking_end p kept from s n k h₀ cell last linked h r le =
-    let e : k ≡ n = omega (arith, r.done) in
-    rw (← e) r.built
 
 -- ---- a whole sweep
 

@@ -1,6 +1,6 @@
 -- The end of a collection with eager sweeping: the last part, the sweep of all blocks, filing anew, and the whole of it behind a
 -- part's own work. One law for each way on or out of a loop. Plain values alone stand here. Assumes nothing.
-use Prim.Native.Nat.{ℕ, zero, suc, ◌+◌, ◌-◌, ◌<◌, ◌≤◌}
+use Prim.Native.Nat.{ℕ, zero, suc, ◌+◌, ◌<◌, ◌≤◌}
 use mathlib.Core.Path.{◌≡◌, refl, sym, ap, ◌∙◌}
 use mathlib.Core.Bool.{Bool, true, false, ◌&&◌}
 use mathlib.Core.List.{List, [], ◌∷◌, ◌++◌, append_assoc, append-nil}
@@ -35,11 +35,11 @@ unfolding view
 released_nine w h = simp (length-take, length-drop) (omega arith)
 
 module _ (w : List ℕ) (last part : ℕ) where
-  pub with_last : 2958 ≤ length w → last < 9 → part ≡ last → true ≡ has_released (after_part last (view w)) part
+  pub with_last : 2958 ≤ length w → last < 9 → part ≡ last → eqb part last ≡ has_released (after_part last (view w)) part
   unfolding has_released set_released set_phase
   with_last long low e =
       let here : get_or (set (view w).released last 1) last 0 ≡ 1 = get_or-set_same (view w).released last 1 0 (omega (arith, released_nine w long)) in
-      rw (e, here)
+      rw (eq-eqb part last e, e, here)
 
   pub with_other : {r : Bool} → (part ≡ last → ⊥) → r ≡ has_released (view w) part → r ≡ has_released (after_part last (view w)) part
   unfolding has_released set_released set_phase
@@ -175,18 +175,14 @@ module _ (p : Params) (avail full a : ℕ) (w : Words) where
   list_stop zero z = refl
   list_stop (suc k) z = rw (eq-eqb a 0 z)
 
-  pub list_step : (k : ℕ) {b x : ℕ} {w₁ : Words} → 0 < k → (a ≡ 0 → ⊥) → b ≡ block_at p a → x ≡ get_or w.next b 0 → w₁ ≡ recycle_block p avail full b w
-      → recycle_from (k - 1) p avail full x w₁ ≡ recycle_from k p avail full a w
+  pub list_step : {k j b x : ℕ} {w₁ : Words} → k ≡ suc j → (a ≡ 0 → ⊥) → b ≡ block_at p a → x ≡ get_or w.next b 0 → w₁ ≡ recycle_block p avail full b w
+      → recycle_from j p avail full x w₁ ≡ recycle_from k p avail full a w
   unfolding recycle_from recycle_block
-  list_step zero l n eb ex e = absurd (not-suc-le-zero l)
-  list_step (suc k) {b} {x} {w₁} l n eb ex e = go (eqb (get_or w.free b 0) 0) refl
+  list_step {k} {j} {b} {x} {w₁} ek n eb ex e = go (eqb (get_or w.free b 0) 0) refl
     where
-      d : suc k - 1 ≡ k
-      d = omega arith
-
-      go : (y : Bool) → eqb (get_or w.free b 0) 0 ≡ y → recycle_from (suc k - 1) p avail full x w₁ ≡ recycle_from (suc k) p avail full a w
-      go true z = rw (d, ne_eqb a 0 n, ← eb, e, z, ex)
-      go false z = rw (d, ne_eqb a 0 n, ← eb, e, z, ex)
+      go : (y : Bool) → eqb (get_or w.free b 0) 0 ≡ y → recycle_from j p avail full x w₁ ≡ recycle_from k p avail full a w
+      go true z = rw (ek, ne_eqb a 0 n, ← eb, e, z, ex)
+      go false z = rw (ek, ne_eqb a 0 n, ← eb, e, z, ex)
 
 -- the walk starts at the list's first block
 pub list_at : (p : Params) (avail full : ℕ) (w : Words) {a : ℕ} → a ≡ get_or w.first full 0

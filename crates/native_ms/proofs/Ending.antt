@@ -1,5 +1,5 @@
 -- The whole search and the end of a call that serves: one law for each way out. Plain values alone stand here. Assumes nothing.
-use Rattle.std.specs.Prelude.{if◌then◌else◌}
+use Rattle.std.specs.Prelude.{if◌then◌else◌, Option, None, Some}
 use Prim.Native.Nat.{ℕ, zero, suc, ◌+◌, ◌^◌, ◌<◌}
 use mathlib.Core.Path.{◌≡◌, refl, sym, ap, ◌∙◌}
 use mathlib.Core.Bool.{Bool, true, false}
@@ -11,8 +11,6 @@ use lib.ListN.{length, get_or, set, length-append}
 use borrow.Author.Tests.{eq-eqb, ne_eqb}
 use Rattle.model.specs.declared.Params.{Params}
 use Rattle.model.specs.declared.Block.{Block}
-use Rattle.model.specs.declared.Offer.{Offer}
-use Rattle.model.specs.declared.Offer.TheVariants.{Nothing, Fresh}
 use Rattle.model.specs.Base.{filter, flag}
 use Rattle.model.specs.Params.{good_params, start, block_at, local_sets, available, consumed}
 use Rattle.model.specs.Tables.{Words, Tables, tables_of, with_words}
@@ -24,7 +22,7 @@ use Rattle.model.specs.FreeListAllocator.{Found, found, followed_by, Search, in_
 use Rattle.model.specs.Calls.{answered, exhausted, says, takes, take_plan, take_cell, finish, Step}
 use Rattle.laws.proofs.Base.{filter_append, if_cases}
 use Rattle.laws.proofs.Params.{good_bounds}
-use Rattle.native_ms.specs.Block.{Initialised, TakenOut, took, take_free}
+use Rattle.native_ms.specs.Block.{TakenOut, took, take_free}
 use Rattle.native_ms.specs.declared.block.Taken.{Taken}
 use Rattle.native_ms.specs.Closing.{skimmed, Reached, reached, closed, Searched}
 use Rattle.native_ms.proofs.TakeCell.{took_cell}
@@ -63,14 +61,6 @@ init_ended : (p : Params) (n : ℕ) (h : List ℕ) (es : List Event) (b : ℕ) (
 init_ended p n h es b chain a t =
     rw (sweeps_append es (initialised b chain ∷ []), events_append p es (initialised b chain ∷ []) h, init_sweeps b chain, init_heap p b chain (events_heap p es h), add-zero (sweeps es))
 
--- ---- the offered block
-
-pub freshened : (p : Params) (holder bin b : ℕ) {o a s : ℕ} {t₁ t₂ : Words} {st₁ h₁ : List ℕ} (t : Words) (st h : List ℕ)
-    → o ≡ local_sets holder → a ≡ available o bin → s ≡ cell_bytes p bin → t₁ ≡ push p a b t → Initialised p b s holder t₁ h t₂ h₁
-    → st₁ ≡ set st b 255 → Freshened p holder bin b t st h t₂ st₁ h₁
-freshened p holder bin b t st h eo ea es e₁ i e₂ =
-    record { words = rw (i.words, e₁, ea, eo, es); states = e₂; heap = rw (i.heap, es) }
-
 -- ---- blocks from outside the holder's lists
 
 module _ (p : Params) (holder bin n : ℕ) (t : Words) (st ms h : List ℕ) {v s : ℕ} {t₁ : Words} {h₁ : List ℕ} (e : reached v s t₁ h₁ ≡ closed p n h (acquire_abandoned p.blocks p ms holder bin t)) where
@@ -80,7 +70,7 @@ module _ (p : Params) (holder bin n : ℕ) (t : Words) (st ms h : List ℕ) {v s
   at_same : v ≡ a.at
   at_same = ap (λ (k : Reached). k.at) e
 
-  pub global_found : (offer : Offer) → (v ≡ 0 → ⊥) → ended v s false (tables_of t₁ st ms) h₁ ≡ closed_search p n h (acquire_global p holder bin offer (tables_of t st ms))
+  pub global_found : (offer : Option Block) → (v ≡ 0 → ⊥) → ended v s false (tables_of t₁ st ms) h₁ ≡ closed_search p n h (acquire_global p holder bin offer (tables_of t st ms))
   unfolding acquire_global
   global_found offer nz =
       rw (ne_eqb a.at 0 (λ q. nz (at_same ∙ q))) (ap (λ (k : Reached). ended k.at k.swept false (tables_of k.words st ms) k.heap) e)
@@ -89,12 +79,12 @@ module _ (p : Params) (holder bin n : ℕ) (t : Words) (st ms h : List ℕ) {v s
     none : eqb a.at 0 ≡ true
     none = eq-eqb a.at 0 (sym at_same ∙ z)
 
-    pub global_none : (offer : Offer) → offer ≡ Nothing → ended 0 s false (tables_of t₁ st ms) h₁ ≡ closed_search p n h (acquire_global p holder bin offer (tables_of t st ms))
+    pub global_none : (offer : Option Block) → offer ≡ None → ended 0 s false (tables_of t₁ st ms) h₁ ≡ closed_search p n h (acquire_global p holder bin offer (tables_of t st ms))
     unfolding acquire_global acquire_fresh
     global_none offer eo =
         rw (eo, none) (ap (λ (x : ℕ). ended x s false (tables_of t₁ st ms) h₁) (sym z) ∙ ap (λ (k : Reached). ended k.at k.swept false (tables_of k.words st ms) k.heap) e)
 
-    pub global_fresh : {x : ℕ} {t₂ : Words} {st₂ h₂ : List ℕ} (offer : Offer) (b : Block) → offer ≡ Fresh b → Freshened p holder bin b.0 t₁ st h₁ t₂ st₂ h₂ → x ≡ start p b.0
+    pub global_fresh : {x : ℕ} {t₂ : Words} {st₂ h₂ : List ℕ} (offer : Option Block) (b : Block) → offer ≡ Some b → Freshened p holder bin b.0 t₁ st h₁ t₂ st₂ h₂ → x ≡ start p b.0
         → ended x s true (tables_of t₂ st₂ ms) h₂ ≡ closed_search p n h (acquire_global p holder bin offer (tables_of t st ms))
     unfolding acquire_global acquire_fresh
     global_fresh offer b eo f ex =
@@ -128,7 +118,7 @@ module _ (p : Params) (a c : ℕ) where
       (λ z. skim_heap k _ h) (λ z. refl))
 
 -- `find_block`, once its skim gave s
-after_skim : Params → ℕ → ℕ → Offer → Tables → Found → Search
+after_skim : Params → ℕ → ℕ → Option Block → Tables → Found → Search
 after_skim p holder bin offer t s =
     let f : Found = followed_by s (recycle_local_blocks p.blocks p t.marks (local_sets holder) bin s.words) in
     let d : Found = followed_by f (acquire_abandoned p.blocks p t.marks holder bin f.words) in
@@ -142,7 +132,7 @@ fronted : List Event → Search → Search
 fronted es s = record { at = s.at; fresh = s.fresh; tables = s.tables; events = es ++ s.events }
 
 -- the skim's events come before all others
-skim_first : (p : Params) (holder bin : ℕ) (offer : Offer) (t : Tables) (v : ℕ) (w : Words) (es : List Event)
+skim_first : (p : Params) (holder bin : ℕ) (offer : Option Block) (t : Tables) (v : ℕ) (w : Words) (es : List Event)
     → after_skim p holder bin offer t (record { at = v; words = w; events = es }) ≡ fronted es (after_skim p holder bin offer t (found v w))
 unfolding after_skim fronted acquire_fresh
 skim_first p holder bin offer t v w es = go (eqb v 0) (eqb f.at 0) (eqb d.at 0) offer
@@ -156,7 +146,7 @@ skim_first p holder bin offer t v w es = go (eqb v 0) (eqb f.at 0) (eqb d.at 0) 
     s : Found
     s = record { at = v; words = w; events = es }
 
-    ends : Bool → Bool → Bool → Offer → Found → Search
+    ends : Bool → Bool → Bool → Option Block → Found → Search
     ends x y z o s' =
         if x then (if y then (if z then acquire_fresh p holder bin o (followed_by (followed_by s' f) d) t else in_found (followed_by (followed_by s' f) d) t)
         else in_found (followed_by s' f) t)
@@ -165,12 +155,12 @@ skim_first p holder bin offer t v w es = go (eqb v 0) (eqb f.at 0) (eqb d.at 0) 
     both : List Event → Search
     both x = record { at = d.at; fresh = false; tables = with_words d.words t; events = x }
 
-    go : (x y z : Bool) (o : Offer) → ends x y z o s ≡ fronted es (ends x y z o (found v w))
+    go : (x y z : Bool) (o : Option Block) → ends x y z o s ≡ fronted es (ends x y z o (found v w))
     go false y z o = ap (λ (x : List Event). record { at = v; fresh = false; tables = with_words w t; events = x }) (sym (append-nil es))
     go true false z o = refl
     go true true false o = ap both (append_assoc es f.events d.events)
-    go true true true Nothing = ap both (append_assoc es f.events d.events)
-    go true true true (Fresh b) =
+    go true true true None = ap both (append_assoc es f.events d.events)
+    go true true true (Some b) =
         ap (λ (x : List Event). record { at = start p b.0; fresh = true; tables = made; events = x })
         (ap (λ (x : List Event). x ++ init) (append_assoc es f.events d.events) ∙ append_assoc es (f.events ++ d.events) init)
       where
@@ -191,7 +181,7 @@ skim_unseen p h es none still s =
 
 -- ---- the whole search
 
-module _ (p : Params) (holder bin : ℕ) (offer : Offer) (t : Words) (st ms h : List ℕ) {o a c v : ℕ} {t₁ : Words} (eo : o ≡ local_sets holder) (ea : a ≡ available o bin) (ec : c ≡ consumed o bin) (e : popped v t₁ ≡ skimmed (find_free_block_with p.blocks p a c t)) where
+module _ (p : Params) (holder bin : ℕ) (offer : Option Block) (t : Words) (st ms h : List ℕ) {o a c v : ℕ} {t₁ : Words} (eo : o ≡ local_sets holder) (ea : a ≡ available o bin) (ec : c ≡ consumed o bin) (e : popped v t₁ ≡ skimmed (find_free_block_with p.blocks p a c t)) where
   find_is : closed_search p 0 h (after_skim p holder bin offer (tables_of t st ms) (found v t₁)) ≡ closed_search p 0 h (find_block p holder bin offer (tables_of t st ms))
   unfolding find_block after_skim
   find_is =
@@ -227,14 +217,14 @@ module _ (p : Params) (holder bin : ℕ) (offer : Offer) (t : Words) (st ms h : 
     d : Found
     d = acquire_abandoned p.blocks p ms holder bin f.words
 
-    rest : Bool → Offer → Search
+    rest : Bool → Option Block → Search
     rest q w = if q then acquire_fresh p holder bin w (followed_by f d) (tables_of t st ms) else in_found (followed_by f d) (tables_of t st ms)
 
-    rest_same : (q : Bool) (w : Offer) → closed_search p (0 + sweeps f.events) (events_heap p f.events h) (if q then acquire_fresh p holder bin w d (tables_of f.words st ms) else in_found d (tables_of f.words st ms)) ≡ closed_search p 0 h (rest q w)
+    rest_same : (q : Bool) (w : Option Block) → closed_search p (0 + sweeps f.events) (events_heap p f.events h) (if q then acquire_fresh p holder bin w d (tables_of f.words st ms) else in_found d (tables_of f.words st ms)) ≡ closed_search p 0 h (rest q w)
     unfolding rest acquire_fresh
     rest_same false w = then_ended p 0 h f.events d.events d.at false (tables_of d.words st ms)
-    rest_same true Nothing = then_ended p 0 h f.events d.events d.at false (tables_of d.words st ms)
-    rest_same true (Fresh b) = rw append_assoc (then_ended p 0 h f.events (d.events ++ (initialised b.0 (init_chain p b.0 (cell_bytes p bin)) ∷ [])) (start p b.0) true _)
+    rest_same true None = then_ended p 0 h f.events d.events d.at false (tables_of d.words st ms)
+    rest_same true (Some b) = rw append_assoc (then_ended p 0 h f.events (d.events ++ (initialised b.0 (init_chain p b.0 (cell_bytes p bin)) ∷ [])) (start p b.0) true _)
 
     pub find_global : {g : Ended} → x ≡ 0 → g ≡ closed_search p s h₂ (acquire_global p holder bin offer (tables_of t₂ st ms)) → g ≡ closed_search p 0 h (find_block p holder bin offer (tables_of t st ms))
     unfolding after_skim acquire_global rest d
@@ -298,7 +288,7 @@ unfolding step_of sweeps filter
 head_cell p b align offset t h ek er st ms = rw er (sym (ap step_of (took_cell p (tables_of t st ms) [] h b align offset false ek)))
 
 -- the search ends at the head of the available list, which has a free cell
-module _ (p : Params) (holder bin : ℕ) (offer : Offer) (t : Words) (st ms h : List ℕ) {o l b : ℕ} (eo : o ≡ local_sets holder) (el : l ≡ available o bin) (f : HasFree p t l b) (some : 0 < p.blocks) where
+module _ (p : Params) (holder bin : ℕ) (offer : Option Block) (t : Words) (st ms h : List ℕ) {o l b : ℕ} (eo : o ≡ local_sets holder) (el : l ≡ available o bin) (f : HasFree p t l b) (some : 0 < p.blocks) where
   at : ℕ
   at = get_or t.first l 0
 
@@ -321,7 +311,7 @@ pub cell_at : (p : Params) (b : ℕ) (t : Words) (h : List ℕ) {k : Taken} {t�
 unfolding take_free
 cell_at p b t h ek = ap (λ (o : TakenOut). o.answer.at.0) ek
 
-pub cell_low : (p : Params) (holder bin : ℕ) (offer : Offer) (t : Words) (st h : List ℕ) (b : ℕ) {ms : List ℕ} {v n : ℕ} {fresh : Bool} {t₁ t₂ : Words} {st₁ h₁ h₂ : List ℕ} {k : Taken}
+pub cell_low : (p : Params) (holder bin : ℕ) (offer : Option Block) (t : Words) (st h : List ℕ) (b : ℕ) {ms : List ℕ} {v n : ℕ} {fresh : Bool} {t₁ t₂ : Words} {st₁ h₁ h₂ : List ℕ} {k : Taken}
     → good_params p ≡ true → Low t → ended v n fresh (tables_of t₁ st₁ ms) h₁ ≡ closed_search p 0 h (find_block p holder bin offer (tables_of t st ms))
     → took k t₂ h₂ ≡ take_free p b t₁ h₁ → k.at.0 < 2 ^ 47
 cell_low p holder bin offer t st h b {ms} {v} {n} {fresh} {t₁} {t₂} {st₁} {h₁} g low e ek =

@@ -1,6 +1,6 @@
 -- Free heads stay below 2^47: sound tables have only such, and a search makes no other. So the address of the cell that is taken
 -- fits a word with room to shift it. Assumes nothing.
-use Rattle.std.specs.Prelude.{if◌then◌else◌}
+use Rattle.std.specs.Prelude.{if◌then◌else◌, Option, None, Some}
 use Prim.Native.Nat.{ℕ, zero, suc, ◌+◌, ◌-◌, ◌*◌, ◌/◌, ◌%◌, ◌^◌, ◌<◌, ◌≤◌}
 use mathlib.Core.Path.{◌≡◌, refl, sym, subst}
 use mathlib.Core.Bool.{Bool, true, false, ◌&&◌}
@@ -12,8 +12,7 @@ use lib.Dec.{eqb, ltb, leb}
 use lib.ListN.{length, get_or, set, get_or-eq_default}
 use borrow.Author.Tests.{eqb-true, ltb-true, ltb-false, leb-true}
 use Rattle.model.specs.declared.Params.{Params}
-use Rattle.model.specs.declared.Offer.{Offer}
-use Rattle.model.specs.declared.Offer.TheVariants.{Nothing, Fresh}
+use Rattle.model.specs.declared.Block.{Block}
 use Rattle.model.specs.Base.{all_below, In}
 use Rattle.model.specs.Params.{start, local_sets, available, lists}
 use Rattle.model.specs.Tables.{Words, Tables, set_tls, set_size, set_free, set_cells}
@@ -165,13 +164,13 @@ module _ (p : Params) (g : Bounds p) where
 
   -- ---- searches
 
-  fresh_low : (holder bin : ℕ) (offer : Offer) (f : Found) (t : Tables) → Low f.words → Low (acquire_fresh p holder bin offer f t).tables.words
+  fresh_low : (holder bin : ℕ) (offer : Option Block) (f : Found) (t : Tables) → Low f.words → Low (acquire_fresh p holder bin offer f t).tables.words
   unfolding acquire_fresh
-  fresh_low holder bin Nothing f t h = h
-  fresh_low holder bin (Fresh b) f t h =
+  fresh_low holder bin None f t h = h
+  fresh_low holder bin (Some b) f t h =
       init_low b.0 (cell_bytes p bin) holder (push p (available (local_sets holder) bin) b.0 f.words) (push_low p (available (local_sets holder) bin) b.0 f.words h)
 
-  pub find_low : (holder bin : ℕ) (offer : Offer) (t : Tables) → Low t.words → Low (find_block p holder bin offer t).tables.words
+  pub find_low : (holder bin : ℕ) (offer : Option Block) (t : Tables) → Low t.words → Low (find_block p holder bin offer t).tables.words
   find_low holder bin offer t =
       find_keeps p holder bin t (λ es w. Low w) (λ es a w. Low w)
       (plain_steps p t.marks holder bin Low (pop_low p) (push_low p) (λ b w. tls_low b holder w) (swept_low t.marks))

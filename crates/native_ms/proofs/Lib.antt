@@ -5,14 +5,15 @@ pub mod RecordsLaws
 pub mod SoundWalkLaws
 pub mod SoundLaws
 pub mod SoundTests
+pub mod Limits
 pub mod Lower
 pub mod Chains
 pub mod ShortWay
 pub mod Offsets
 pub mod Span
+pub mod Turns
 pub mod Window
 pub mod Reaches
-pub mod BlockWords
 pub mod ClassSizes
 pub mod Borders
 pub mod TakeCell
@@ -23,7 +24,6 @@ pub mod Ending
 pub mod Abandoned
 pub mod Releases
 pub mod EagerLaws
-pub mod EagerTables
 pub mod SpaceCalls
 pub mod AllocCall
 pub mod SoundLent

@@ -1,5 +1,5 @@
 -- Blocks counted and appended, one law for each way out. Plain values alone stand here. Assumes nothing.
-use Prim.Native.Nat.{ℕ, zero, suc, ◌+◌, ◌-◌, ◌<◌, ◌≤◌}
+use Prim.Native.Nat.{ℕ, zero, suc, ◌+◌, ◌≤◌}
 use mathlib.Core.Path.{◌≡◌, refl, sym, ap, ◌∙◌}
 use mathlib.Core.Bool.{Bool, true, false}
 use mathlib.Core.List.{List}
@@ -34,14 +34,12 @@ module _ (p : Params) (next : List ℕ) (n a : ℕ) where
   count_stop zero h = omega arith
   count_stop (suc k) h = rw (eq-eqb a 0 h) (omega arith)
 
-  pub count_step : (k : ℕ) {i x : ℕ} → 0 < k → (a ≡ 0 → ⊥) → i ≡ block_at p a → x ≡ get_or next i 0
-      → n + 1 + length (walk (k - 1) p next x) ≡ n + length (walk k p next a)
+  pub count_step : {k j i x : ℕ} → k ≡ suc j → (a ≡ 0 → ⊥) → i ≡ block_at p a → x ≡ get_or next i 0
+      → n + 1 + length (walk j p next x) ≡ n + length (walk k p next a)
   unfolding walk
-  count_step zero s h ei ex = absurd (not-suc-le-zero s)
-  count_step (suc k) {i} {x} s h ei ex =
-      let d : suc k - 1 ≡ k = omega arith in
-      let m : n + 1 + length (walk k p next x) ≡ n + suc (length (walk k p next x)) = omega arith in
-      rw (d, ne_eqb a 0 h, ← ei, ← ex) m
+  count_step {k} {j} {i} {x} ek h ei ex =
+      let m : n + 1 + length (walk j p next x) ≡ n + suc (length (walk j p next x)) = omega arith in
+      rw (ek, ne_eqb a 0 h, ← ei, ← ex) m
 
 -- ---- one append
 
@@ -128,9 +126,6 @@ module _ (p : Params) (to from : ℕ) (t : Words) where
 
       number : n + m ≡ abandoned_bin p to from bin (each_below bin (abandon_bin p to from) t) + sum_below bin (λ k. abandoned_bin p to from k (each_below k (abandon_bin p to from) t))
       number = let sum : n ≡ sum_below bin (λ k. abandoned_bin p to from k (each_below k (abandon_bin p to from) t)) = ap (λ (x : Moved). x.number) e in omega (arith, here)
-
-  pub over_end : (bin : ℕ) {q : Moved} → bin ≤ 49 → 49 ≤ bin → q ≡ bins_move bin p to from t → q ≡ bins_move 49 p to from t
-  over_end bin h l e = let s : bin ≡ 49 = omega arith in e ∙ ap (λ (k : ℕ). bins_move k p to from t) s
 
   pub over_words : {n : ℕ} {u : Words} → moved n u ≡ bins_move 49 p to from t → u ≡ abandon_blocks p to from t
   unfolding bins_move abandon_blocks

@@ -4,7 +4,7 @@ use Prim.Native.Nat.{ℕ, suc, ◌+◌, ◌-◌, ◌*◌, ◌/◌, ◌%◌, ◌^
 use mathlib.Core.Path.{◌≡◌, refl, sym, ap, ◌∙◌}
 use mathlib.Core.Bool.{Bool, true, false, ◌||◌}
 use mathlib.Core.List.{List, ◌∷◌, head_d}
-use native.Mathlib.Nat.{mul-le-mul_left, mul-le-mul_right, suc-mul, add-mul, div-mul-le_self, mul-mod_left, add-mul-mod_self_left}
+use native.Mathlib.Nat.{mul-le-mul_left, mul-le-mul_right, suc-mul, add-mul, div-mul-le_self, mul-mod_left, add-mul-mod_self_left, mul_assoc, mul_comm}
 use native.Mathlib.Omega.{arith}
 use native.Mathlib.Decide.{dec_lt}
 use lib.Bits.{bit_and, and_mask}
@@ -12,8 +12,7 @@ use lib.Dec.{eqb}
 use lib.ListN.{length, get_or, get_or-eq_default}
 use Rattle.model.specs.declared.Params.{Params}
 use Rattle.model.specs.Base.{any_below}
-use Rattle.model.specs.Params.{heap_bytes, in_heap, word_count, start, biased, plus_lower}
-use Rattle.model.specs.SizeClasses.{words_in}
+use Rattle.model.specs.Params.{heap_bytes, in_heap, word_count, start, biased}
 use Rattle.model.specs.Tables.{Words, set_free, set_size, set_tls, set_cells}
 use Rattle.model.specs.Memory.{store, bytes_of, overwrite, bit_of, marked}
 use Rattle.model.specs.Block.{cells_down, link_all, cell_count, init_block, init_chain}
@@ -23,7 +22,7 @@ use Rattle.laws.proofs.Marks.{heap_lines, marked_inside}
 use Rattle.laws.proofs.Cells.{cells_down_kept, cells_down_freed, length_all}
 use Rattle.native_ms.specs.Block.{kept_by, Linked, Built, Initialised, SweptBy}
 use Rattle.native_ms.specs.Bits.{bit_at, any_bit, Run}
-use Rattle.native_ms.specs.Places.{Known, WholeWords, Standing, Sweepable, Places, Inside, ByBits, Extends, Reach}
+use Rattle.native_ms.specs.Places.{Known, WholeWords, Standing, Sweepable, Places, Inside, ByBits, Extends, Reach, Tells}
 
 pub test_by_mask : (v i : ℕ) → eqb (bit_and (v / 2 ^ i) 1) 1 ≡ bit_of v i
 unfolding bit_of
@@ -60,85 +59,7 @@ pub few_cells : (p : Params) {heap at s n : ℕ} → Places p heap at s n → n 
 unfolding heap_bytes
 few_cells p {heap} {at} {s} {n} r = omega (arith, mul-le-mul_left n r.word, r.fits, r.whole, (good_bounds p r.good).heap_high)
 
--- linked so far: k of the n cells were looked at, the next is at the offset o, and h is what the heap h₀ became
-pub record Linking (p : Params) (kept : ℕ → Bool) (at s n k : ℕ) (h₀ : List ℕ) (o last : ℕ) (h : List ℕ) : Type 0 where
-  pub done : k ≤ n
-  pub here : o ≡ at + k * s
-  pub same : length h ≡ length h₀
-  pub linked : Linked p (cells_down kept (p.base + at) s k) h₀ last h
-
-pub linking_start : (p : Params) (kept : ℕ → Bool) (at s n : ℕ) (h : List ℕ) → Linking p kept at s n 0 h at 0 h
-unfolding cells_down head_d link_all
-linking_start p kept at s n h =
-    record { done = omega arith; here = omega arith; same = refl; linked = record { head = refl; heap = refl } }
-
-module _ (p : Params) (kept : ℕ → Bool) (at s n k : ℕ) (h₀ : List ℕ) (o last : ℕ) (h : List ℕ)
-    (r : Linking p kept at s n k h₀ o last h) (lt : k < n) where
-  address : p.base + o ≡ (p.base + at) + k * s
-  address = omega (arith, r.here)
-
-  pub linking_kept : kept (p.base + o) ≡ true → Linking p kept at s n (k + 1) h₀ (o + s) last h
-  linking_kept e =
-      let c : cells_down kept (p.base + at) s k ≡ cells_down kept (p.base + at) s (k + 1) = cells_down_kept kept (p.base + at) s k address e in
-      record {
-        done = omega arith;
-        here = omega (arith, r.here);
-        same = r.same;
-        linked = record { head = r.linked.head ∙ ap (λ (l : List ℕ). head_d l 0) c; heap = r.linked.heap ∙ ap (λ (l : List ℕ). link_all p l h₀) c };
-      }
-
-  pub linking_freed : {h₁ : List ℕ} → kept (p.base + o) ≡ false → h₁ ≡ overwrite o (bytes_of 8 last) h
-      → Linking p kept at s n (k + 1) h₀ (o + s) (p.base + o) h₁
-  unfolding head_d link_all
-  linking_freed {h₁} e w =
-      let st : h₁ ≡ store p h (p.base + o) last = w ∙ store_at p h o last in
-      let c : ((p.base + o) ∷ cells_down kept (p.base + at) s k) ≡ cells_down kept (p.base + at) s (k + 1) = cells_down_freed kept (p.base + at) s k address e in
-      record {
-        done = omega arith;
-        here = omega (arith, r.here);
-        same = ap length st ∙ length_store p h (p.base + o) last ∙ r.same;
-        linked = record {
-          head = ap (λ (l : List ℕ). head_d l 0) c;
-          heap = st ∙ (λ i. store p (r.linked.heap i) (p.base + o) (r.linked.head i)) ∙ ap (λ (l : List ℕ). link_all p l h₀) c;
-        };
-      }
-
-pub linking_end : (p : Params) (kept : ℕ → Bool) (at s n k : ℕ) (h₀ : List ℕ) (o last : ℕ) (h : List ℕ)
-    → Linking p kept at s n k h₀ o last h → n ≤ k → Linked p (cells_down kept (p.base + at) s n) h₀ last h
-linking_end p kept at s n k h₀ o last h r le =
-    let e : k ≡ n = omega (arith, r.done) in
-    rw (← e) r.linked
-
--- ---- a chain that goes on, by mark bits
-
-pub record phase_running (p : Params) (ms : List ℕ) (s at n first count last₀ : ℕ) (h₀ : List ℕ) (k o g last linked : ℕ) (h : List ℕ) : Type 0 where
-  pub done : k ≤ n
-  pub here : o ≡ at + k * s
-  pub bit : 8 * g + at ≡ o + 8 * first
-  pub same : length h ≡ length h₀
-  pub few : linked ≤ k
-  pub on : (kept : ℕ → Bool) → ByBits p ms kept s at (at + n * s) first count → Extends p kept s at k last₀ h₀ last linked h
-
--- by no cell
-extends_none : (p : Params) (kept : ℕ → Bool) (s at last : ℕ) (h : List ℕ) → Extends p kept s at 0 last h last 0 h
-extends_none p kept s at last h =
-    record {
-      on = λ from k h₀ e l. let z : k + 0 ≡ k = omega arith in rw z l;
-      few = omega arith;
-      counted = λ from k e. let z : k + 0 ≡ k = omega arith in rw z (omega arith);
-    }
-
-pub running_start : (p : Params) (ms : List ℕ) (s at n first count last : ℕ) (h : List ℕ)
-    → phase_running p ms s at n first count last h 0 at first last 0 h
-running_start p ms s at n first count last h =
-    record {
-      done = omega arith;
-      here = omega arith;
-      bit = omega arith;
-      same = refl;
-      few = omega arith;
-      on = λ kept b. extends_none p kept s at last h;
-    }
+-- ---- a chain that goes on
 
 -- where the cell with the number k from `at` on stands, from the chain's first cell on
 cell_stands : (base at from j k s o : ℕ) → from + j * s ≡ base + at → o ≡ at + k * s → base + o ≡ from + (j + k) * s
@@ -184,107 +105,43 @@ module _ (p : Params) (kept : ℕ → Bool) (s at last₀ : ℕ) (h₀ : List �
 step_in : (k n s : ℕ) → k < n → k * s + s ≤ n * s
 step_in k n s l = omega (arith, mul-le-mul_right {m = suc k} {n = n} s l, suc-mul k s)
 
-module _ (p : Params) (ms : List ℕ) (s at n first count last₀ : ℕ) (h₀ : List ℕ) (k o g last linked : ℕ) (h : List ℕ)
-    (r : phase_running p ms s at n first count last₀ h₀ k o g last linked h) (lt : k < n) (aligned : s % 8 ≡ 0) where
-  next_bit : 8 * (g + s / 8) + at ≡ (o + s) + 8 * first
-  next_bit = omega (arith, r.bit, aligned)
-
-  next_here : o + s ≡ at + (k + 1) * s
-  next_here = omega (arith, r.here, suc-mul k s, next_suc)
-    where
-      next_suc : (k + 1) * s ≡ suc k * s
-      next_suc = let e : k + 1 ≡ suc k = omega arith in rw e
-
-  read : (kept : ℕ → Bool) → ByBits p ms kept s at (at + n * s) first count → {t : Bool} → any_bit ms g count ≡ t → kept (p.base + o) ≡ t
-  read kept b e = b.by o g (omega (arith, r.here)) (omega (arith, r.here, step_in k n s lt)) r.bit ∙ e
-
-  pub running_kept : any_bit ms g count ≡ true → phase_running p ms s at n first count last₀ h₀ (k + 1) (o + s) (g + s / 8) last linked h
-  running_kept e =
-      record {
-        done = omega arith;
-        here = next_here;
-        bit = next_bit;
-        same = r.same;
-        few = omega (arith, r.few);
-        on = λ kept b. extends_kept p kept s at last₀ h₀ k o last linked h r.here (r.on kept b) (read kept b e);
-      }
-
-  pub running_freed : {h₂ : List ℕ} → any_bit ms g count ≡ false → h₂ ≡ overwrite o (bytes_of 8 last) h
-      → phase_running p ms s at n first count last₀ h₀ (k + 1) (o + s) (g + s / 8) (p.base + o) (linked + 1) h₂
-  running_freed {h₂} e w =
-      let st : h₂ ≡ store p h (p.base + o) last = w ∙ store_at p h o last in
-      record {
-        done = omega arith;
-        here = next_here;
-        bit = next_bit;
-        same = ap length st ∙ length_store p h (p.base + o) last ∙ r.same;
-        few = omega (arith, r.few);
-        on = λ kept b. extends_freed p kept s at last₀ h₀ k o last linked h r.here (r.on kept b) (read kept b e) st;
-      }
-
-pub running_end : (p : Params) (ms : List ℕ) (s at n first count last₀ : ℕ) (h₀ : List ℕ) (k o g last linked : ℕ) (h : List ℕ)
-    → phase_running p ms s at n first count last₀ h₀ k o g last linked h → n ≤ k
-    → (kept : ℕ → Bool) → ByBits p ms kept s at (at + n * s) first count → Extends p kept s at n last₀ h₀ last linked h
-running_end p ms s at n first count last₀ h₀ k o g last linked h r le kept b =
-    let e : k ≡ n = omega (arith, r.done) in
-    rw e at (r.on kept b)
-
--- cells of eight words: their bits lie alike in their bytes
-pub eight_words : {s : ℕ} → s ≡ 64 → s / 8 ≡ 8
-eight_words e = omega (arith, e)
-
-pub alike : (at k o g first : ℕ) {s : ℕ} → s ≡ 64 → o ≡ at + k * s → 8 * g + at ≡ o + 8 * first → g % 8 ≡ first % 8
-alike at k o g first {s} e here bit =
-    let d : k * s ≡ k * 64 = ap (λ (x : ℕ). k * x) e in
-    let q : g ≡ first + 8 * k = omega (arith, d, here, bit) in
-    ap (λ (x : ℕ). x % 8) q ∙ add-mul-mod_self_left first 8 k
-
-pub stepped_on : {p : Params} {ms : List ℕ} {s at n first count last₀ : ℕ} {h₀ : List ℕ} {k o last linked : ℕ} {h : List ℕ} (g : ℕ) → s ≡ 64
-    → phase_running p ms s at n first count last₀ h₀ k o (g + s / 8) last linked h → phase_running p ms s at n first count last₀ h₀ k o (g + 8) last linked h
-stepped_on g e r = rw (eight_words e) at r
-
--- the same with no bits: by what is kept
-
-pub record Walking (p : Params) (kept : ℕ → Bool) (s at n last₀ : ℕ) (h₀ : List ℕ) (k o last linked : ℕ) (h : List ℕ) : Type 0 where
-  pub done : k ≤ n
-  pub here : o ≡ at + k * s
-  pub same : length h ≡ length h₀
-  pub on : Extends p kept s at k last₀ h₀ last linked h
-
-pub walking_start : (p : Params) (kept : ℕ → Bool) (s at n last : ℕ) (h : List ℕ) → Walking p kept s at n last h 0 at last 0 h
-walking_start p kept s at n last h =
-    record { done = omega arith; here = omega arith; same = refl; on = extends_none p kept s at last h }
-
 next_stands : (at k s o : ℕ) → o ≡ at + k * s → o + s ≡ at + (k + 1) * s
 next_stands at k s o e = let z : k + 1 ≡ suc k = omega arith in rw z (omega (arith, e, suc-mul k s))
 
-module _ (p : Params) (kept : ℕ → Bool) (s at n last₀ : ℕ) (h₀ : List ℕ) (k o last linked : ℕ) (h : List ℕ)
-    (r : Walking p kept s at n last₀ h₀ k o last linked h) (lt : k < n) where
-  pub walking_kept : kept (p.base + o) ≡ true → Walking p kept s at n last₀ h₀ (k + 1) (o + s) last linked h
+-- linked so far: k of the cells were asked about, and those that aren't kept are on the chain; the next is at o, and its first bit is g
+pub record Walking (p : Params) (says : ℕ → ℕ → Bool → Type 0) (s at n first last₀ : ℕ) (h₀ : List ℕ) (k o g last linked : ℕ) (h : List ℕ) : Type 0 where
+  pub here : o ≡ at + k * s
+  pub bit : g ≡ first + k * (s / 8)
+  pub same : length h ≡ length h₀
+  pub few : linked ≤ k
+  pub on : (kept : ℕ → Bool) → Tells p says kept s at n first → Extends p kept s at k last₀ h₀ last linked h
+
+module _ (p : Params) (says : ℕ → ℕ → Bool → Type 0) (s at n first last₀ : ℕ) (h₀ : List ℕ) (k o g last linked : ℕ) (h : List ℕ)
+    (r : Walking p says s at n first last₀ h₀ k o g last linked h) (lt : k < n) {t : Bool} (q : says o g t) where
+  told_next : (kept : ℕ → Bool) → Tells p says kept s at n first → kept (p.base + o) ≡ t
+  told_next kept b = rw r.here (b.told k t lt (rw (r.here, r.bit) at q))
+
+  pub walking_kept : t ≡ true → Walking p says s at n first last₀ h₀ (k + 1) (o + s) (g + s / 8) last linked h
   walking_kept e =
       record {
-        done = omega arith;
         here = next_stands at k s o r.here;
+        bit = next_stands first k (s / 8) g r.bit;
         same = r.same;
-        on = extends_kept p kept s at last₀ h₀ k o last linked h r.here r.on e;
+        few = omega (arith, r.few);
+        on = λ kept b. extends_kept p kept s at last₀ h₀ k o last linked h r.here (r.on kept b) (told_next kept b ∙ e);
       }
 
-  pub walking_freed : {h₂ : List ℕ} → kept (p.base + o) ≡ false → h₂ ≡ overwrite o (bytes_of 8 last) h
-      → Walking p kept s at n last₀ h₀ (k + 1) (o + s) (p.base + o) (linked + 1) h₂
+  pub walking_freed : {h₂ : List ℕ} → t ≡ false → h₂ ≡ overwrite o (bytes_of 8 last) h
+      → Walking p says s at n first last₀ h₀ (k + 1) (o + s) (g + s / 8) (p.base + o) (linked + 1) h₂
   walking_freed {h₂} e w =
       let st : h₂ ≡ store p h (p.base + o) last = w ∙ store_at p h o last in
       record {
-        done = omega arith;
         here = next_stands at k s o r.here;
+        bit = next_stands first k (s / 8) g r.bit;
         same = ap length st ∙ length_store p h (p.base + o) last ∙ r.same;
-        on = extends_freed p kept s at last₀ h₀ k o last linked h r.here r.on e st;
+        few = omega (arith, r.few);
+        on = λ kept b. extends_freed p kept s at last₀ h₀ k o last linked h r.here (r.on kept b) (told_next kept b ∙ e) st;
       }
-
-pub walking_end : (p : Params) (kept : ℕ → Bool) (s at n last₀ : ℕ) (h₀ : List ℕ) (k o last linked : ℕ) (h : List ℕ)
-    → Walking p kept s at n last₀ h₀ k o last linked h → n ≤ k → Extends p kept s at n last₀ h₀ last linked h
-walking_end p kept s at n last₀ h₀ k o last linked h r le =
-    let e : k ≡ n = omega (arith, r.done) in
-    rw e at r.on
 
 -- a chain that goes on twice
 pub extends_twice : (p : Params) (kept : ℕ → Bool) (s at a b : ℕ) {l₀ l₁ l₂ c₁ c₂ : ℕ} {h₀ h₁ h₂ : List ℕ} → Extends p kept s at a l₀ h₀ l₁ c₁ h₁
@@ -315,13 +172,18 @@ extends_all p kept s at n h x =
 
 -- ---- the bits of the cells
 
-module _ (p : Params) {marks heap at s n first : ℕ} (r : Inside p marks heap at s n first) (k g : ℕ) {o : ℕ} (l : k < n)
-    (here : o ≡ at + k * s) (bit : 8 * g + at ≡ o + 8 * first) where
-  -- the cell's bits end in the heap
-  pub bits_end : 8 * g + s ≤ heap
-  bits_end = omega (arith, step_in k n s l, here, bit, r.ends)
+-- the k-th cell's first mark bit
+bit_stands : (k s : ℕ) → s % 8 ≡ 0 → 8 * (k * (s / 8)) ≡ k * s
+bit_stands k s e =
+    let w : 8 * (s / 8) ≡ s = omega (arith, e) in
+    omega (arith, mul_assoc k 8 (s / 8), mul_comm k 8, mul_assoc 8 k (s / 8), ap (λ (x : ℕ). k * x) w)
 
-  pub run : Run marks g (s / 8)
+module _ (p : Params) {marks heap at s n first : ℕ} (r : Inside p marks heap at s n first) (k : ℕ) (l : k < n) where
+  -- the cell's bits end in the heap
+  bits_end : 8 * (first + k * (s / 8)) + s ≤ heap
+  bits_end = omega (arith, step_in k n s l, bit_stands k s r.aligned, r.ends)
+
+  pub run : Run marks (first + k * (s / 8)) (s / 8)
   unfolding heap_bytes
   run =
       let b : Bounds p = good_bounds p r.cells.good in
@@ -331,8 +193,20 @@ module _ (p : Params) {marks heap at s n first : ℕ} (r : Inside p marks heap a
         low = omega (arith, bits_end, r.cells.whole, b.heap_high);
       }
 
-  pub bit_there : g / 8 < marks
+  pub bit_there : (first + k * (s / 8)) / 8 < marks
   bit_there = omega (arith, run.fits, run.some)
+
+  -- whether the bits keep it
+  pub told_by : {ms : List ℕ} {kept : ℕ → Bool} {count : ℕ} → ByBits p ms kept s at (at + n * s) first count
+      → kept (p.base + (at + k * s)) ≡ any_bit ms (first + k * (s / 8)) count
+  told_by b = b.by (at + k * s) (first + k * (s / 8)) (omega arith) (omega (arith, step_in k n s l)) (omega (arith, bit_stands k s r.aligned))
+
+  -- of eight words: the bits lie alike in their bytes
+  pub alike : s ≡ 64 → (first + k * (s / 8)) % 8 ≡ first % 8
+  alike e =
+      let w : s / 8 ≡ 8 = omega (arith, e) in
+      let q : first + k * (s / 8) ≡ first + 8 * k = rw w (omega (arith, mul_comm k 8)) in
+      ap (λ (x : ℕ). x % 8) q ∙ add-mul-mod_self_left first 8 k
 
 pub one_bit : (ms : List ℕ) (g : ℕ) {t : Bool} → t ≡ bit_of (get_or ms (g / 8) 0) (g % 8) → any_bit ms g 1 ≡ t
 unfolding any_bit any_below bit_at
@@ -342,13 +216,10 @@ one_bit ms g e = let z : g + 0 ≡ g = omega arith in rw z (or_false _ ∙ sym e
     or_false true = refl
     or_false false = refl
 
--- cells of one word have one bit
-pub one_word : (p : Params) {ms : List ℕ} {kept : ℕ → Bool} {s at end first : ℕ} → s ≡ 8 → ByBits p ms kept s at end first (s / 8) → ByBits p ms kept s at end first 1
-one_word p {ms} {kept} {s} {at} {end} {first} e b = let z : s / 8 ≡ 1 = omega (arith, e) in record { by = λ o g l h q. rw z at (b.by o g l h q) }
-
-pub kept_brute : (p : Params) (ms : List ℕ) (s a : ℕ) {t : Bool} → t ≡ any_below (words_in s) (λ k. marked p ms (plus_lower p (a + 8 * k))) → kept_by false p ms s a ≡ t
-unfolding kept_by
-kept_brute p ms s a e = sym e
+-- cells of w words have as many bits
+pub words_are : (p : Params) {ms : List ℕ} {kept : ℕ → Bool} {s at end first : ℕ} (w : ℕ) → s ≡ 8 * w → ByBits p ms kept s at end first (s / 8)
+    → ByBits p ms kept s at end first w
+words_are p {ms} {kept} {s} {at} {end} {first} w e b = let z : s / 8 ≡ w = omega (arith, e) in record { by = λ o g l h q. rw z at (b.by o g l h q) }
 
 -- the mark at a cell's start
 pub by_start : (p : Params) (ms : List ℕ) (heap s at n : ℕ) → Places p heap at s n → at % 8 ≡ 0
@@ -408,12 +279,6 @@ module _ (p : Params) {words heap b : ℕ} (r : Standing p words heap b) where
 -- what is lent has the same lengths further on
 pub known_on : (p : Params) {w m h w₁ h₁ : ℕ} → Known p w m h → w₁ ≡ w → h₁ ≡ h → Known p w₁ m h₁
 known_on p k ew eh = record { good = k.good; count = ew ∙ k.count; lines = k.lines; whole = eh ∙ k.whole }
-
-pub known_standing : (p : Params) {w m h w₁ h₁ : ℕ} (b : ℕ) → Known p w m h → w₁ ≡ w → h₁ ≡ h → b < p.blocks → Standing p w₁ h₁ b
-known_standing p b k ew eh l = record { good = k.good; count = ew ∙ k.count; whole = eh ∙ k.whole; block = l }
-
-pub standing_on : (p : Params) {w h w₁ b : ℕ} → Standing p w h b → w₁ ≡ w → Standing p w₁ h b
-standing_on p s ew = record { good = s.good; count = ew ∙ s.count; whole = s.whole; block = s.block }
 
 -- the count of words, as the words of a block ask for it
 pub words_known : (p : Params) {words : ℕ} → words ≡ word_count p → words ≡ 2958 + 7 * p.blocks

@@ -1,5 +1,6 @@
 -- The raised size as the code answers it: what it is where a block holds it, and else that it is too big. And the shifted
 -- address: what it is in the ranges of a request, and else that it is off.
+use Rattle.std.specs.Prelude.{Some, None}
 use Prim.Native.Nat.{ℕ, ◌+◌, ◌-◌, ◌%◌, ◌^◌, ◌<◌, ◌≤◌}
 use mathlib.Core.Path.{◌≡◌, sym, ◌∙◌}
 use mathlib.Core.Bool.{Bool, true, false}
@@ -13,40 +14,38 @@ use Rattle.model.specs.declared.Params.{Params}
 use Rattle.model.specs.SizeClasses.{raised, shift, align_allocation}
 use Rattle.model.specs.Calls.{too_big}
 use Rattle.laws.proofs.Requests.{not_too_big}
-use Rattle.native_ms.specs.declared.allocator.Raised.TheVariants.{Fits, TooBig}
-use Rattle.native_ms.specs.declared.allocator.Shifted.TheVariants.{At, Off}
 use Rattle.native_ms.specs.Raised.{raised_to, shifted_to}
 
 module _ (p : Params) (size align : ℕ) where
-  pub raised_past : too_big p size align ≡ true → TooBig ≡ raised_to p size align
+  pub raised_past : too_big p size align ≡ true → None ≡ raised_to p size align
   unfolding raised_to
   raised_past e = rw e
 
-  pub raised_in : {r : ℕ} → r ≡ raised p size align → r ≤ p.bytes → Fits r ≡ raised_to p size align
+  pub raised_in : {r : ℕ} → r ≡ raised p size align → r ≤ p.bytes → Some r ≡ raised_to p size align
   unfolding raised_to
   raised_in e h = rw (not_too_big p size align e h, e)
 
 module _ (region align offset : ℕ) where
-  pub shifted_none : align < 1 → Off ≡ shifted_to region align offset
+  pub shifted_none : align < 1 → None ≡ shifted_to region align offset
   unfolding shifted_to
   shifted_none h = rw (lt-leb 1 align h)
 
   module _ (a : 1 ≤ align) where
-    pub shifted_wide : 64 < align → Off ≡ shifted_to region align offset
+    pub shifted_wide : 64 < align → None ≡ shifted_to region align offset
     unfolding shifted_to
     shifted_wide h = rw (le-leb 1 align a, lt-leb align 64 h)
 
     module _ (b : align ≤ 64) where
-      pub shifted_far : 2 ^ 47 ≤ region → Off ≡ shifted_to region align offset
+      pub shifted_far : 2 ^ 47 ≤ region → None ≡ shifted_to region align offset
       unfolding shifted_to
       shifted_far h = rw (le-leb 1 align a, le-leb align 64 b, le-ltb region (2 ^ 47) h)
 
       module _ (c : region < 2 ^ 47) where
-        pub shifted_off : 65536 < offset → Off ≡ shifted_to region align offset
+        pub shifted_off : 65536 < offset → None ≡ shifted_to region align offset
         unfolding shifted_to
         shifted_off h = rw (le-leb 1 align a, le-leb align 64 b, lt-ltb region (2 ^ 47) c, lt-leb offset 65536 h)
 
-        pub shifted_at : {r : Address} → offset ≤ 65536 → r.0 ≡ align_allocation region align offset → At r ≡ shifted_to region align offset
+        pub shifted_at : {r : Address} → offset ≤ 65536 → r.0 ≡ align_allocation region align offset → Some r ≡ shifted_to region align offset
         unfolding shifted_to
         shifted_at h e = rw (le-leb 1 align a, le-leb align 64 b, lt-ltb region (2 ^ 47) c, le-leb offset 65536 h, ← e)
 

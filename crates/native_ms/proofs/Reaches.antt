@@ -56,9 +56,6 @@ module _ (p : Params) {marks heap at s n up : ℕ} (r : Reach p marks heap at s 
   some_places k l =
       record { good = r.cells.good; whole = r.cells.whole; word = r.cells.word; fits = omega (arith, r.cells.fits, mul-le-mul_right {m = k} {n = n} s l) }
 
-  pub some_fits : (k : ℕ) → k ≤ n → at + k * s ≤ 67109000
-  some_fits k l = omega (arith, (some_places k l).fits, reach_low.whole)
-
   -- and the others
   rest_is : (k : ℕ) → k ≤ n → k * s + (n - k) * s ≡ n * s
   rest_is k l = let z : k + (n - k) ≡ n = omega (arith, l) in sym (add-mul k (n - k) s) ∙ ap (λ (x : ℕ). x * s) z

@@ -1,20 +1,15 @@
 -- "push, pop, remove and append change a list record the caller lends (first, last, cell size)": a record and the words that
 -- hold its ends at the number of its list.
 use Prim.Native.Nat.{ℕ}
-use mathlib.Core.Path.{◌≡◌, ap, ◌∙◌, subst}
-use mathlib.Core.List.{List}
-use lib.ListN.{length, get_or, length-map, get_or-map}
+use mathlib.Core.Path.{◌≡◌, ap, ◌∙◌}
+use lib.ListN.{get_or}
 use Rattle.model.specs.declared.Address.{Address}
 use Rattle.model.specs.declared.Params.{Params}
-use Rattle.model.specs.Tables.{Words, view, set_first, set_last}
+use Rattle.model.specs.Tables.{Words, set_first, set_last}
 use Rattle.model.specs.BlockList.{Popped, popped, pop}
-use Rattle.model.specs.Calls.{pages}
 use Rattle.native_ms.specs.declared.block_list.BlockList.{BlockList}
-use Rattle.native_ms.specs.declared.block_list.Counted.{Counted}
-use Rattle.native_ms.specs.Counted.{counted_bins, set_fits, bins_in, pages_said}
-use Rattle.native_ms.proofs.CountedLaws.{pages_said_lem}
 use Rattle.native_ms.specs.Moved.{Moved, moved, append_moves}
-use Rattle.native_ms.specs.Records.{append_on, append_both, firsts, beside, beside_both, beside_popped, on_record, pop_on, record_at, with_record}
+use Rattle.native_ms.specs.Records.{append_on, append_both, beside, beside_both, beside_popped, on_record, pop_on, record_at, with_record}
 
 -- ---- the two, store by store and read by read
 
@@ -53,27 +48,3 @@ module _ (l : ℕ) (r : BlockList) (t : Words) {t₁ t₂ : Words} (e₁ : t₁ 
       let v : moved n t₃ ≡ append_both p l o r k t = e₃ ∙ ap (append_moves p l o) (e₂ ∙ ap (with_record o k) e₁) in
       λ i. beside_both ((e ∙ ap (λ (q : Moved). record_at l r.size q.words) v) i)
       ((e' ∙ ap (λ (q : Moved). record_at o k.size q.words) v) i) (v i)
-
--- ---- firsts, by number
-
--- the record of no list
-abbrev pub no_list : BlockList
-no_list = record { first = record { 0 = 0 }; last = record { 0 = 0 }; size = 0 }
-
-pub firsts_length : (rs : List BlockList) → length (firsts rs) ≡ length rs
-unfolding firsts
-firsts_length rs = length-map rs (λ (r : BlockList). r.first.0)
-
-pub firsts_at : (rs : List BlockList) (k : ℕ) → get_or (firsts rs) k 0 ≡ (get_or rs k no_list).first.0
-unfolding firsts
-firsts_at rs k = get_or-map (λ (r : BlockList). r.first.0) rs k no_list
-
--- the count of all bins of a set of records gives the answer
-pub records_said : (p : Params) (words : List ℕ) (rs : List BlockList) (c : Counted)
-    → c ≡ counted_bins (bins_in (set_fits p words (length rs))) p (view words).next (firsts rs) 0
-    → pages_said p (set_fits p words (length rs)) c ≡ pages p words (firsts rs)
-records_said p words rs c =
-    subst
-    (λ (n : ℕ). c ≡ counted_bins (bins_in (set_fits p words n)) p (view words).next (firsts rs) 0
-    → pages_said p (set_fits p words n) c ≡ pages p words (firsts rs))
-    (firsts_length rs) (pages_said_lem p words (firsts rs) c)

@@ -1,6 +1,6 @@
 -- Releases of blocks with their counts: what the code shows of the machine's events, one law for each way out. Assumes nothing.
 use Rattle.std.specs.Prelude.{if◌then◌else◌}
-use Prim.Native.Nat.{ℕ, zero, suc, ◌+◌, ◌-◌, ◌<◌, ◌≤◌}
+use Prim.Native.Nat.{ℕ, zero, suc, ◌+◌, ◌≤◌}
 use mathlib.Core.Path.{◌≡◌, refl, sym, ap, ◌∙◌}
 use mathlib.Core.Bool.{Bool, true, false}
 use mathlib.Core.List.{List, [], ◌∷◌, ◌++◌}
@@ -118,11 +118,8 @@ step_at p l a t s k n {b} {x} {r} {t₁} {s₁} h eb ex e =
     ap rest q ∙ ap (λ (m : ℕ). plus m (total (release_from k p l x t s))) (add-zero n)
     ∙ ap (λ (f : Freed). plus n (total f)) (sym (from_no p l a t s k h eb ex z)))
 
-pub from_step : (p : Params) (l a : ℕ) (t : Words) (s : List ℕ) (k n : ℕ) {b x r : ℕ} {t₁ : Words} {s₁ : List ℕ} → 0 < k → (a ≡ 0 → ⊥) → b ≡ block_at p a → x ≡ get_or t.next b 0 → out r t₁ s₁ ≡ attempt_release p l b t s → plus (n + r) (total (release_from (k - 1) p l x t₁ s₁)) ≡ plus n (total (release_from k p l a t s))
-from_step p l a t s zero n lk h eb ex e = absurd (not-suc-le-zero lk)
-from_step p l a t s (suc k) n {b} {x} {r} {t₁} {s₁} lk h eb ex e =
-    let d : suc k - 1 ≡ k = omega arith in
-    ap (λ (j : ℕ). plus (n + r) (total (release_from j p l x t₁ s₁))) d ∙ step_at p l a t s k n h eb ex e
+pub from_step : (p : Params) (l a : ℕ) (t : Words) (s : List ℕ) (n : ℕ) {k j b x r : ℕ} {t₁ : Words} {s₁ : List ℕ} → k ≡ suc j → (a ≡ 0 → ⊥) → b ≡ block_at p a → x ≡ get_or t.next b 0 → out r t₁ s₁ ≡ attempt_release p l b t s → plus (n + r) (total (release_from j p l x t₁ s₁)) ≡ plus n (total (release_from k p l a t s))
+from_step p l a t s n {j = j} ek h eb ex e = rw ek (step_at p l a t s j n h eb ex e)
 
 -- the walk starts at the list's first block
 pub from_at : (p : Params) (l : ℕ) (t : Words) (s : List ℕ) {a : ℕ} → a ≡ get_or t.first l 0 → total (release_from p.blocks p l a t s) ≡ total (release_from p.blocks p l (get_or t.first l 0) t s)
@@ -278,9 +275,6 @@ module _ (p : Params) (owner i : ℕ) (t₀ : Words) (s₀ : List ℕ) where
   unfolding released_bins each_below
   bins_more e q =
       rw (add-one i) (shows_next (release_bin p owner i) (each_below i (release_bin p owner) (freed t₀ s₀)) (appends_bin p owner i) e q)
-
-  pub bins_end : {o : Out} → i ≤ 49 → 49 ≤ i → o ≡ total (released_bins p owner i t₀ s₀) → o ≡ total (released_bins p owner 49 t₀ s₀)
-  bins_end l h e = let q : i ≡ 49 = omega arith in e ∙ ap (λ (k : ℕ). total (released_bins p owner k t₀ s₀)) q
 
 pub bins_none : (p : Params) (owner : ℕ) (t : Words) (s : List ℕ) → out 0 t s ≡ total (released_bins p owner 0 t s)
 unfolding released_bins each_below

@@ -1,11 +1,10 @@
 -- The laws of `run`: an entry read, a call made on what passed the first tests, answers laid one behind the other, and that what passed
 -- the first tests passes them again after each call. Leans on soundness (`sound_kept`); assumes nothing.
-use Rattle.std.specs.Prelude.{if◌then◌else◌}
+use Rattle.std.specs.Prelude.{if◌then◌else◌, Option, Some, None, Result, ⊤, Ok, Err}
 use Prim.Native.Nat.{ℕ, zero, suc, ◌+◌, ◌-◌, ◌*◌, ◌/◌, ◌%◌, ◌≤◌, ◌<◌}
 use mathlib.Core.Path.{◌≡◌, refl, sym, ap, ◌∙◌, subst}
 use mathlib.Core.Bool.{true}
 use mathlib.Core.List.{List, [], ◌∷◌, ◌++◌}
-use mathlib.Core.Option.{Option, some, none}
 use native.Mathlib.Nat.{not-suc-le-zero}
 use native.Mathlib.Omega.{arith}
 use lib.Dec.{eqb}
@@ -16,14 +15,12 @@ use Rattle.model.specs.declared.Said.{Said}
 use Rattle.model.specs.declared.Ask.{Ask}
 use Rattle.model.specs.declared.Refusal.{Refusal}
 use Rattle.model.specs.declared.Refusal.TheVariants.{BadSetup, BadLine}
-use Rattle.model.specs.declared.Tested.{Tested}
-use Rattle.model.specs.declared.Tested.TheVariants.{Passed, Refused}
 use Rattle.model.specs.Params.{Lent, fits}
 use Rattle.model.specs.Memory.{overwrite}
 use Rattle.model.specs.Tables.{tables_of, view}
 use Rattle.model.specs.Classes.{classes_fit}
 use Rattle.model.specs.Sound.{sound_on}
-use Rattle.model.specs.Calls.{Reply, answered, refused, Call, bind, destroy, alloc, prepare, mark, release, shared_release, Result, tables_in, and_then, call}
+use Rattle.model.specs.Calls.{Reply, answered, refused, Call, bind, destroy, alloc, prepare, mark, release, shared_release, Returned, tables_in, and_then, call}
 use Rattle.model.specs.Answers.{call_of, said_of, Outcome, outcome, outcome_of}
 use Rattle.model.specs.Promise.{lend}
 use Rattle.model.specs.Refusals.{SoundKept}
@@ -31,8 +28,6 @@ use Rattle.model.specs.Exports.{offered_by}
 use Rattle.model.specs.RunCalls.{call_at, made, said_words, words_of, RowRan, run_from, lists_fit, run_result, run_calls}
 use Rattle.laws.proofs.Memory.{overwrite_nil, overwrite_set}
 use Rattle.soundness.proofs.Kept.{sound_kept}
-use Rattle.native_ms.specs.declared.run.Entry.{Entry}
-use Rattle.native_ms.specs.declared.run.Entry.TheVariants as Entries
 use Rattle.native_ms.specs.Checked.{lent_tests}
 use Rattle.native_ms.specs.Ending.{Does}
 use Rattle.native_ms.specs.RunLoop.{entry_call, ran, laid, refused_reply, refused_from}
@@ -42,14 +37,14 @@ use Rattle.native_ms.proofs.Tests.{opened, lent_refused, lent_passed}
 
 abbrev call_by : List ℕ → ℕ → ℕ → Option Call
 call_by calls i kind =
-    if eqb kind 1 then some (bind (get_or calls (i + 1) 0))
-    else if eqb kind 2 then some (destroy (get_or calls (i + 1) 0))
-    else if eqb kind 3 then some (alloc (get_or calls (i + 1) 0) (get_or calls (i + 2) 0) (get_or calls (i + 3) 0) (get_or calls (i + 4) 0) (offered_by (get_or calls (i + 5) 0)))
-    else if eqb kind 4 then some prepare
-    else if eqb kind 5 then some (mark (get_or calls (i + 1) 0) (get_or calls (i + 2) 0))
-    else if eqb kind 6 then some (release (get_or calls (i + 1) 0))
-    else if eqb kind 7 then some shared_release
-    else none
+    if eqb kind 1 then Some (bind (get_or calls (i + 1) 0))
+    else if eqb kind 2 then Some (destroy (get_or calls (i + 1) 0))
+    else if eqb kind 3 then Some (alloc (get_or calls (i + 1) 0) (get_or calls (i + 2) 0) (get_or calls (i + 3) 0) (get_or calls (i + 4) 0) (offered_by (get_or calls (i + 5) 0)))
+    else if eqb kind 4 then Some prepare
+    else if eqb kind 5 then Some (mark (get_or calls (i + 1) 0) (get_or calls (i + 2) 0))
+    else if eqb kind 6 then Some (release (get_or calls (i + 1) 0))
+    else if eqb kind 7 then Some shared_release
+    else None
 
 pub kind_is : (calls : List ℕ) (i kind : ℕ) → get_or calls i 0 ≡ kind → call_by calls i kind ≡ call_at calls i
 unfolding call_at
@@ -57,18 +52,18 @@ kind_is calls i kind e = let z : i + 0 ≡ i = omega arith in rw (z, e)
 
 pub kind_none : (calls : List ℕ) (i : ℕ) {kind : ℕ} → get_or calls i 0 ≡ kind
     → (kind ≡ 1 → ⊥) → (kind ≡ 2 → ⊥) → (kind ≡ 3 → ⊥) → (kind ≡ 4 → ⊥) → (kind ≡ 5 → ⊥) → (kind ≡ 6 → ⊥) → (kind ≡ 7 → ⊥)
-    → none ≡ call_at calls i
+    → None ≡ call_at calls i
 kind_none calls i {kind} e a b c d f g h =
-    let q : none ≡ call_by calls i kind = rw (ne_eqb kind 1 a, ne_eqb kind 2 b, ne_eqb kind 3 c, ne_eqb kind 4 d, ne_eqb kind 5 f, ne_eqb kind 6 g, ne_eqb kind 7 h) in
+    let q : None ≡ call_by calls i kind = rw (ne_eqb kind 1 a, ne_eqb kind 2 b, ne_eqb kind 3 c, ne_eqb kind 4 d, ne_eqb kind 5 f, ne_eqb kind 6 g, ne_eqb kind 7 h) in
     q ∙ kind_is calls i kind e
 
 -- ---- a call on what passed the first tests
 
-same : {said : Said} {y : Reply} {l' : Lent} (x : Result) → said ≡ said_of y → y ≡ x.reply → l' ≡ x.lent → outcome said l' ≡ outcome_of x
+same : {said : Said} {y : Reply} {l' : Lent} (x : Returned) → said ≡ said_of y → y ≡ x.reply → l' ≡ x.lent → outcome said l' ≡ outcome_of x
 unfolding outcome_of
 same x f e g = λ i. outcome ((f ∙ ap said_of e) i) (g i)
 
-module _ (p : Params) (w s m h : List ℕ) (e : lent_tests p (lend w s m h) ≡ Passed) where
+module _ (p : Params) (w s m h : List ℕ) (e : lent_tests p (lend w s m h) ≡ Ok tt) where
   -- the call that the code found, its step and what is said of it
   pub call_made : {ask x : Ask} {said : Said} {y : Reply} {w' s' m' h' : List ℕ} → ask ≡ x → length w' ≡ length w
       → Does p (tables_of (view w) s m) h (call_of x) y (tables_of (view w') s' m') h' → said ≡ said_of y
@@ -80,12 +75,12 @@ module _ (p : Params) (w s m h : List ℕ) (e : lent_tests p (lend w s m h) ≡ 
 -- ---- an entry made
 
 module _ (p : Params) (l : Lent) where
-  pub entry_made : {entry : Entry} {ask : Ask} {o : Outcome} → entry ≡ Entries.Asks ask → o ≡ outcome_of (call p l (call_of ask))
+  pub entry_made : {entry : Option Ask} {ask : Ask} {o : Outcome} → entry ≡ Some ask → o ≡ outcome_of (call p l (call_of ask))
       → o ≡ outcome_of (made p l (entry_call entry))
   unfolding entry_call made
   entry_made e q = rw e q
 
-  pub entry_none : {entry : Entry} {said : Said} → entry ≡ Entries.Bad → said ≡ said_of (refused BadLine)
+  pub entry_none : {entry : Option Ask} {said : Said} → entry ≡ None → said ≡ said_of (refused BadLine)
       → outcome said l ≡ outcome_of (made p l (entry_call entry))
   unfolding entry_call made outcome_of
   entry_none e q = rw e (ap (λ (z : Said). outcome z l) q)
@@ -95,10 +90,10 @@ module _ (p : Params) (l : Lent) where
 made_sound : (p : Params) (l : Lent) (c : Option Call) → fits p l ≡ true → sound_on p (tables_in l) l.heap ≡ true
     → sound_on p (tables_in (made p l c).lent) (made p l c).lent.heap ≡ true
 unfolding made SoundKept
-made_sound p l (some c) f g = sound_kept p l c f g
-made_sound p l none f g = g
+made_sound p l (Some c) f g = sound_kept p l c f g
+made_sound p l None f g = g
 
-tests_passed : (p : Params) (l : Lent) → fits p l ≡ true → classes_fit p ≡ true → sound_on p (tables_in l) l.heap ≡ true → lent_tests p l ≡ Passed
+tests_passed : (p : Params) (l : Lent) → fits p l ≡ true → classes_fit p ≡ true → sound_on p (tables_in l) l.heap ≡ true → lent_tests p l ≡ Ok tt
 unfolding lent_tests and_then
 tests_passed p l f k g = rw (f, k, g)
 
@@ -107,14 +102,14 @@ fits_kept : (p : Params) (w s m h w' s' m' h' : List ℕ) → length w' ≡ leng
 unfolding fits
 fits_kept p w s m h w' s' m' h' a b c d f = rw (a, b, c, d) f
 
-lent_of : {said : Said} {l : Lent} (x : Result) → outcome said l ≡ outcome_of x → l ≡ x.lent
+lent_of : {said : Said} {l : Lent} (x : Returned) → outcome said l ≡ outcome_of x → l ≡ x.lent
 unfolding outcome_of
 lent_of x q = ap (λ (o : Outcome). o.lent) q
 
-module _ (p : Params) (w s m h : List ℕ) (e : lent_tests p (lend w s m h) ≡ Passed) where
+module _ (p : Params) (w s m h : List ℕ) (e : lent_tests p (lend w s m h) ≡ Ok tt) where
   pub passed_kept : (c : Option Call) {said : Said} {w' s' m' h' : List ℕ}
       → length w' ≡ length w → length s' ≡ length s → length m' ≡ length m → length h' ≡ length h
-      → outcome said (lend w' s' m' h') ≡ outcome_of (made p (lend w s m h) c) → lent_tests p (lend w' s' m' h') ≡ Passed
+      → outcome said (lend w' s' m' h') ≡ outcome_of (made p (lend w s m h) c) → lent_tests p (lend w' s' m' h') ≡ Ok tt
   passed_kept c {said} {w'} {s'} {m'} {h'} lw ls lm lh q =
       let o = opened p w s m h e in
       let g : sound_on p (tables_in (made p (lend w s m h) c).lent) (made p (lend w s m h) c).lent.heap ≡ true =
@@ -176,50 +171,52 @@ module _ (p : Params) (calls : List ℕ) where
       → laid (to + 5) (overwrite to (said_words said) answers) (run_from n p l' calls (from + 6)) ≡ laid to answers (run_from (suc n) p l calls from)
   unfolding laid run_from outcome_of
   round_suc n from to answers l {l'} {said} q =
-      let r : Result = made p l (call_at calls from) in
+      let r : Returned = made p l (call_at calls from) in
       let es : said ≡ said_of r.reply = ap (λ (o : Outcome). o.said) q in
       let el : l' ≡ r.lent = ap (λ (o : Outcome). o.lent) q in
       rw (el, es) (ap (λ (x : List ℕ). ran x (run_from n p r.lent calls (from + 6)).lent) (said_laid (said_of r.reply) (run_from n p r.lent calls (from + 6)).answers to answers))
 
-  pub round : (left from to : ℕ) (answers : List ℕ) (l : Lent) {l' : Lent} {answers' : List ℕ} {said : Said} → 0 < left
-      → outcome said l' ≡ outcome_of (made p l (call_at calls from)) → answers' ≡ overwrite to (said_words said) answers
-      → laid (to + 5) answers' (run_from (left - 1) p l' calls (from + 6)) ≡ laid to answers (run_from left p l calls from)
-  round zero from to answers l z q a = absurd (not-suc-le-zero z)
-  round (suc n) from to answers l z q a =
-      let k : suc n - 1 ≡ n = omega arith in
-      rw (k, a) (round_suc n from to answers l q)
+  pub round : (n i : ℕ) (answers : List ℕ) (l : Lent) {l' : Lent} {answers' : List ℕ} {said : Said} → i < n
+      → outcome said l' ≡ outcome_of (made p l (call_at calls (6 * i))) → answers' ≡ overwrite (5 * i) (said_words said) answers
+      → laid (5 * (i + 1)) answers' (run_from (n - (i + 1)) p l' calls (6 * (i + 1))) ≡ laid (5 * i) answers (run_from (n - i) p l calls (6 * i))
+  round n i answers l z q a =
+      let k : n - i ≡ suc (n - (i + 1)) = omega (arith, z) in
+      let f : 6 * (i + 1) ≡ 6 * i + 6 = omega arith in
+      let t : 5 * (i + 1) ≡ 5 * i + 5 = omega arith in
+      rw (k, f, t, a) (round_suc (n - (i + 1)) (6 * i) (5 * i) answers l q)
 
-  pub round_end : (left from to : ℕ) (answers : List ℕ) (l : Lent) → left ≤ 0 → laid to answers (run_from left p l calls from) ≡ ran answers l
+  pub round_end : (n i from to : ℕ) (answers : List ℕ) (l : Lent) → n ≤ i → laid to answers (run_from (n - i) p l calls from) ≡ ran answers l
   unfolding laid run_from
-  round_end zero from to answers l z = ap (λ (x : List ℕ). ran x l) (overwrite_nil to answers)
-  round_end (suc n) from to answers l z = absurd (not-suc-le-zero z)
+  round_end n i from to answers l z =
+      let k : n - i ≡ 0 = omega (arith, z) in
+      rw k (ap (λ (x : List ℕ). ran x l) (overwrite_nil to answers))
 
 -- ---- where the first tests refuse
 
-pub refuse_asks : (refusal : Refusal) {entry : Entry} {ask : Ask} {said : Said} → entry ≡ Entries.Asks ask → said ≡ said_of (refused refusal)
+pub refuse_asks : (refusal : Refusal) {entry : Option Ask} {ask : Ask} {said : Said} → entry ≡ Some ask → said ≡ said_of (refused refusal)
     → said ≡ said_of (refused_reply refusal (entry_call entry))
 unfolding entry_call refused_reply
 refuse_asks refusal e q = rw e q
 
-pub refuse_none : (refusal : Refusal) {entry : Entry} {said : Said} → entry ≡ Entries.Bad → said ≡ said_of (refused BadLine)
+pub refuse_none : (refusal : Refusal) {entry : Option Ask} {said : Said} → entry ≡ None → said ≡ said_of (refused BadLine)
     → said ≡ said_of (refused_reply refusal (entry_call entry))
 unfolding entry_call refused_reply
 refuse_none refusal e q = rw e q
 
 module _ (x : Refusal) (calls : List ℕ) where
-  pub refuse_round : (left from to : ℕ) (answers : List ℕ) {answers' : List ℕ} {said : Said} → 0 < left
-      → said ≡ said_of (refused_reply x (call_at calls from)) → answers' ≡ overwrite to (said_words said) answers
-      → overwrite (to + 5) (refused_from (left - 1) x calls (from + 6)) answers' ≡ overwrite to (refused_from left x calls from) answers
+  pub refuse_round : (n i : ℕ) (answers : List ℕ) {answers' : List ℕ} {said : Said} → i < n
+      → said ≡ said_of (refused_reply x (call_at calls (6 * i))) → answers' ≡ overwrite (5 * i) (said_words said) answers
+      → overwrite (5 * (i + 1)) (refused_from (n - (i + 1)) x calls (6 * (i + 1))) answers' ≡ overwrite (5 * i) (refused_from (n - i) x calls (6 * i)) answers
   unfolding refused_from
-  refuse_round zero from to answers z q a = absurd (not-suc-le-zero z)
-  refuse_round (suc n) from to answers z q a =
-      let k : suc n - 1 ≡ n = omega arith in
-      rw (k, a, q) (said_laid (said_of (refused_reply x (call_at calls from))) (refused_from n x calls (from + 6)) to answers)
+  refuse_round n i answers z q a =
+      let k : n - i ≡ suc (n - (i + 1)) = omega (arith, z) in
+      let f : 6 * (i + 1) ≡ 6 * i + 6 = omega arith in
+      let t : 5 * (i + 1) ≡ 5 * i + 5 = omega arith in
+      rw (k, f, t, a, q) (said_laid (said_of (refused_reply x (call_at calls (6 * i)))) (refused_from (n - (i + 1)) x calls (6 * i + 6)) (5 * i) answers)
 
-  pub refuse_end : (left from to : ℕ) (answers : List ℕ) → left ≤ 0 → overwrite to (refused_from left x calls from) answers ≡ answers
+  pub refuse_end : (n i from to : ℕ) (answers : List ℕ) → n ≤ i → overwrite to (refused_from (n - i) x calls from) answers ≡ answers
   unfolding refused_from
-  refuse_end zero from to answers z = overwrite_nil to answers
-  refuse_end (suc n) from to answers z = absurd (not-suc-le-zero z)
+  refuse_end n i from to answers z = let k : n - i ≡ 0 = omega (arith, z) in rw k (overwrite_nil to answers)
 
   length_refused : (n i : ℕ) → length (refused_from n x calls i) ≡ 5 * n
   unfolding refused_from
@@ -228,13 +225,13 @@ module _ (x : Refusal) (calls : List ℕ) where
       let said : Said = said_of (refused_reply x (call_at calls i)) in
       length-append (said_words said) (refused_from n x calls (i + 6)) ∙ omega (arith, length_said said, length_refused n (i + 6))
 
-  module _ (p : Params) (w s m h : List ℕ) (e : lent_tests p (lend w s m h) ≡ Refused x) where
+  module _ (p : Params) (w s m h : List ℕ) (e : lent_tests p (lend w s m h) ≡ Err x) where
     made_refused : (c : Option Call) → made p (lend w s m h) c ≡ record { reply = refused_reply x c; lent = lend w s m h }
     unfolding made refused_reply
-    made_refused (some c) =
+    made_refused (Some c) =
         let q = lent_refused p w s m h c (sym e) refl in
         sym (λ i. record { reply = q.reply i; lent = q.lent i })
-    made_refused none = refl
+    made_refused None = refl
 
     run_refuses : (n i : ℕ) → run_from n p (lend w s m h) calls i ≡ ran (refused_from n x calls i) (lend w s m h)
     unfolding run_from refused_from
@@ -247,7 +244,7 @@ length_answers : (n : ℕ) (p : Params) (l : Lent) (calls : List ℕ) (i : ℕ) 
 unfolding run_from
 length_answers zero p l calls i = refl
 length_answers (suc n) p l calls i =
-    let r : Result = made p l (call_at calls i) in
+    let r : Returned = made p l (call_at calls i) in
     length-append (words_of r.reply) (run_from n p r.lent calls (i + 6)).answers
     ∙ omega (arith, length_said (said_of r.reply), length_answers n p r.lent calls (i + 6))
 
@@ -276,8 +273,8 @@ module _ (p : Params) (l : Lent) (calls answers : List ℕ) where
           let r : RowRan = run_from (length calls / 6) p l calls 0 in
           run_ran (q ∙ ap (λ (x : List ℕ). ran x r.lent) (overwrite_all r.answers answers (length_answers (length calls / 6) p l calls 0 ∙ sym y)))
 
-pub run_refused : (p : Params) (w s m h calls answers : List ℕ) (x : Refusal) {r : Tested} {answers' : List ℕ}
-    → length calls % 6 ≡ 0 → length answers ≡ 5 * (length calls / 6) → r ≡ lent_tests p (lend w s m h) → r ≡ Refused x
+pub run_refused : (p : Params) (w s m h calls answers : List ℕ) (x : Refusal) {r : Result ⊤ Refusal} {answers' : List ℕ}
+    → length calls % 6 ≡ 0 → length answers ≡ 5 * (length calls / 6) → r ≡ lent_tests p (lend w s m h) → r ≡ Err x
     → answers' ≡ overwrite 0 (refused_from (length calls / 6) x calls 0) answers
     → run_result (answered []) answers' (lend w s m h) ≡ run_calls p (lend w s m h) calls answers
 run_refused p w s m h calls answers x z y e f a =

@@ -1,6 +1,6 @@
 -- The searches step by step: what the calls say, one after the other, put together to the definition. One law for each way on
 -- or out of a loop: what remains from here is the whole. Plain values alone stand here. Assumes nothing.
-use Prim.Native.Nat.{ℕ, zero, suc, ◌+◌, ◌-◌, ◌<◌, ◌≤◌}
+use Prim.Native.Nat.{ℕ, zero, suc, ◌+◌, ◌<◌, ◌≤◌}
 use mathlib.Core.Path.{◌≡◌, refl}
 use mathlib.Core.Bool.{Bool, true, false}
 use mathlib.Core.List.{List}
@@ -38,6 +38,10 @@ pub sets_low : (h : ℕ) {o : ℕ} → h ≤ 8 → o ≡ local_sets h → o < 28
 unfolding local_sets
 sets_low h l e = omega arith
 
+-- an address that is not 0 is none
+pub not_none : {a : ℕ} → 0 < a → a ≡ 0 → ⊥
+not_none h e = omega arith
+
 -- ---- the local available list
 
 module _ (p : Params) (avail full : ℕ) (t : Words) where
@@ -58,22 +62,10 @@ module _ (p : Params) (avail full : ℕ) (t : Words) where
       skim_found zero u h = absurd (not-suc-le-zero u)
       skim_found (suc k) u h = rw (← ef, ne_eqb f 0 hf, ← ei, ← ex, ne_eqb x 0 h)
 
-      pub skim_step : (k : ℕ) {v : ℕ} {t₁ t₂ : Words} → 0 < k → x ≡ 0 → popped v t₁ ≡ pop p avail t → t₂ ≡ push p full i t₁
-          → skimmed (find_free_block_with (k - 1) p avail full t₂) ≡ skimmed (find_free_block_with k p avail full t)
+      pub skim_step : {k j v : ℕ} {t₁ t₂ : Words} → k ≡ suc j → x ≡ 0 → popped v t₁ ≡ pop p avail t → t₂ ≡ push p full i t₁
+          → skimmed (find_free_block_with j p avail full t₂) ≡ skimmed (find_free_block_with k p avail full t)
       unfolding find_free_block_with
-      skim_step zero u h e₁ e₂ = absurd (not-suc-le-zero u)
-      skim_step (suc k) u h e₁ e₂ =
-          let d : suc k - 1 ≡ k = omega arith in
-          rw (d, ← ef, ne_eqb f 0 hf, ← ei, ← ex, eq-eqb x 0 h, ← e₁, e₂)
-
--- ---- a block filed by its free head
-
-module _ (p : Params) (avail full b : ℕ) (t : Words) {x : ℕ} {t₁ : Words} (ex : x ≡ get_or t.free b 0) where
-  pub filed_full : x ≡ 0 → t₁ ≡ push p full b t → Filed p avail full b t false t₁
-  filed_full h e = record { none = rw (← ex, eq-eqb x 0 h); words = e }
-
-  pub filed_avail : (x ≡ 0 → ⊥) → t₁ ≡ push p avail b t → Filed p avail full b t true t₁
-  filed_avail h e = record { none = rw (← ex, ne_eqb x 0 h); words = e }
+      skim_step ek h e₁ e₂ = rw (ek, ← ef, ne_eqb f 0 hf, ← ei, ← ex, eq-eqb x 0 h, ← e₁, e₂)
 
 -- ---- local unswept blocks
 
@@ -103,10 +95,8 @@ module _ (p : Params) (ms : List ℕ) (owner bin n : ℕ) (t : Words) (h : List 
       recycle_found (suc k) l z =
           rw (← eu, ← e, ne_eqb v 0 nz, ← eb, ← es.words, ef.none, ef.words, z, ← ea, es.heap, one_more n)
 
-      pub recycle_step : (k : ℕ) → 0 < k → q ≡ false
-          → closed p (n + 1) h₁ (recycle_local_blocks (k - 1) p ms owner bin t₃) ≡ closed p n h (recycle_local_blocks k p ms owner bin t)
+      pub recycle_step : {k j : ℕ} → k ≡ suc j → q ≡ false
+          → closed p (n + 1) h₁ (recycle_local_blocks j p ms owner bin t₃) ≡ closed p n h (recycle_local_blocks k p ms owner bin t)
       unfolding recycle_local_blocks events_heap event_heap sweeps filter is_sweep
-      recycle_step zero l z = absurd (not-suc-le-zero l)
-      recycle_step (suc k) l z =
-          let d : suc k - 1 ≡ k = omega arith in
-          rw (d, ← eu, ← e, ne_eqb v 0 nz, ← eb, ← es.words, ef.none, ef.words, z, ← ec, es.heap, more)
+      recycle_step ek z =
+          rw (ek, ← eu, ← e, ne_eqb v 0 nz, ← eb, ← es.words, ef.none, ef.words, z, ← ec, es.heap, more)

@@ -24,10 +24,6 @@ head_free p t l log {f} g ef low power ec nz =
       cell = λ z. nz (ec ∙ z);
     }
 
--- none is past the last block
-pub none_past : (p : Params) (t : Words) (l : ℕ) → p.blocks < p.blocks → HasFree p t l p.blocks
-none_past p t l h = absurd (omega arith)
-
 -- where the free head is a cell, it lies in the heap
 module _ (p : Params) (t : Words) {words heap b cell size : ℕ} (k : Takeable p t words heap b) (ec : cell ≡ get_or t.free b 0) (es : size ≡ get_or t.size b 0) where
   inside : (start p b ≤ cell) × ((cell - start p b) + size ≤ p.bytes)
@@ -58,7 +54,7 @@ taken_low p t k e = head_low p t k e refl
 
 -- the head block found, in tables whose free heads are cells
 pub head_takeable : (p : Params) (t : Words) {words marks heap l b : ℕ} → Known p words marks heap
-    → ((x : ℕ) → x < p.blocks → (get_or t.free x 0 ≡ 0 → ⊥) → HeadCell p t x) → (b < p.blocks → HasFree p t l b) → b < p.blocks
+    → ((x : ℕ) → x < p.blocks → (get_or t.free x 0 ≡ 0 → ⊥) → HeadCell p t x) → (b < p.blocks) × HasFree p t l b
     → Takeable p t words heap b
-head_takeable p t k cells f low =
-    record { stands = record { good = k.good; count = k.count; whole = k.whole; block = low }; head = cells _ low (f low).cell }
+head_takeable p t k cells f =
+    record { stands = record { good = k.good; count = k.count; whole = k.whole; block = f.0 }; head = cells _ f.0 f.1.cell }

@@ -22,9 +22,8 @@ use Rattle.laws.proofs.Below.{true_not_false, and_left, and_right, and_three, an
 use Rattle.laws.proofs.Params.{Bounds, good_bounds}
 use Rattle.laws.proofs.Linked.{linked_end, linked_long, linked_on, walk_end, walk_on, met_count, on_occupied}
 use Rattle.laws.proofs.Pigeon.{sum_same, sum_squeeze, sum_not, flag_one, flag_yes, flag_le}
-use Rattle.native_ms.specs.declared.sound.Walked.{Walked}
-use Rattle.native_ms.specs.declared.sound.Walked.TheVariants.{Bad, Left}
-use Rattle.native_ms.specs.SoundWalk.{names_list, block_fits, unused, stands_on, last_is, pass_from, passes, holder_fits, part_fits}
+use Rattle.std.proofs.Common.{Option, None, Some}
+use Rattle.native_ms.specs.SoundWalk.{names_list, block_fits, unused, stands_on, last_is, pass_from, passes, holder_fits, part_fits, parts_sound}
 use Rattle.native_ms.proofs.SoundWalkLaws.{leaves, lists_full, sound_walk}
 
 -- ---- one walk
@@ -33,17 +32,17 @@ module _ (p : Params) (w : Words) (s m : List ℕ) (l : ℕ) where
   abbrev tables : Tables
   tables = tables_of w s m
 
-  bad_not_left : {x : ℕ} → Bad ≡ Left x → ⊥
+  bad_not_left : {x : ℕ} → None ≡ Some x → ⊥
   bad_not_left e = let z : ◌≡◌ {A = ℕ} 0 1 = cc in omega arith
 
-  left_same : {x y : ℕ} → Left x ≡ Left y → x ≡ y
+  left_same : {x y : ℕ} → Some x ≡ Some y → x ≡ y
   left_same e = cc
 
-  last_left : (before k x : ℕ) → last_is w l before k ≡ Left x → (eqb (get_or w.last l 0) before ≡ true) × (k ≡ x)
+  last_left : (before k x : ℕ) → last_is w l before k ≡ Some x → (eqb (get_or w.last l 0) before ≡ true) × (k ≡ x)
   unfolding last_is
   last_left before k x e = go (eqb (get_or w.last l 0) before) refl e
     where
-      go : (b : Bool) → eqb (get_or w.last l 0) before ≡ b → (if b then Left k else Bad) ≡ Left x → (eqb (get_or w.last l 0) before ≡ true) × (k ≡ x)
+      go : (b : Bool) → eqb (get_or w.last l 0) before ≡ b → (if b then Some k else None) ≡ Some x → (eqb (get_or w.last l 0) before ≡ true) × (k ≡ x)
       go true f g = (f, left_same g)
       go false f g = absurd (bad_not_left g)
 
@@ -55,7 +54,7 @@ module _ (p : Params) (w : Words) (s m : List ℕ) (l : ℕ) where
   pass_end zero before a e = rw (eq-eqb a 0 e)
   pass_end (suc k) before a e = rw (eq-eqb a 0 e)
 
-  pass_long : (before a : ℕ) → (a ≡ 0 → ⊥) → pass_from zero p w s l before a ≡ Bad
+  pass_long : (before a : ℕ) → (a ≡ 0 → ⊥) → pass_from zero p w s l before a ≡ None
   unfolding pass_from
   pass_long before a n = rw (ne_eqb a 0 n)
 
@@ -64,12 +63,12 @@ module _ (p : Params) (w : Words) (s m : List ℕ) (l : ℕ) where
   unfolding pass_from
   pass_on k before a n e = rw (ne_eqb a 0 n, e)
 
-  pass_off : (k before a : ℕ) → (a ≡ 0 → ⊥) → stands_on p w s l before a ≡ false → pass_from (suc k) p w s l before a ≡ Bad
+  pass_off : (k before a : ℕ) → (a ≡ 0 → ⊥) → stands_on p w s l before a ≡ false → pass_from (suc k) p w s l before a ≡ None
   unfolding pass_from
   pass_off k before a n e = rw (ne_eqb a 0 n, e)
 
   -- a walk that leaves x of k blocks is linked, with any bound from k on
-  pass_linked : (k n x before a : ℕ) → k ≤ n → pass_from k p w s l before a ≡ Left x
+  pass_linked : (k n x before a : ℕ) → k ≤ n → pass_from k p w s l before a ≡ Some x
       → (linked_from n p tables l before a ≡ true) × (length (walk n p w.next a) + x ≡ k)
   unfolding stands_on state_of
   pass_linked zero n x before a h e =
@@ -99,7 +98,7 @@ module _ (p : Params) (w : Words) (s m : List ℕ) (l : ℕ) where
 
   -- a linked walk leaves what it does not meet
   linked_pass : (n k x before a : ℕ) → linked_from n p tables l before a ≡ true → length (walk n p w.next a) + x ≡ k
-      → pass_from k p w s l before a ≡ Left x
+      → pass_from k p w s l before a ≡ Some x
   unfolding stands_on state_of last_is
   linked_pass zero k x before a e h =
       ⊎_elim
@@ -120,7 +119,7 @@ module _ (p : Params) (w : Words) (s m : List ℕ) (l : ℕ) where
       let i : length (walk (suc n) p w.next a) ≡ length (walk n p w.next next) + 1 =
       ap length (walk_on p tables l n a q) ∙ sym (add-one (length (walk n p w.next next))) in
       let c : suc (k - 1) ≡ k = omega arith in
-      subst (λ (j : ℕ). pass_from j p w s l before a ≡ Left x) c
+      subst (λ (j : ℕ). pass_from j p w s l before a ≡ Some x) c
       (pass_on (k - 1) before a q (and_left (stands_on p w s l before a) (linked_from n p tables l a next) r)
       ∙ linked_pass n (k - 1) x a next (and_right (stands_on p w s l before a) (linked_from n p tables l a next) r) (omega arith)))
       (zero_or a)
@@ -131,24 +130,24 @@ module _ (p : Params) (w : Words) (s m : List ℕ) where
   long : ℕ → ℕ
   long l = length (blocks_on p l w)
 
-  passes_on : (j left x : ℕ) → pass_from left p w s j 0 (get_or w.first j 0) ≡ Left x → passes (suc j) p w s left ≡ passes j p w s x
+  passes_on : (j left x : ℕ) → pass_from left p w s j 0 (get_or w.first j 0) ≡ Some x → passes (suc j) p w s left ≡ passes j p w s x
   unfolding passes
   passes_on j left x e = rw e
 
-  passes_off : (j left : ℕ) → pass_from left p w s j 0 (get_or w.first j 0) ≡ Bad → passes (suc j) p w s left ≡ Bad
+  passes_off : (j left : ℕ) → pass_from left p w s j 0 (get_or w.first j 0) ≡ None → passes (suc j) p w s left ≡ None
   unfolding passes
   passes_off j left e = rw e
 
   -- what a walk gave
-  walked : (r : Walked) → (r ≡ Bad) ⊎ ((x : ℕ) × (r ≡ Left x))
-  walked Bad = inl refl
-  walked (Left x) = inr (x, refl)
+  walked : (r : Option ℕ) → (r ≡ None) ⊎ ((x : ℕ) × (r ≡ Some x))
+  walked None = inl refl
+  walked (Some x) = inr (x, refl)
 
   below_last : (j : ℕ) (P : ℕ → Type 0) → ((l : ℕ) → l < j → P l) → P j → (l : ℕ) → l < suc j → P l
   below_last j P all here l h =
       ⊎_elim (λ e. subst P (sym e) here) (λ k. all l k) (eq-or-lt_of_le (le_of_suc-le-suc h))
 
-  passes_linked : (j left x : ℕ) → left ≤ p.blocks → passes j p w s left ≡ Left x
+  passes_linked : (j left x : ℕ) → left ≤ p.blocks → passes j p w s left ≡ Some x
       → ((l : ℕ) → l < j → linked p (tables_of w s m) l ≡ true) × (sum_below j long + x ≡ left)
   unfolding passes sum_below linked blocks_on long
   passes_linked zero left x h e =
@@ -164,7 +163,7 @@ module _ (p : Params) (w : Words) (s m : List ℕ) where
       (walked (pass_from left p w s j 0 (get_or w.first j 0)))
 
   linked_passes : (j left x : ℕ) → ((l : ℕ) → l < j → linked p (tables_of w s m) l ≡ true) → sum_below j long + x ≡ left
-      → passes j p w s left ≡ Left x
+      → passes j p w s left ≡ Some x
   unfolding passes sum_below linked blocks_on long
   linked_passes zero left x all h = let q : left ≡ x = omega arith in rw q
   linked_passes (suc j) left x all h =
@@ -200,7 +199,7 @@ module _ (p : Params) (w : Words) (s m : List ℕ) where
         sum_same p.blocks (λ b. flag (on b)) (λ b. flag (occ b)) (λ b h. ap flag (alike b h)) in
         let t = total all in
         let c = counted in
-        let r : passes 1470 p w s p.blocks ≡ Left (unused p s) = linked_passes 1470 p.blocks (unused p s) all (omega arith) in
+        let r : passes 1470 p w s p.blocks ≡ Some (unused p s) = linked_passes 1470 p.blocks (unused p s) all (omega arith) in
         ap (leaves (unused p s)) r ∙ eq-eqb (unused p s) (unused p s) refl
       where
         alike : (b : ℕ) → b < p.blocks → on b ≡ occ b
@@ -310,7 +309,7 @@ module _ (p : Params) (good : good_params p ≡ true) (w : Words) (s m : List �
   bounds = good_bounds p good
 
   to_sound : sound_walk p w s ≡ true → sound p (tables_of w s m) ≡ true
-  unfolding sound_walk sound unbound_empty flags_known released_few released_empty bound_at empty_at_lem done_at released_at few_at
+  unfolding sound_walk parts_sound sound unbound_empty flags_known released_few released_empty bound_at empty_at_lem done_at released_at few_at
   to_sound e =
       let start : Bool = phase_known w && all_below 9 (part_fits w) && released_some w && all_below 8 (holder_fits w) in
       let r = and_four start (in_gc_empty w) (all_below p.blocks (block_fits p w s)) (lists_full p w s) e in
@@ -326,7 +325,7 @@ module _ (p : Params) (good : good_params p ≡ true) (w : Words) (s m : List �
       (and_both f.1 q.2)) h.2
 
   from_sound : sound p (tables_of w s m) ≡ true → sound_walk p w s ≡ true
-  unfolding sound_walk sound unbound_empty flags_known released_few released_empty bound_at empty_at_lem done_at released_at few_at
+  unfolding sound_walk parts_sound sound unbound_empty flags_known released_few released_empty bound_at empty_at_lem done_at released_at few_at
   from_sound e =
       let blocks : Bool = all_below p.blocks (block_sound p (tables_of w s m)) in
       let lists : Bool = all_below 1470 (linked p (tables_of w s m)) in

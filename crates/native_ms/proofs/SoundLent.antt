@@ -2,6 +2,7 @@
 use Prim.Native.Nat.{ℕ, zero, suc, ◌+◌, ◌-◌, ◌*◌, ◌/◌, ◌^◌, ◌<◌, ◌≤◌}
 use mathlib.Core.Path.{◌≡◌, refl, sym, ap, ◌∙◌}
 use mathlib.Core.Bool.{Bool, true, false, ◌&&◌}
+use mathlib.Core.Logic.{◌⊎◌, inl, inr}
 use mathlib.Core.List.{List}
 use native.Mathlib.Nat.{mul-le-mul_right, lt-suc_self, le_step}
 use native.Mathlib.Numerals.{add-one}
@@ -10,23 +11,20 @@ use lib.Bits.{bit_or, or_add_and, and_le_l, and_le_r}
 use lib.Count.{count_trailing_zeros}
 use lib.Dec.{eqb, leb}
 use lib.ListN.{length, get_or, set}
-use lib.Seq.{get_or-set_same, get_or-set_other}
-use borrow.Author.Count.{below_more}
 use borrow.Author.Tests.{eqb-true, eq-eqb, leb-true}
 use Rattle.model.specs.declared.Params.{Params}
 use Rattle.model.specs.Base.{all_below}
 use Rattle.model.specs.Params.{good_params, power_of_two, is_start, block_at, list_of, head_words, block_tables}
-use Rattle.model.specs.Tables.{Words, view, blocks_in, block_table}
+use Rattle.model.specs.Tables.{Words, view, blocks_in, block_table, put_block_word}
 use Rattle.model.specs.Sound.{block_clear, owner_empty}
 use Rattle.laws.proofs.Below.{same_test, and_both, and_left, and_right, all_below_at, all_below_from}
 use Rattle.laws.proofs.Good.{each_power}
 use Rattle.laws.proofs.Params.{good_bounds, start_in, block_at_from, block_at_is_start, start_block_at, is_start_start, is_start_out, in_heap_under}
-use Rattle.laws.proofs.Tables.{get_d_part, by_lt}
-use Rattle.native_ms.specs.declared.sound.Walked.{Walked}
-use Rattle.native_ms.specs.declared.sound.Walked.TheVariants.{Bad, Left}
-use Rattle.native_ms.specs.SoundWalk.{pass_from, passes, on_left}
+use Rattle.laws.proofs.Tables.{get_d_part, get_d_part_out, put_in_in, put_in_out, by_lt}
+use Rattle.std.proofs.Common.{Some}
+use Rattle.native_ms.specs.SoundWalk.{pass_from, passes}
 use Rattle.native_ms.proofs.SoundTests.{last_here, pass_last, passes_step, passes_end, empty_at, owner_lists}
-use Rattle.native_ms.specs.SoundLent.{Starts, Firsts, zero_at}
+use Rattle.native_ms.specs.SoundLent.{Firsts, zero_at}
 
 -- ---- a union of words is 0 if each is
 
@@ -77,6 +75,21 @@ table_word w n j i e h =
     let m : n ≡ blocks_in w = omega arith in
     sym (get_d_part (head_words + j * n) n i w h) ∙ ap (λ (k : ℕ). get_or (block_table k j w) i 0) m
 
+pub table_none : (w : List ℕ) (n j i : ℕ) → length w ≡ head_words + block_tables * n → n ≤ i → 0 ≡ get_or (block_table (blocks_in w) j w) i 0
+table_none w n j i e l =
+    let m : blocks_in w ≡ n = omega arith in
+    rw m (sym (get_d_part_out (head_words + j * n) n i w l))
+
+pub table_put : (w : List ℕ) (n j i v : ℕ) → length w ≡ head_words + block_tables * n → i < n → set w (head_words + j * n + i) v ≡ put_block_word j i v w
+table_put w n j i v e h =
+    let m : blocks_in w ≡ n = omega arith in
+    rw m (sym (put_in_in (head_words + j * n) n i v w h))
+
+pub table_left : (w : List ℕ) (n j i v : ℕ) → length w ≡ head_words + block_tables * n → n ≤ i → w ≡ put_block_word j i v w
+table_left w n j i v e l =
+    let m : blocks_in w ≡ n = omega arith in
+    rw m (sym (put_in_out (head_words + j * n) n i v w l))
+
 -- one after the other, in the order of a union
 or_next : {x : Bool} (a b : ℕ) → eqb a 0 ≡ x → eqb (bit_or a b) 0 ≡ (x && eqb b 0)
 or_next a b e = or_zero a b ∙ ap (λ (y : Bool). y && eqb b 0) e
@@ -101,10 +114,6 @@ first_word w l h =
     let d : l ≡ 0 + l = omega arith in
     ap (λ (x : ℕ). get_or w x 0) d ∙ sym (get_d_part 0 1470 l w h)
 
-pub phase_word_lem : (w : List ℕ) → get_or w 2940 0 ≡ (view w).phase
-unfolding view
-phase_word_lem w = refl
-
 pub bound_word : (w : List ℕ) (holder : ℕ) → 1 ≤ holder → holder ≤ 8 → get_or w (2940 + holder) 0 ≡ get_or (view w).bound (holder - 1) 0
 unfolding view
 bound_word w holder l m =
@@ -115,13 +124,6 @@ bound_word w holder l m =
 module _ (w : List ℕ) where
   abbrev pub set_is : List ℕ → ℕ → Type 0
   set_is fs k = eqb (get_or fs k 0) 0 ≡ all_below 49 (zero_at w (49 * k))
-
-  pub firsts_step : (fs : List ℕ) (i z : ℕ) → i < length fs → ((k : ℕ) → k < i → set_is fs k)
-      → eqb z 0 ≡ all_below 49 (zero_at w (49 * i)) → (k : ℕ) → k < i + 1 → set_is (set fs i z) k
-  firsts_step fs i z h f e =
-      below_more (set_is (set fs i z)) i
-      (λ k l. ap (λ (x : ℕ). eqb x 0) (get_or-set_other fs i k z 0 (λ q. omega arith)) ∙ f k l)
-      (ap (λ (x : ℕ). eqb x 0) (get_or-set_same fs i z 0 h) ∙ e)
 
   module _ (fs : List ℕ) (g : Firsts w fs) (owner : ℕ) (h : owner ≤ 27) where
     three : ℕ
@@ -182,51 +184,39 @@ refuted : (b : Bool) → (b ≡ true → ⊥) → b ≡ false
 refuted true n = absurd (n refl)
 refuted false n = refl
 
-module _ (p : Params) (good : good_params p ≡ true) (log : ℕ) (power : p.bytes ≡ 2 ^ log) (a : ℕ) where
-  pub starts_low : a < p.base → Starts p a p.blocks
-  starts_low h = record { here = λ l. absurd (omega arith); none = λ l. is_start_out p a (in_heap_under p a h) }
+-- below the heap none does
+pub starts_low : (p : Params) (a : ℕ) → a < p.base → is_start p a ≡ false
+starts_low p a h = is_start_out p a (in_heap_under p a h)
 
-  module _ (h : p.base ≤ a) where
-    number : (a - p.base) / 2 ^ log ≡ block_at p a
-    number = ap (λ (x : ℕ). (a - p.base) / x) (sym power) ∙ sym (block_at_from p a h)
+-- d bytes above the heap's start
+module _ (p : Params) (good : good_params p ≡ true) (log : ℕ) (power : p.bytes ≡ 2 ^ log) (a : ℕ) {d : ℕ} (h : p.base ≤ a) (ed : d ≡ a - p.base) where
+  number : d / 2 ^ log ≡ block_at p a
+  number = ap (λ (x : ℕ). d / x) (sym power) ∙ ap (λ (x : ℕ). x / p.bytes) ed ∙ sym (block_at_from p a h)
 
-    pub starts_past : p.blocks ≤ (a - p.base) / 2 ^ log → Starts p a p.blocks
-    starts_past q =
-        record {
-          here = λ l. absurd (omega arith);
-          none = λ l. refuted (is_start p a) (λ e. omega (arith, number, block_at_is_start p (good_bounds p good) a e));
-        }
+  starts_past : p.blocks ≤ d / 2 ^ log → is_start p a ≡ false
+  starts_past q = refuted (is_start p a) (λ e. omega (arith, number, block_at_is_start p (good_bounds p good) a e))
 
-    pub starts_off : (p.base + (a - p.base) / 2 ^ log * p.bytes ≡ a → ⊥) → Starts p a p.blocks
-    starts_off n =
-        record {
-          here = λ l. absurd (omega arith);
-          none = λ l. refuted (is_start p a) (λ e. n (ap (λ (x : ℕ). p.base + x * p.bytes) number
-              ∙ sym (start_in p (block_at p a) (block_at_is_start p (good_bounds p good) a e)) ∙ start_block_at p (good_bounds p good) a e));
-        }
+  starts_off : (p.base + d / 2 ^ log * p.bytes ≡ a → ⊥) → is_start p a ≡ false
+  starts_off n =
+      refuted (is_start p a) (λ e. n (ap (λ (x : ℕ). p.base + x * p.bytes) number
+      ∙ sym (start_in p (block_at p a) (block_at_is_start p (good_bounds p good) a e)) ∙ start_block_at p (good_bounds p good) a e))
 
-    pub starts_here : (a - p.base) / 2 ^ log < p.blocks → p.base + (a - p.base) / 2 ^ log * p.bytes ≡ a
-        → Starts p a ((a - p.base) / 2 ^ log)
-    starts_here k q =
-        record {
-          here = λ l. (
-            ap (is_start p) (sym (start_in p ((a - p.base) / 2 ^ log) l ∙ q))
-                ∙ is_start_start p (good_bounds p good) ((a - p.base) / 2 ^ log) l,
-            number,
-          );
-          none = λ l. absurd (omega arith);
-        }
+  pub starts_none : (p.blocks ≤ d / 2 ^ log) ⊎ (p.base + d / 2 ^ log * p.bytes ≡ a → ⊥) → is_start p a ≡ false
+  starts_none = elim [ inl q ↦ starts_past q | inr n ↦ starts_off n ]
+
+  pub starts_here : d / 2 ^ log < p.blocks → p.base + d / 2 ^ log * p.bytes ≡ a → (is_start p a ≡ true) × (d / 2 ^ log ≡ block_at p a)
+  starts_here l q = (ap (is_start p) (sym (start_in p (d / 2 ^ log) l ∙ q)) ∙ is_start_start p (good_bounds p good) (d / 2 ^ log) l, number)
 
 -- ---- walks
 
 module _ (p : Params) (t : Words) (s : List ℕ) where
   -- a list with no first and no last passes
-  empty_pass : (l left : ℕ) → get_or t.first l 0 ≡ 0 → get_or t.last l 0 ≡ 0 → pass_from left p t s l 0 (get_or t.first l 0) ≡ Left left
+  empty_pass : (l left : ℕ) → get_or t.first l 0 ≡ 0 → get_or t.last l 0 ≡ 0 → pass_from left p t s l 0 (get_or t.first l 0) ≡ Some left
   empty_pass l left f e = sym (pass_last p t s l 0 (get_or t.first l 0) left f (last_here t l 0 left refl e))
 
   module _ (l left : ℕ) (h : 0 < l) where
-    step : {x : ℕ} → pass_from left p t s (l - 1) 0 (get_or t.first (l - 1) 0) ≡ Left x → passes (l - 1) p t s x ≡ passes l p t s left
-    step {x} q = passes_step p t s left l h {r = Left x} (sym q) refl
+    step : {x : ℕ} → pass_from left p t s (l - 1) 0 (get_or t.first (l - 1) 0) ≡ Some x → passes (l - 1) p t s x ≡ passes l p t s left
+    step {x} q = passes_step p t s left l h {r = Some x} (sym q) refl
 
     pub list_skip : {f e : ℕ} → f ≡ get_or t.first (l - 1) 0 → e ≡ get_or t.last (l - 1) 0 → bit_or f e ≡ 0
         → passes (l - 1) p t s left ≡ passes l p t s left
@@ -272,12 +262,5 @@ module _ (p : Params) (t : Words) (s : List ℕ) where
     pub set_up_lem : passes (49 * (o - 1) + 49) p t s k ≡ passes (49 * o) p t s k
     set_up_lem = ap (λ (i : ℕ). passes i p t s k) up
 
-    module _ {r : Walked} (q : on_left r (passes (49 * (o - 1)) p t s) ≡ passes (49 * (o - 1) + 49) p t s k) where
-      pub set_bad : r ≡ Bad → Bad ≡ passes (49 * o) p t s k
-      set_bad z = ap (λ (x : Walked). on_left x (passes (49 * (o - 1)) p t s)) (sym z) ∙ q ∙ set_up_lem
-
-      pub set_step : {x : ℕ} → r ≡ Left x → passes (49 * (o - 1)) p t s x ≡ passes (49 * o) p t s k
-      set_step z = ap (λ (x : Walked). on_left x (passes (49 * (o - 1)) p t s)) (sym z) ∙ q ∙ set_up_lem
-
-  pub passes_none : (o k : ℕ) → o ≤ 0 → Left k ≡ passes (49 * o) p t s k
+  pub passes_none : (o k : ℕ) → o ≤ 0 → Some k ≡ passes (49 * o) p t s k
   passes_none o k h = passes_end p t s k (49 * o) (omega arith)

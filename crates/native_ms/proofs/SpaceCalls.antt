@@ -1,21 +1,17 @@
 -- The calls of the space and their steps: one law for each way out. Plain values alone stand here. Assumes nothing.
+use Rattle.std.specs.Prelude.{Result, ⊤, Ok, Err}
 use Prim.Native.Nat.{ℕ, suc, ◌+◌, ◌-◌, ◌*◌, ◌/◌, ◌%◌, ◌^◌, ◌<◌, ◌≤◌}
 use mathlib.Core.Path.{◌≡◌, refl, sym, ap, ◌∙◌}
 use mathlib.Core.Bool.{Bool, true, false, ◌&&◌, ◌||◌}
 use mathlib.Core.List.{List, [], ◌∷◌, map}
 use native.Mathlib.Omega.{arith}
-use native.Mathlib.Nat.{not-suc-le-zero}
 use native.Mathlib.Numerals.{add-one}
 use lib.Dec.{eqb, ltb, leb}
-use lib.ListN.{length, get_or, set, length-map, get_or-map, replicate, length-replicate, get_or-replicate}
+use lib.ListN.{length, get_or, set, replicate, length-replicate}
 use borrow.Author.Tests.{eq-eqb, ne_eqb, leb-true, lt-ltb, le-ltb, lt-leb, le-leb}
-use borrow.Author.Count.{below_more}
-use lib.Seq.{ext_get_or, get_or-set_same, get_or-set_other}
 use Rattle.model.specs.declared.Params.{Params}
 use Rattle.model.specs.declared.Refusal.{Refusal}
 use Rattle.model.specs.declared.Refusal.TheVariants.{BadSetup, BadClasses}
-use Rattle.model.specs.declared.Tested.{Tested}
-use Rattle.model.specs.declared.Tested.TheVariants.{Passed, Refused}
 use Rattle.model.specs.Base.{each_below, flag}
 use Rattle.model.specs.Params.{good_params, fits, word_count, heap_bytes, start, minus_lower, in_heap, local_sets, abandoned, head_words, block_tables, bins}
 use Rattle.model.specs.Memory.{marked, set_mark, cleared}
@@ -68,16 +64,16 @@ sets_low n h e = omega arith
 
 -- ---- bind
 
-pub bind_low : (t : Words) (n : ℕ) {r : Tested} → r ≡ bind_tests t n → r ≡ Passed → 1 ≤ n
+pub bind_low : (t : Words) (n : ℕ) {r : Result ⊤ Refusal} → r ≡ bind_tests t n → r ≡ Ok tt → 1 ≤ n
 bind_low t n e z = holder_low n refl (bind_passed t n (sym e ∙ z)).1
 
-pub bind_done : (t : Words) (n : ℕ) {t₁ : Words} {r : Tested} → r ≡ bind_tests t n → r ≡ Passed → t₁ ≡ set_bound (n - 1) 1 t
+pub bind_done : (t : Words) (n : ℕ) {t₁ : Words} {r : Result ⊤ Refusal} → r ≡ bind_tests t n → r ≡ Ok tt → t₁ ≡ set_bound (n - 1) 1 t
     → (p : Params) (s m h : List ℕ) → Does p (tables_of t s m) h (bind n) (answered []) (tables_of t₁ s m) h
 unfolding call_tests plan_passed bind_holder finish events_heap
 bind_done t n e z v p s m h =
     ap (λ (u : Words). stepped (answered []) (tables_of u s m) h) v ∙ step_passed p (tables_of t s m) h (bind n) e z
 
-pub bind_refused : (t : Words) (n : ℕ) {r : Tested} {x : Refusal} → r ≡ bind_tests t n → r ≡ Refused x
+pub bind_refused : (t : Words) (n : ℕ) {r : Result ⊤ Refusal} {x : Refusal} → r ≡ bind_tests t n → r ≡ Err x
     → (p : Params) (s m h : List ℕ) → Does p (tables_of t s m) h (bind n) (refused x) (tables_of t s m) h
 unfolding call_tests
 bind_refused t n e z p s m h = step_refused p (tables_of t s m) h (bind n) e z
@@ -95,11 +91,11 @@ pub leave_else : (t : Words) {f : ℕ} → f ≡ t.phase → (f ≡ 0 → ⊥) �
 unfolding may_leave
 leave_else t {f} e q = ap (λ (k : ℕ). eqb k 1) e ∙ sym (or_none_first (ne_eqb t.phase 0 (λ z. q (e ∙ z))))
 
-pub leaves_bound : (t : Words) (n : ℕ) {r : Tested} → r ≡ leave_tests t n → r ≡ Passed → (1 ≤ n) × (n ≤ 8)
+pub leaves_bound : (t : Words) (n : ℕ) {r : Result ⊤ Refusal} → r ≡ leave_tests t n → r ≡ Ok tt → (1 ≤ n) × (n ≤ 8)
 leaves_bound t n e z = let b = (leave_passed t n (sym e ∙ z)).1 in (bound_low t n b, bound_high t n b)
 
-module _ (p : Params) (t : Words) (n : ℕ) {r : Tested} (e : r ≡ leave_tests t n) where
-  pub destroy_done : {owner k : ℕ} {t₁ t₂ : Words} → r ≡ Passed → owner ≡ local_sets n → moved k t₁ ≡ bins_move bins p abandoned owner t
+module _ (p : Params) (t : Words) (n : ℕ) {r : Result ⊤ Refusal} (e : r ≡ leave_tests t n) where
+  pub destroy_done : {owner k : ℕ} {t₁ t₂ : Words} → r ≡ Ok tt → owner ≡ local_sets n → moved k t₁ ≡ bins_move bins p abandoned owner t
       → t₂ ≡ set_bound (n - 1) 0 t₁ → (s m h : List ℕ) → Does p (tables_of t s m) h (destroy n) (answered (k ∷ [])) (tables_of t₂ s m) h
   unfolding call_tests plan_passed destroy_holder finish events_heap
   destroy_done {owner} {k} {t₁} z eo e₁ e₂ s m h =
@@ -109,7 +105,7 @@ module _ (p : Params) (t : Words) (n : ℕ) {r : Tested} (e : r ≡ leave_tests 
       (over_number p abandoned (local_sets n) t o)
       ∙ step_passed p (tables_of t s m) h (destroy n) e z
 
-  pub destroy_refused : {x : Refusal} → r ≡ Refused x → (s m h : List ℕ)
+  pub destroy_refused : {x : Refusal} → r ≡ Err x → (s m h : List ℕ)
       → Does p (tables_of t s m) h (destroy n) (refused x) (tables_of t s m) h
   unfolding call_tests
   destroy_refused z s m h = step_refused p (tables_of t s m) h (destroy n) e z
@@ -126,33 +122,6 @@ each_more f x i e q = rw (add-one i) (q ∙ ap (f i) e)
 
 -- ---- prepare
 
-module _ (f : ℕ → ℕ) (l₀ : List ℕ) where
-  -- the first i are done, the others as they were
-  unfoldable pub Mapped : ℕ → List ℕ → Type 0
-  Mapped i l = ((k : ℕ) → k < i → get_or l k 0 ≡ f (get_or l₀ k 0)) × ((k : ℕ) → i ≤ k → get_or l k 0 ≡ get_or l₀ k 0)
-
-  pub mapped_none : Mapped 0 l₀
-  unfolding Mapped
-  mapped_none = ((λ k h. absurd (not-suc-le-zero h)), λ k h. refl)
-
-  pub mapped_more : (i : ℕ) (l : List ℕ) {v : ℕ} → i < length l → v ≡ f (get_or l i 0) → Mapped i l → Mapped (i + 1) (set l i v)
-  unfolding Mapped
-  mapped_more i l {v} h e m = (
-    below_more (λ k. get_or (set l i v) k 0 ≡ f (get_or l₀ k 0)) i
-        (λ k q. get_or-set_other l i k v 0 (λ z. let n : i < i = ap_lt q z in omega arith) ∙ m.0 k q)
-        (get_or-set_same l i v 0 h ∙ e ∙ ap f (m.1 i (omega arith))),
-    λ k q. get_or-set_other l i k v 0 (λ z. omega arith) ∙ m.1 k (omega arith),
-  )
-    where
-      ap_lt : {k : ℕ} → k < i → k ≡ i → i < i
-      ap_lt q z = omega arith
-
-  pub mapped_end : (i : ℕ) (l : List ℕ) → f 0 ≡ 0 → length l ≡ length l₀ → length l ≤ i → Mapped i l → l ≡ map f l₀
-  unfolding Mapped
-  mapped_end i l z e h m =
-      ext_get_or 0 l (map f l₀) (e ∙ sym (length-map l₀ f))
-      (λ k q. m.0 k (omega arith) ∙ sym (get_or-map f l₀ k 0) ∙ ap (λ (d : ℕ). get_or (map f l₀) k d) z)
-
 pub unmark_none : (s : ℕ) → s ≡ 0 → 0 ≡ unmarked_state s
 unfolding unmarked_state
 unmark_none s h = rw (eq-eqb s 0 h)
@@ -161,12 +130,8 @@ pub unmark_some : (s : ℕ) → (s ≡ 0 → ⊥) → 255 ≡ unmarked_state s
 unfolding unmarked_state
 unmark_some s h = rw (ne_eqb s 0 h)
 
-pub unmark_zero : unmarked_state 0 ≡ 0
-unfolding unmarked_state
-unmark_zero = refl
-
-module _ (w s m : List ℕ) {r : Tested} (e : r ≡ phase_test (view w) phase_running) where
-  pub prepare_done : {t₁ : Words} {s₁ m₁ : List ℕ} → r ≡ Passed → head_words ≤ length w → (2940 < length w → t₁ ≡ set_phase phase_marking (view w))
+module _ (w s m : List ℕ) {r : Result ⊤ Refusal} (e : r ≡ phase_test (view w) phase_running) where
+  pub prepare_done : {t₁ : Words} {s₁ m₁ : List ℕ} → r ≡ Ok tt → head_words ≤ length w → (2940 < length w → t₁ ≡ set_phase phase_marking (view w))
       → s₁ ≡ map unmarked_state s → m₁ ≡ cleared m
       → (p : Params) (h : List ℕ) → Does p (tables_of (view w) s m) h prepare (answered []) (tables_of t₁ s₁ m₁) h
   unfolding call_tests plan_passed prepared finish events_heap
@@ -174,22 +139,12 @@ module _ (w s m : List ℕ) {r : Tested} (e : r ≡ phase_test (view w) phase_ru
       let t : Tables = tables_of (view w) s m in
       rw (v (omega arith), es, em) (step_passed p t h prepare e z)
 
-  pub prepare_refused : {x : Refusal} → r ≡ Refused x
+  pub prepare_refused : {x : Refusal} → r ≡ Err x
       → (p : Params) (h : List ℕ) → Does p (tables_of (view w) s m) h prepare (refused x) (tables_of (view w) s m) h
   unfolding call_tests
   prepare_refused z p h = step_refused p (tables_of (view w) s m) h prepare e z
 
 -- ---- set-up
-
-pub zeros_more : (w : List ℕ) (i : ℕ) → i < length w → ((k : ℕ) → k < i → get_or w k 0 ≡ 0) → (k : ℕ) → k < i + 1 → get_or (set w i 0) k 0 ≡ 0
-zeros_more w i h z =
-    below_more (λ k. get_or (set w i 0) k 0 ≡ 0) i
-    (λ k q. get_or-set_other w i k 0 0 (λ e. omega arith) ∙ z k q) (get_or-set_same w i 0 0 h)
-
-pub zeros_end : (w : List ℕ) (n i : ℕ) → length w ≡ n → length w ≤ i → ((k : ℕ) → k < i → get_or w k 0 ≡ 0) → w ≡ replicate n 0
-zeros_end w n i e h z =
-    ext_get_or 0 w (replicate n 0) (e ∙ sym (length-replicate n 0))
-    (λ k q. z k (omega arith) ∙ sym (get_or-replicate n k 0 0 (omega arith)))
 
 fresh_flat : (p : Params) (k : ℕ) → k ≡ head_words + block_tables * p.blocks → flat (fresh_words p) ≡ replicate k 0
 unfolding fresh_words word_count
@@ -223,14 +178,14 @@ module _ (p : Params) (w s m h : List ℕ) {f : Bool} (ef : f ≡ fits p (lend w
 
 -- ---- mark
 
-module _ (p : Params) (t : Words) (s m : List ℕ) (place b : ℕ) {r : Tested}
+module _ (p : Params) (t : Words) (s m : List ℕ) (place b : ℕ) {r : Result ⊤ Refusal}
     (e : (m₀ : List ℕ) → r ≡ mark_tests p (tables_of t s m₀) place b) where
-  pub mark_refused : {x : Refusal} → r ≡ Refused x → (h : List ℕ)
+  pub mark_refused : {x : Refusal} → r ≡ Err x → (h : List ℕ)
       → Does p (tables_of t s m) h (mark place b) (refused x) (tables_of t s m) h
   unfolding call_tests
   mark_refused z h = step_refused p (tables_of t s m) h (mark place b) (e m) z
 
-  module _ (z : r ≡ Passed) {x : Bool} (ex : x ≡ marked p m place) where
+  module _ (z : r ≡ Ok tt) {x : Bool} (ex : x ≡ marked p m place) where
     pub mark_old : x ≡ true → (h : List ℕ) → Does p (tables_of t s m) h (mark place b) (answered (0 ∷ [])) (tables_of t s m) h
     unfolding call_tests plan_passed mark_place flag finish events_heap
     mark_old y h =
@@ -320,16 +275,16 @@ module _ (p : Params) (c : Call) (part : ℕ) (t : Words) (s m h : List ℕ) (f 
       let et : t₃ ≡ part_released p part g.words = ap (λ (x : Moved). x.words) v ∙ ap (part_released p part) a.words in
       rw (planned, et, es ∙ sym a.states, en ∙ sym a.released, ek, a.swept, a.heap)
 
-pub release_bound : (t : Words) (n : ℕ) {r : Tested} → r ≡ release_tests t n → r ≡ Passed → (1 ≤ n) × (n ≤ 8)
+pub release_bound : (t : Words) (n : ℕ) {r : Result ⊤ Refusal} → r ≡ release_tests t n → r ≡ Ok tt → (1 ≤ n) × (n ≤ 8)
 release_bound t n e z = let b = (release_passed t n (sym e ∙ z)).1 in (bound_low t n b, bound_high t n b)
 
-module _ (p : Params) (t : Words) (s : List ℕ) (n : ℕ) {r : Tested} (e : r ≡ release_tests t n) where
-  pub release_refused : {x : Refusal} → r ≡ Refused x → (m h : List ℕ)
+module _ (p : Params) (t : Words) (s : List ℕ) (n : ℕ) {r : Result ⊤ Refusal} (e : r ≡ release_tests t n) where
+  pub release_refused : {x : Refusal} → r ≡ Err x → (m h : List ℕ)
       → Does p (tables_of t s m) h (release n) (refused x) (tables_of t s m) h
   unfolding call_tests
   release_refused z m h = step_refused p (tables_of t s m) h (release n) e z
 
-  pub release_done : (m h : List ℕ) {k i j : ℕ} {t₁ t₂ t₃ : Words} {s₁ h₁ : List ℕ} → r ≡ Passed → out k t₁ s₁ ≡ total (release_holder p n t s)
+  pub release_done : (m h : List ℕ) {k i j : ℕ} {t₁ t₂ t₃ : Words} {s₁ h₁ : List ℕ} → r ≡ Ok tt → out k t₁ s₁ ≡ total (release_holder p n t s)
       → done i t₂ h₁ ≡ swept_in p h (eagerly p m n (freed t₁ s₁)) → moved j t₃ ≡ part_moves p n t₂
       → Does p (tables_of t s m) h (release n) (answered (k ∷ j ∷ i ∷ [])) (tables_of t₃ s₁ m) h₁
   unfolding call_tests plan_passed
@@ -337,13 +292,13 @@ module _ (p : Params) (t : Words) (s : List ℕ) (n : ℕ) {r : Tested} (e : r �
       freed_done p (release n) n t s m h (release_holder p n t s) refl (quiet_holder p n t s) q d v
       ∙ step_passed p (tables_of t s m) h (release n) e z
 
-module _ (p : Params) (t : Words) (s : List ℕ) {r : Tested} (e : r ≡ shared_tests t) where
-  pub shared_refused : {x : Refusal} → r ≡ Refused x → (m h : List ℕ)
+module _ (p : Params) (t : Words) (s : List ℕ) {r : Result ⊤ Refusal} (e : r ≡ shared_tests t) where
+  pub shared_refused : {x : Refusal} → r ≡ Err x → (m h : List ℕ)
       → Does p (tables_of t s m) h shared_release (refused x) (tables_of t s m) h
   unfolding call_tests
   shared_refused z m h = step_refused p (tables_of t s m) h shared_release e z
 
-  pub shared_done : (m h : List ℕ) {k i j : ℕ} {t₁ t₂ t₃ : Words} {s₁ h₁ : List ℕ} → r ≡ Passed → out k t₁ s₁ ≡ total (sweep_later p t s)
+  pub shared_done : (m h : List ℕ) {k i j : ℕ} {t₁ t₂ t₃ : Words} {s₁ h₁ : List ℕ} → r ≡ Ok tt → out k t₁ s₁ ≡ total (sweep_later p t s)
       → done i t₂ h₁ ≡ swept_in p h (eagerly p m 0 (freed t₁ s₁)) → moved j t₃ ≡ part_moves p 0 t₂
       → Does p (tables_of t s m) h shared_release (answered (k ∷ j ∷ i ∷ [])) (tables_of t₃ s₁ m) h₁
   unfolding call_tests plan_passed

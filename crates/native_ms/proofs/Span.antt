@@ -7,7 +7,8 @@ use mathlib.Core.List.{List}
 use native.Mathlib.Omega.{arith}
 use native.Mathlib.Decide.{dec_lt}
 use lib.Dec.{eqb}
-use lib.ListN.{length, get_or, get_or-eq_default}
+use lib.ListN.{length, get_or, take, drop, get_or-eq_default, length-take, length-drop}
+use Rattle.std.proofs.lemmas.List.{get_or-take, get_or-drop}
 use borrow.Author.Tests.{ne_eqb, eq-eqb, lt-leb, le-leb, lt-ltb}
 use Rattle.model.specs.declared.Params.{Params}
 use Rattle.model.specs.Base.{any_below, all_below}
@@ -87,23 +88,22 @@ module _ (ms : List ℕ) where
 
 -- bytes from `from` up to `to`
 
-pub byte_from : (ms : List ℕ) (from to i : ℕ) → from ≤ i → i < to → get_or ms i 0 < 256 → (get_or ms i 0 ≡ 0 → ⊥)
-    → any_bit ms (8 * from) (8 * (to - from)) ≡ true
-byte_from ms from to i l m b ne =
-    let at : from + (i - from) ≡ i = omega (arith, l) in
-    byte_some ms from (to - from) (i - from) (omega (arith, l, m)) (rw at b) (λ e. ne (rw at at e))
+-- the bytes of a slice, from `from` up to `to`
+module _ (ms : List ℕ) (from to : ℕ) where
+  slice_byte : (k : ℕ) → k < to - from → get_or (take (to - from) (drop from ms)) k 0 ≡ get_or ms (from + k) 0
+  slice_byte k l = get_or-take (to - from) (drop from ms) k 0 l ∙ get_or-drop from ms k 0
 
-pub bytes_from : (ms : List ℕ) (from to : ℕ) → from ≤ to → ((j : ℕ) → from ≤ j → j < to → get_or ms j 0 ≡ 0)
-    → any_bit ms (8 * from) (8 * (to - from)) ≡ false
-bytes_from ms from to le f = bytes_none ms from (to - from) (λ k l. f (from + k) (omega arith) (omega (arith, l)))
+  pub slice_some : (k : ℕ) → k < length (take (to - from) (drop from ms)) → get_or ms (from + k) 0 < 256
+      → (get_or (take (to - from) (drop from ms)) k 0 ≡ 0 → ⊥) → true ≡ any_bit ms (8 * from) (8 * (to - from))
+  slice_some k l b ne =
+      let m : k < to - from = omega (arith, length-take (to - from) (drop from ms), l) in
+      sym (byte_some ms from (to - from) k m b (λ e. ne (slice_byte k m ∙ e)))
 
-pub zero_on : (ms : List ℕ) (from i : ℕ) → ((j : ℕ) → from ≤ j → j < i → get_or ms j 0 ≡ 0) → get_or ms i 0 ≡ 0
-    → (j : ℕ) → from ≤ j → j < i + 1 → get_or ms j 0 ≡ 0
-zero_on ms from i f e j a b = go (dec_lt j i)
-  where
-    go : Dec (j < i) → get_or ms j 0 ≡ 0
-    go (yes y) = f j a y
-    go (no y) = let z : j ≡ i = omega (arith, y, b) in rw z e
+  pub slice_none : (i : ℕ) → to ≤ length ms → ((j : ℕ) → j < i → get_or (take (to - from) (drop from ms)) j 0 ≡ 0)
+      → length (take (to - from) (drop from ms)) ≤ i → false ≡ any_bit ms (8 * from) (8 * (to - from))
+  slice_none i fits f e =
+      sym (bytes_none ms from (to - from)
+      (λ k l. sym (slice_byte k l) ∙ f k (omega (arith, length-take (to - from) (drop from ms), length-drop from ms, fits, e, l))))
 
 -- ---- what is left of a byte, from its bit q on: all bytes, by one computed test
 

@@ -1,5 +1,6 @@
 -- What the tests of a call say: refused at one of them, or open to what the call does. A public call is its first tests and its
 -- step on sound tables; that step is its own tests and its plan. Plain values alone stand here. Assumes nothing.
+use Rattle.std.specs.Prelude.{Result, ⊤, Ok, Err}
 use Prim.Native.Nat.{ℕ, ◌+◌, ◌-◌, ◌*◌, ◌/◌, ◌≤◌}
 use mathlib.Core.Path.{◌≡◌, refl, sym, ap, ◌∙◌}
 use mathlib.Core.Bool.{Bool, true, false, not, ◌&&◌, ◌||◌}
@@ -11,8 +12,6 @@ use borrow.Author.Tests.{eq-eqb, ne_eqb, eqb-true, leb-true}
 use Rattle.model.specs.declared.Params.{Params}
 use Rattle.model.specs.declared.Refusal.{Refusal}
 use Rattle.model.specs.declared.Refusal.TheVariants.{BadSetup, BadTables, BadClasses, WrongPhase, BadHolder}
-use Rattle.model.specs.declared.Tested.{Tested}
-use Rattle.model.specs.declared.Tested.TheVariants.{Passed, Refused}
 use Rattle.model.specs.Params.{good_params, fits, word_count, heap_bytes, head_words, block_tables}
 use Rattle.model.specs.Tables.{Words, Tables, tables_of, view, flat}
 use Rattle.model.specs.Events.{events_heap}
@@ -66,38 +65,38 @@ module _ (p : Params) (w s m h : List ℕ) where
 -- ---- one test
 
 module _ (x : Refusal) where
-  pub test_no : {a A : Bool} → a ≡ A → a ≡ false → Refused x ≡ refused_if (not A) x
+  pub test_no : {a A : Bool} → a ≡ A → a ≡ false → Err x ≡ refused_if (not A) x
   test_no e z = sym (if_true _ _ _ (ap not (sym e ∙ z)))
 
-  pub test_yes : {a A : Bool} → a ≡ A → a ≡ true → Passed ≡ refused_if (not A) x
+  pub test_yes : {a A : Bool} → a ≡ A → a ≡ true → (Ok tt) ≡ refused_if (not A) x
   test_yes e z = sym (if_false _ _ _ (ap not (sym e ∙ z)))
 
-  pub either_no : {a A : Bool} (B : Bool) → a ≡ A → a ≡ false → Refused x ≡ refused_if (not A || B) x
+  pub either_no : {a A : Bool} (B : Bool) → a ≡ A → a ≡ false → Err x ≡ refused_if (not A || B) x
   either_no B e z = sym (if_true _ _ _ (or_left B (ap not (sym e ∙ z))))
 
-  pub either_yes : {a A b B : Bool} → a ≡ A → b ≡ B → b ≡ true → Refused x ≡ refused_if (not A || B) x
+  pub either_yes : {a A b B : Bool} → a ≡ A → b ≡ B → b ≡ true → Err x ≡ refused_if (not A || B) x
   either_yes {A = A} e d y = sym (if_true _ _ _ (or_right (not A) (sym d ∙ y)))
 
-  pub neither : {a A b B : Bool} → a ≡ A → a ≡ true → b ≡ B → b ≡ false → Passed ≡ refused_if (not A || B) x
+  pub neither : {a A b B : Bool} → a ≡ A → a ≡ true → b ≡ B → b ≡ false → (Ok tt) ≡ refused_if (not A || B) x
   neither e z d y = sym (if_false _ _ _ (or_neither (ap not (sym e ∙ z)) (sym d ∙ y)))
 
 module _ (t : Words) (k : ℕ) {f : ℕ} (ef : f ≡ t.phase) where
-  pub phase_other : (f ≡ k → ⊥) → Refused WrongPhase ≡ phase_test t k
+  pub phase_other : (f ≡ k → ⊥) → Err WrongPhase ≡ phase_test t k
   unfolding phase_test
   phase_other q = test_no WrongPhase (sym (ne_eqb t.phase k (λ e. q (ef ∙ e)))) refl
 
-  pub phase_this : f ≡ k → Passed ≡ phase_test t k
+  pub phase_this : f ≡ k → (Ok tt) ≡ phase_test t k
   unfolding phase_test
   phase_this q = test_yes WrongPhase (sym (eq-eqb t.phase k (sym ef ∙ q))) refl
 
 -- ---- tests in order
 
-module _ {a r : Tested} (b : Tested) (e : r ≡ a) where
-  pub then_refused : {x : Refusal} → r ≡ Refused x → Refused x ≡ and_then a b
+module _ {a r : Result ⊤ Refusal} (b : Result ⊤ Refusal) (e : r ≡ a) where
+  pub then_refused : {x : Refusal} → r ≡ Err x → Err x ≡ and_then a b
   unfolding and_then
   then_refused z = rw (sym e ∙ z)
 
-  pub then_passed : {v : Tested} → r ≡ Passed → v ≡ b → v ≡ and_then a b
+  pub then_passed : {v : Result ⊤ Refusal} → r ≡ Ok tt → v ≡ b → v ≡ and_then a b
   unfolding and_then
   then_passed z q = rw (sym e ∙ z) q
 
@@ -112,40 +111,40 @@ pub record Open (p : Params) (w s m h : List ℕ) : Type 0 where
   pub whole : sound_on p (tables_of (view w) s m) h ≡ true
 
 module _ (p : Params) (w s m h : List ℕ) where
-  pub opened : lent_tests p (lend w s m h) ≡ Passed → Open p w s m h
+  pub opened : lent_tests p (lend w s m h) ≡ Ok tt → Open p w s m h
   unfolding lent_tests and_then
   opened e = go (fits p (lend w s m h)) (classes_fit p) (sound_on p (tables_of (view w) s m) h) refl refl refl e
     where
       go : (f k g : Bool) → fits p (lend w s m h) ≡ f → classes_fit p ≡ k → sound_on p (tables_of (view w) s m) h ≡ g
-          → and_then (refused_if (not f) BadSetup) (and_then (refused_if (not k) BadClasses) (refused_if (not g) BadTables)) ≡ Passed → Open p w s m h
+          → and_then (refused_if (not f) BadSetup) (and_then (refused_if (not k) BadClasses) (refused_if (not g) BadTables)) ≡ Ok tt → Open p w s m h
       go false k g ef ek eg q = clash q
       go true false g ef ek eg q = clash q
       go true true false ef ek eg q = clash q
       go true true true ef ek eg q =
           record { fit = ef; parts = fit_parts p w s m h refl ef; classes = ek; sane = (and_three (sound p (tables_of (view w) s m)) (eager_ok p (tables_of (view w) s m)) (chained p (tables_of (view w) s m) h) eg).0; whole = eg }
 
-  pub open_good : lent_tests p (lend w s m h) ≡ Passed → good_params p ≡ true
+  pub open_good : lent_tests p (lend w s m h) ≡ Ok tt → good_params p ≡ true
   open_good e = (opened e).parts.good
 
-  pub open_known : lent_tests p (lend w s m h) ≡ Passed → Known p (length w) (length m) (length h)
+  pub open_known : lent_tests p (lend w s m h) ≡ Ok tt → Known p (length w) (length m) (length h)
   unfolding word_count
   open_known e =
       let o = opened e in
       record { good = o.parts.good; count = o.parts.words; lines = o.parts.marks; whole = o.parts.heap }
 
   -- the words are long enough for all that comes before the block tables
-  pub open_long : lent_tests p (lend w s m h) ≡ Passed → head_words ≤ length w
+  pub open_long : lent_tests p (lend w s m h) ≡ Ok tt → head_words ≤ length w
   open_long e = let l = (opened e).parts.words in omega arith
 
 -- ---- a public call: its first tests, and its step on sound tables
 
-module _ (p : Params) (w s m h : List ℕ) (c : Call) {r : Tested} (e : r ≡ lent_tests p (lend w s m h)) where
-  pub lent_refused : {x : Refusal} → r ≡ Refused x → Promised p (lend w s m h) c (refused x) (lend w s m h)
+module _ (p : Params) (w s m h : List ℕ) (c : Call) {r : Result ⊤ Refusal} (e : r ≡ lent_tests p (lend w s m h)) where
+  pub lent_refused : {x : Refusal} → r ≡ Err x → Promised p (lend w s m h) c (refused x) (lend w s m h)
   unfolding lent_tests and_then call step plan finish events_heap
   lent_refused {x} z = go (fits p (lend w s m h)) (classes_fit p) (sound_on p (tables_of (view w) s m) h) refl refl refl (sym e ∙ z)
     where
       go : (f k g : Bool) → fits p (lend w s m h) ≡ f → classes_fit p ≡ k → sound_on p (tables_of (view w) s m) h ≡ g
-          → and_then (refused_if (not f) BadSetup) (and_then (refused_if (not k) BadClasses) (refused_if (not g) BadTables)) ≡ Refused x
+          → and_then (refused_if (not f) BadSetup) (and_then (refused_if (not k) BadClasses) (refused_if (not g) BadTables)) ≡ Err x
           → Promised p (lend w s m h) c (refused x) (lend w s m h)
       go false k g ef ek eg y =
           let i : x ≡ BadSetup = cc in
@@ -159,7 +158,7 @@ module _ (p : Params) (w s m h : List ℕ) (c : Call) {r : Tested} (e : r ≡ le
           rw i (record { reply = rw (ef, ek, eg); lent = rw (ef, ek, eg, v) })
       go true true true ef ek eg y = clash (sym y)
 
-  pub lent_passed : {y : Reply} {w' s' m' h' : List ℕ} → r ≡ Passed → length w' ≡ length w
+  pub lent_passed : {y : Reply} {w' s' m' h' : List ℕ} → r ≡ Ok tt → length w' ≡ length w
       → Does p (tables_of (view w) s m) h c y (tables_of (view w') s' m') h' → Promised p (lend w s m h) c y (lend w' s' m' h')
   unfolding call step plan sound_step
   lent_passed {y} {w'} {s'} {m'} {h'} z l d =
@@ -175,33 +174,33 @@ module _ (p : Params) (w s m h : List ℕ) (c : Call) {r : Tested} (e : r ≡ le
 
 -- ---- its step on sound tables: its own tests, and its plan
 
-module _ (p : Params) (t : Tables) (h : List ℕ) (c : Call) {r : Tested} (e : r ≡ call_tests p t c) where
-  pub step_refused : {x : Refusal} → r ≡ Refused x → Does p t h c (refused x) t h
+module _ (p : Params) (t : Tables) (h : List ℕ) (c : Call) {r : Result ⊤ Refusal} (e : r ≡ call_tests p t c) where
+  pub step_refused : {x : Refusal} → r ≡ Err x → Does p t h c (refused x) t h
   unfolding sound_step plan_sound if_passed finish events_heap
   step_refused z = rw (sym e ∙ z)
 
-  pub step_passed : r ≡ Passed → shown (carried p h (plan_passed p t c)) ≡ shown (sound_step p t h c)
+  pub step_passed : r ≡ Ok tt → shown (carried p h (plan_passed p t c)) ≡ shown (sound_step p t h c)
   unfolding sound_step plan_sound if_passed
   step_passed z = rw (sym e ∙ z)
 
 -- ---- the holder of an alloc
 
 module _ (w : Words) (holder : ℕ) {f : ℕ} (ef : f ≡ w.phase) where
-  pub bound_phase : (f ≡ 0 → ⊥) → Refused WrongPhase ≡ bound_tests w holder
+  pub bound_phase : (f ≡ 0 → ⊥) → Err WrongPhase ≡ bound_tests w holder
   unfolding bound_tests phase_test and_then
   bound_phase n = rw (← ef, ne_eqb f 0 n)
 
   module _ (z : f ≡ 0) {q : Bool} (eq : q ≡ is_holder holder) where
-    pub bound_number : q ≡ false → Refused BadHolder ≡ bound_tests w holder
+    pub bound_number : q ≡ false → Err BadHolder ≡ bound_tests w holder
     unfolding bound_tests phase_test and_then is_bound
     bound_number n = rw (← ef, eq-eqb f 0 z, ← eq, n)
 
     module _ (y : q ≡ true) {b : ℕ} (eb : b ≡ get_or w.bound (holder - 1) 0) where
-      pub bound_not : (b ≡ 1 → ⊥) → Refused BadHolder ≡ bound_tests w holder
+      pub bound_not : (b ≡ 1 → ⊥) → Err BadHolder ≡ bound_tests w holder
       unfolding bound_tests phase_test and_then is_bound
       bound_not n = rw (← ef, eq-eqb f 0 z, ← eq, y, ← eb, ne_eqb b 1 n)
 
-      pub bound_passed : b ≡ 1 → Passed ≡ bound_tests w holder
+      pub bound_passed : b ≡ 1 → (Ok tt) ≡ bound_tests w holder
       unfolding bound_tests phase_test and_then is_bound
       bound_passed n = rw (← ef, eq-eqb f 0 z, ← eq, y, ← eb, eq-eqb b 1 n)
 

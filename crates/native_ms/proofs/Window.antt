@@ -1,7 +1,7 @@
 -- Mark bits in a window of two bytes. Leans on the laws of runs of bits; assumes nothing.
-use mathlib.Core.Path.{◌≡◌, sym, ap, ◌∙◌}
+use mathlib.Core.Path.{◌≡◌, refl, sym, ap, ◌∙◌}
 use mathlib.Core.Logic.{⊎_elim}
-use mathlib.Core.Bool.{true, false}
+use mathlib.Core.Bool.{Bool, true, false, not}
 use mathlib.Core.List.{List}
 use Prim.Native.Nat.{ℕ, zero, suc, ◌+◌, ◌-◌, ◌*◌, ◌/◌, ◌%◌, ◌^◌, ◌≤◌, ◌<◌}
 use native.Mathlib.Nat.{pow-suc, pow-succ', pow-le-pow_right, div-div-eq-div-mul, add-mul-div_left, mul_assoc, mul_comm, not-suc-le-zero, mod-one}
@@ -12,7 +12,7 @@ use native.Mathlib.Omega.{arith}
 use lib.Bits.{bit_and, and_mask}
 use lib.Dec.{eqb}
 use lib.ListN.{get_or}
-use borrow.Author.Tests.{eqb-false}
+use borrow.Author.Tests.{eqb-false, ne_eqb}
 use Rattle.model.specs.Memory.{bit_of}
 use Rattle.laws.proofs.Base.{Bool_cases, not_both}
 use Rattle.native_ms.specs.Bits.{bit_at, any_bit}
@@ -46,15 +46,17 @@ zero_low (suc n) y e zero l = omega (arith, halves n y, e, digit_first y)
 zero_low (suc n) y e (suc k) l =
     sym (half_digit y k) ∙ zero_low n (y / 2) (omega (arith, halves n y, e)) k (omega arith)
 
+-- a test for 0, turned round
+pub not_zero : (x : ℕ) {b : Bool} → (x ≡ 0 → false ≡ b) → ((x ≡ 0 → ⊥) → true ≡ b) → not (eqb x 0) ≡ b
+not_zero zero none some = none refl
+not_zero (suc x) none some = rw (ne_eqb (suc x) 0 (λ e. cc)) (some (λ e. cc))
+
 -- ---- a mask of at most eight bits
 
 mask_is : (n : ℕ) → n ≤ 8 → 1 * 2 ^ n % 2 ^ 64 ≡ 2 ^ n
 mask_is n l =
     let top : 2 ^ n ≤ 2 ^ 8 = pow-le-pow_right {n = 2} (omega arith) {i = n} {j = 8} l in
     omega (arith, top)
-
-pub mask_some : (n : ℕ) → n ≤ 8 → 1 ≤ 1 * 2 ^ n % 2 ^ 64
-mask_some n l = rw (mask_is n l) (pow_pos n)
 
 -- ---- two bytes in one number
 

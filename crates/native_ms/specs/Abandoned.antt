@@ -1,9 +1,10 @@
 -- One turn of the search of abandoned blocks, as the code cuts it: a block is popped, and then taken over.
-use Rattle.std.specs.Prelude.{if◌then◌else◌, ℕ, ◌≡◌, Bool, true, false, not, List, eqb, get_or}
+use Rattle.std.specs.Prelude.{if◌then◌else◌, ℕ, ◌≡◌, Bool, true, false, not, List, eqb, get_or, Option, Some, None}
 use Rattle.model.specs.declared.Params.{Params}
 use Rattle.model.specs.Params.{local_sets, abandoned, available, unswept, consumed}
 use Rattle.model.specs.Tables.{Words, set_tls}
 use Rattle.model.specs.BlockList.{Popped, push, pop}
+use Rattle.native_ms.specs.declared.free_list_allocator.Abandoned.{Abandoned}
 use Rattle.model.specs.Block.{link_all, sweep_chain, swept_words}
 
 -- the next abandoned block: where it starts, 0 for none; whether it waits for a sweep; the words after
@@ -14,6 +15,11 @@ pub record Next : Type 0 where
 
 abbrev pub next_of : ℕ → Bool → Words → Next
 next_of a q t = record { at = a; unswept = q; words = t }
+
+-- the same as the code gives it: where there is none, the unswept blocks were looked for last
+abbrev pub next_seen : Option Abandoned → Words → Next
+next_seen (Some next) t = next_of next.at.at.0 next.unswept t
+next_seen None t = next_of 0 true t
 
 -- an available one, or else an unswept one
 unfoldable pub pop_abandoned : Params → ℕ → Words → Next

@@ -1,7 +1,7 @@
 -- How a whole search, and the end of a call that serves, meet the machine's. What is promised of the allocator's last steps.
-use Rattle.std.specs.Prelude.{if◌then◌else◌, ℕ, ◌+◌, ◌^◌, ◌<◌, ◌≤◌, ◌≡◌, Bool, true, List, eqb, get_or, set}
+use Rattle.std.specs.Prelude.{if◌then◌else◌, ℕ, ◌+◌, ◌^◌, ◌<◌, ◌≤◌, ◌≡◌, Bool, true, List, eqb, get_or, set, Option}
 use Rattle.model.specs.declared.Params.{Params}
-use Rattle.model.specs.declared.Offer.{Offer}
+use Rattle.model.specs.declared.Block.{Block}
 use Rattle.model.specs.Params.{good_params, bins, holders, local_sets, available}
 use Rattle.model.specs.Tables.{Words, Tables}
 use Rattle.model.specs.SizeClasses.{cell_bytes}
@@ -28,7 +28,7 @@ abbrev pub closed_search : Params → ℕ → List ℕ → Search → Ended
 closed_search p n h s = ended s.at (n + sweeps s.events) s.fresh s.tables (events_heap p s.events h)
 
 -- the last part of `find_block`: abandoned blocks, and then the offer
-unfoldable pub acquire_global : Params → ℕ → ℕ → Offer → Tables → Search
+unfoldable pub acquire_global : Params → ℕ → ℕ → Option Block → Tables → Search
 acquire_global p holder bin offer t =
     let a : Found = acquire_abandoned p.blocks p t.marks holder bin t.words in
     if eqb a.at 0 then acquire_fresh p holder bin offer a t else in_found a t

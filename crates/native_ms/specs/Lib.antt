@@ -5,6 +5,7 @@ pub mod Places
 pub mod Borders
 pub mod Counted
 pub mod Space
+pub mod Links
 pub mod Moved
 pub mod Records
 pub mod SoundWalk

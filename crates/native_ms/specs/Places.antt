@@ -1,9 +1,7 @@
 -- What is known of the lent slices below the test of a call, so that loops over cells test no range again.
-use Rattle.std.specs.Prelude.{ℕ, ◌+◌, ◌*◌, ◌/◌, ◌%◌, ◌≤◌, ◌<◌, ◌≡◌, Bool, true, List, get_or, length}
+use Rattle.std.specs.Prelude.{ℕ, ◌+◌, ◌*◌, ◌/◌, ◌%◌, ◌≤◌, ◌<◌, ◌≡◌, Bool, true, List, get_or, length, Option, Some}
 use Rattle.model.specs.declared.Params.{Params}
 use Rattle.model.specs.declared.Block.{Block}
-use Rattle.model.specs.declared.Offer.{Offer}
-use Rattle.model.specs.declared.Offer.TheVariants.{Fresh}
 use Rattle.model.specs.Params.{good_params, word_count, heap_bytes, block_at, biased}
 use Rattle.model.specs.Tables.{Words}
 use Rattle.model.specs.Block.{is_cell, cells_down}
@@ -53,8 +51,8 @@ pub record Classed (p : Params) (bin : ℕ) : Type 0 where
   pub most : cell_bytes p bin ≤ 65536
 
 -- a block that is offered is one
-pub record Offered (p : Params) (bin : ℕ) (offer : Offer) : Type 0 where
-  pub block : (b : Block) → offer ≡ Fresh b → b.0 < p.blocks
+pub record Offered (p : Params) (bin : ℕ) (offer : Option Block) : Type 0 where
+  pub block : (b : Block) → offer ≡ Some b → b.0 < p.blocks
   pub class : Classed p bin
 
 -- the block b, with cells of s bytes, can be swept
@@ -99,3 +97,11 @@ pub record Extends (p : Params) (kept : ℕ → Bool) (s at n last : ℕ) (h : L
   pub few : count ≤ n
   pub counted : (from k : ℕ) → from + k * s ≡ p.base + at
       → length (cells_down kept from s (k + n)) ≡ length (cells_down kept from s k) + count
+
+-- `ask` may be asked of each of n cells of s bytes, by its offset, from `at` on, and its first mark bit, from `first` on
+pub record Asked (ask : ℕ → ℕ → Type 0) (s at n first : ℕ) : Type 0 where
+  pub may : (k : ℕ) → k < n → ask (at + k * s) (first + k * (s / 8))
+
+-- and what it answers, as `says` has it, is whether `kept` keeps the cell
+pub record Tells (p : Params) (says : ℕ → ℕ → Bool → Type 0) (kept : ℕ → Bool) (s at n first : ℕ) : Type 0 where
+  pub told : (k : ℕ) (t : Bool) → k < n → says (at + k * s) (first + k * (s / 8)) t → kept (p.base + (at + k * s)) ≡ t

@@ -1,6 +1,5 @@
 -- `run` as its loops make it: what an entry of its list asks, and answers laid one behind the other.
-use Rattle.std.specs.Prelude.{ℕ, zero, suc, ◌+◌, List, [], ◌++◌}
-use Rattle.std.proofs.Math.Option.{Option, some, none}
+use Rattle.std.specs.Prelude.{ℕ, zero, suc, ◌+◌, List, [], ◌++◌, Option, Some, None, option_map}
 use Rattle.model.specs.declared.Refusal.{Refusal}
 use Rattle.model.specs.declared.Refusal.TheVariants.{BadLine}
 use Rattle.model.specs.Params.{Lent}
@@ -8,12 +7,11 @@ use Rattle.model.specs.Memory.{overwrite}
 use Rattle.model.specs.Calls.{Reply, refused, Call}
 use Rattle.model.specs.Answers.{call_of}
 use Rattle.model.specs.RunCalls.{call_words, call_at, words_of, RowRan}
-use Rattle.native_ms.specs.declared.run.Entry.{Entry}
-use Rattle.native_ms.specs.declared.run.Entry.TheVariants as Entries
+use Rattle.model.specs.declared.Ask.{Ask}
 
 -- the call that an entry asks for
-unfoldable pub entry_call : Entry → Option Call
-entry_call = elim [ Entries.Asks ask ↦ some (call_of ask) | Entries.Bad ↦ none ]
+unfoldable pub entry_call : Option Ask → Option Call
+entry_call = option_map call_of
 
 abbrev pub ran : List ℕ → Lent → RowRan
 ran answers l = record { answers = answers; lent = l }
@@ -25,7 +23,7 @@ laid i answers r = ran (overwrite i r.answers answers) r.lent
 -- ---- where the first tests refuse: that refusal from each call, and 11 where none is named
 
 unfoldable pub refused_reply : Refusal → Option Call → Reply
-refused_reply x = elim [ some c ↦ refused x | none ↦ refused BadLine ]
+refused_reply x = elim [ Some c ↦ refused x | None ↦ refused BadLine ]
 
 -- n answers, from the word i of the calls on
 unfoldable pub refused_from : ℕ → Refusal → List ℕ → ℕ → List ℕ

@@ -6,39 +6,24 @@ ghost use Rattle.model.specs.Calls.{good_request};
 ghost use Rattle.native_ms.specs.Raised.{raised_to, shifted_to};
 
 use crate::params;
-use model::{Address, Offer, Params};
+use model::{Address, Params};
 
-// What an alloc asks for.
-#[derive(Clone, Copy)]
-pub struct Request {
-    pub size: usize,
-    pub align: usize,
-    pub offset: usize,
-    pub offer: Offer,
-}
-
-// A size raised by `get_maximum_aligned_size`, if a block can hold it. A sum past 2^64 is no size.
-#[derive(Clone, Copy)]
-pub enum Raised {
-    Fits(usize),
-    TooBig,
-}
-
-pub fn get_maximum_aligned_size(p: Params, size: usize, align: usize) -> Raised
+// The size raised by the align, if a block can hold it. A sum past 2^64 is no size.
+pub fn get_maximum_aligned_size(p: Params, size: usize, align: usize) -> Option<usize>
     ensures { result ≡ raised_to p size align }
 {
     let min = p.min;
     let bytes = p.bytes;
     if bytes < size {
-        return Raised::TooBig;
+        return None;
     }
     if align <= min {
-        return Raised::Fits(size);
+        return Some(size);
     }
     if bytes - size < align - min {
-        return Raised::TooBig;
+        return None;
     }
-    Raised::Fits(size + (align - min))
+    Some(size + (align - min))
 }
 
 // What is left of a number by an align. Those of requests are powers of two, of which each has its own line: no division is made.
@@ -77,30 +62,24 @@ pub(crate) fn align_allocation(region: Address, align: usize, offset: usize) -> 
     Address(from + (align - rest))
 }
 
-// An address that `align_allocation` shifts, on any numbers: off where a request can't be so.
-#[derive(Clone, Copy)]
-pub enum Shifted {
-    At(Address),
-    Off,
-}
-
-pub fn shift_address(region: Address, align: usize, offset: usize) -> Shifted
+// `align_allocation` on any numbers: none where a request can't be so.
+pub fn shift_address(region: Address, align: usize, offset: usize) -> Option<Address>
     ensures { result ≡ shifted_to region.0 align offset }
 {
     let from = region.0;
     if align < 1 {
-        return Shifted::Off;
+        return None;
     }
     if 64 < align {
-        return Shifted::Off;
+        return None;
     }
     if 140737488355328 <= from {
-        return Shifted::Off;
+        return None;
     }
     if 65536 < offset {
-        return Shifted::Off;
+        return None;
     }
-    Shifted::At(align_allocation(region, align, offset))
+    Some(align_allocation(region, align, offset))
 }
 
 // Whether MIN, 4 or 8, divides x: most sizes are of whole words, and no division is made.

@@ -1,6 +1,7 @@
 // A block: its cells, the two sweeps and the choice between them, init, the taking of a cell, release. Named after the
 // Rust's block.rs, with `init_block` and `block_alloc` of free_list_allocator.rs.
-mod cells;
+#![tactic(auto, unfolding(model::specs::Params::word_count))]
+
 mod chain;
 mod known;
 mod marks;
@@ -15,9 +16,9 @@ ghost use Rattle.native_ms.specs.Places.{Known, WholeWords, Standing, Sweepable,
 use crate::block::chain::{Chain, Span};
 use crate::{address, memory};
 use model::{Address, Block, Params};
-use words::{states, tables};
+use words::{bytes, states, tables};
 
-// State bytes.
+// State bytes. Bytes and no enum: the tables may hold any, and each is tested against these.
 pub(crate) const UNALLOCATED: u8 = 0;
 
 pub(crate) const UNMARKED: u8 = 255;
@@ -40,16 +41,11 @@ pub(crate) fn biased(l: i64) -> usize
 }
 
 // Whether the simple sweep will do: a cell's address is that of its object.
+#[tactic(auto, unfolding(model::specs::Block::simple))]
 pub(crate) fn is_simple(p: Params) -> bool
     ensures { result ≡ simple p }
 {
-    if p.offsets {
-        return false;
-    }
-    if p.min != p.max {
-        return false;
-    }
-    p.unified
+    !p.offsets && p.min == p.max && p.unified
 }
 
 // Whether a sweep keeps the cell.
@@ -79,8 +75,7 @@ pub(crate) fn cell_count(p: Params, size: usize) -> usize
     p.bytes / size
 }
 
-// Links those of the cells that the sweep finds unmarked, each to the one below it: `count` cells of `size` bytes from `from` on. The
-// mark is tested last in a turn, so that the turn's two ends never meet.
+// Links those of the cells that the sweep finds unmarked, each to the one below it: `count` cells of `size` bytes from `from` on.
 fn link_unmarked(
     p: Params,
     simple: bool,
@@ -93,19 +88,14 @@ fn link_unmarked(
     requires { Room p from.0 size count }
     ensures { Built p (cells_down (kept_by simple p marks.now size) from.0 size count) heap.old result.head result.count heap.new }
 {
-    let mut seen: usize = 0;
-    let mut linked: usize = 0;
-    let mut next = from.0;
     let mut last: usize = 0;
-    while seen < count {
-        let cell = next;
-        next = next + size;
-        seen = seen + 1;
-        let kept = cell_is_marked(p, simple, marks, Address(cell), size);
-        if !kept {
+    let mut linked: usize = 0;
+    for seen in 0..count {
+        let cell = from.0 + seen * size;
+        if !cell_is_marked(p, simple, marks, Address(cell), size) {
             memory::store(p, heap, Address(cell), last);
             last = cell;
-            linked = linked + 1;
+            linked += 1;
         }
     }
     Chain {
@@ -132,23 +122,7 @@ fn sweep_by(p: Params, simple: bool, words: &mut [usize], marks: &[u8], heap: &m
 fn is_whole_words(size: usize) -> bool
     ensures { result ≡ true → WholeWords size }
 {
-    if size < 8 {
-        return false;
-    }
-    if 65536 < size {
-        return false;
-    }
-    size % 8 == 0
-}
-
-// All whole cells of the block.
-fn cells_span(p: Params, b: Block, size: usize) -> Span
-    requires { (good_params p ≡ true) × (b.0 < p.blocks) × (0 < size) }
-    ensures { (result.at ≡ b.0 * p.bytes) × (result.size ≡ size) × (result.count ≡ p.bytes / size) }
-{
-    let at = b.0 * p.bytes;
-    let count = p.bytes / size;
-    Span { at, size, count }
+    8 <= size && size <= 65536 && size % 8 == 0
 }
 
 // Frees each whole cell with no mark at its start.
@@ -158,7 +132,7 @@ fn simple_sweep(p: Params, words: &mut [usize], marks: &[u8], heap: &mut [u8], b
 {
     let blocks = p.blocks;
     let size = known::size(words, blocks, b);
-    let span = cells_span(p, b, size);
+    let span = Span::of_block(p, b, size);
     let chain = chain::link_by_bit(p, marks, heap, span, span.at / 8, 0);
     known::set_free(words, blocks, b, chain.head);
     known::set_cells(words, blocks, b, chain.count);
@@ -179,7 +153,7 @@ fn naive_brute_force_sweep(p: Params, words: &mut [usize], marks: &[u8], heap: &
 {
     let blocks = p.blocks;
     let size = known::size(words, blocks, b);
-    let span = cells_span(p, b, size);
+    let span = Span::of_block(p, b, size);
     let up = up_by(p);
     let chain = chain::link_brute(p, marks, heap, span, up);
     known::set_free(words, blocks, b, chain.head);
@@ -217,7 +191,7 @@ pub(crate) fn init_block(
     ensures { Initialised p b.0 size tls (view words.old) heap.old (view words.new) heap.new }
 {
     let blocks = p.blocks;
-    let span = cells_span(p, b, size);
+    let span = Span::of_block(p, b, size);
     let head = chain::link_cells(p, heap, span);
     known::set_free(words, blocks, b, head);
     known::set_size(words, blocks, b, size);
@@ -241,6 +215,7 @@ pub(crate) fn clear_block(words: &mut [usize], states: &mut [u8], b: Block)
 }
 
 // A whole cell of `size` bytes of the block b stands at a. The division is last and a short one, of numbers that are small by then.
+// One test a line: `inside` is reckoned between them, and each refusal has a law of its own.
 pub(crate) fn is_cell(p: Params, b: Block, size: usize, a: Address) -> bool
     requires { good_params p ≡ true }
     ensures { result ≡ is_cell p b.0 size a.0 }
@@ -270,20 +245,7 @@ pub(crate) fn link_ok(p: Params, b: Block, size: usize, a: Address) -> bool
     requires { good_params p ≡ true }
     ensures { result ≡ (eqb a.0 0 || is_cell p b.0 size a.0) }
 {
-    if a.0 == 0 {
-        return true;
-    }
-    is_cell(p, b, size, a)
-}
-
-// One less, of 0 none less.
-fn one_less(count: usize) -> usize
-    ensures { result ≡ count - 1 }
-{
-    if count == 0 {
-        return 0;
-    }
-    count - 1
+    a.0 == 0 || is_cell(p, b, size, a)
 }
 
 // Takes the cell at the block's free head. Its link is read before the whole cell is zeroed: the link lies in it.
@@ -295,7 +257,7 @@ pub(crate) fn block_alloc(p: Params, words: &mut [usize], heap: &mut [u8], b: Bl
     let cell = known::free(words, blocks, b);
     let size = known::size(words, blocks, b);
     let counted = known::cells(words, blocks, b);
-    let rest = one_less(counted);
+    let rest = counted.saturating_sub(1);
     let link = memory::load(p, heap, Address(cell));
     known::set_free(words, blocks, b, link);
     known::set_cells(words, blocks, b, rest);
@@ -315,12 +277,12 @@ pub(crate) fn take_head(p: Params, words: &mut [usize], heap: &mut [u8], b: Bloc
     let cell = known::free(words, blocks, b);
     let size = known::size(words, blocks, b);
     let counted = known::cells(words, blocks, b);
-    let left = one_less(counted);
+    let left = counted.saturating_sub(1);
     let at = cell - p.base;
-    let next = cells::word_at(heap, at);
+    let next = bytes::read(heap, at, 8);
     known::set_free(words, blocks, b, next);
     known::set_cells(words, blocks, b, left);
-    cells::clear(heap, at, size);
+    bytes::fill(heap, at, size);
     Taken {
         at: Address(cell),
         size,

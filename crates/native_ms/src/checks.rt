@@ -11,18 +11,10 @@ ghost use Rattle.native_ms.specs.Space.{in_block};
 ghost use Rattle.native_ms.specs.SoundLent.{Lengths};
 ghost use Rattle.native_ms.specs.Checked.{lent_tests, bin_after};
 
-use crate::allocator::{Raised, Request};
 use crate::sound::known;
 use crate::{address, allocator, block, classes, free_counts, global, params, size_class};
-use model::{Address, Block, Offer, Params, Refusal, Tested};
+use model::{Address, Block, Params, Refusal, Request};
 use words::{states, tables};
-
-// The bin to serve a request from, or its refusal.
-#[derive(Clone, Copy)]
-pub(crate) enum Checked {
-    Bin(usize),
-    Refused(Refusal),
-}
 
 // ---- what every call tests first
 
@@ -49,50 +41,46 @@ pub(crate) fn check_lent(
     states: &[u8],
     marks: &[u8],
     heap: &[u8],
-) -> Tested
+) -> Result<(), Refusal>
     ensures { result ≡ lent_tests p (lend words.now states.now marks.now heap.now) }
 {
     if !lent_fits(p, words, states, marks, heap) {
-        return Tested::Refused(Refusal::BadSetup);
+        return Err(Refusal::BadSetup);
     }
     if !classes::classes_fit(p) {
-        return Tested::Refused(Refusal::BadClasses);
+        return Err(Refusal::BadClasses);
     }
     if !free_counts::sound_on(p, words, states, heap) {
-        return Tested::Refused(Refusal::BadTables);
+        return Err(Refusal::BadTables);
     }
-    Tested::Passed
+    Ok(())
 }
 
 // ---- phase and holder
 
-pub(crate) fn check_phase(w: &[usize], phase: usize) -> Tested
+pub(crate) fn check_phase(w: &[usize], phase: usize) -> Result<(), Refusal>
     ensures { result ≡ phase_test (view w.now) phase }
 {
     if tables::phase(w) == phase {
-        return Tested::Passed;
+        return Ok(());
     }
-    Tested::Refused(Refusal::WrongPhase)
+    Err(Refusal::WrongPhase)
 }
 
-pub(crate) fn check_bind(w: &[usize], holder: usize) -> Tested
+pub(crate) fn check_bind(w: &[usize], holder: usize) -> Result<(), Refusal>
     ensures { result ≡ bind_tests (view w.now) holder }
 {
-    match check_phase(w, global::RUNNING) {
-        Tested::Refused(r) => Tested::Refused(r),
-        Tested::Passed => {
-            if !global::is_holder(holder) {
-                return Tested::Refused(Refusal::BadHolder);
-            }
-            if global::is_bound(w, holder) {
-                return Tested::Refused(Refusal::BadHolder);
-            }
-            Tested::Passed
-        }
+    check_phase(w, global::RUNNING)?;
+    if !global::is_holder(holder) {
+        return Err(Refusal::BadHolder);
     }
+    if global::is_bound(w, holder) {
+        return Err(Refusal::BadHolder);
+    }
+    Ok(())
 }
 
-// A holder may leave while Running or Marking.
+// A holder may leave while Running or Marking. Like `may_release`, but another sentence of 01: phases as parameters would be no plainer.
 fn may_leave(w: &[usize]) -> bool
     ensures { result ≡ may_leave (view w.now) }
 {
@@ -103,45 +91,45 @@ fn may_leave(w: &[usize]) -> bool
     f == global::MARKING
 }
 
-pub(crate) fn check_leave(w: &[usize], holder: usize) -> Tested
+pub(crate) fn check_leave(w: &[usize], holder: usize) -> Result<(), Refusal>
     ensures { result ≡ leave_tests (view w.now) holder }
 {
     if !may_leave(w) {
-        return Tested::Refused(Refusal::WrongPhase);
+        return Err(Refusal::WrongPhase);
     }
     if !global::is_bound(w, holder) {
-        return Tested::Refused(Refusal::BadHolder);
+        return Err(Refusal::BadHolder);
     }
-    Tested::Passed
+    Ok(())
 }
 
 // The same where the words are known to be there.
-pub(crate) fn check_bound(w: &[usize], holder: usize) -> Tested
+pub(crate) fn check_bound(w: &[usize], holder: usize) -> Result<(), Refusal>
     requires { head_words ≤ length w.now }
     ensures { result ≡ bound_tests (view w.now) holder }
 {
     if known::phase(w) != global::RUNNING {
-        return Tested::Refused(Refusal::WrongPhase);
+        return Err(Refusal::WrongPhase);
     }
     if !global::is_holder(holder) {
-        return Tested::Refused(Refusal::BadHolder);
+        return Err(Refusal::BadHolder);
     }
     if known::bound(w, holder) != 1 {
-        return Tested::Refused(Refusal::BadHolder);
+        return Err(Refusal::BadHolder);
     }
-    Tested::Passed
+    Ok(())
 }
 
 // ---- alloc
 
 // Whether the offer, if any, is a block that is not in use.
-fn good_offer(p: Params, st: &[u8], offer: Offer) -> bool
+fn good_offer(p: Params, st: &[u8], offer: Option<Block>) -> bool
     requires { length st.now ≡ p.blocks }
     ensures { (w : Words) (m : List ℕ) → result ≡ good_offer p (tables_of w st.now m) offer }
 {
     match offer {
-        Offer::Nothing => true,
-        Offer::Fresh(b) => {
+        None => true,
+        Some(b) => {
             if b.0 < p.blocks {
                 let state = known::state(st, b);
                 return state == block::UNALLOCATED;
@@ -152,23 +140,20 @@ fn good_offer(p: Params, st: &[u8], offer: Offer) -> bool
 }
 
 // The tests of what is asked for.
-fn check_request(p: Params, st: &[u8], request: Request) -> Checked
+fn check_request(p: Params, st: &[u8], request: Request) -> Result<usize, Refusal>
     requires { (good_params p ≡ true) × (length st.now ≡ p.blocks) }
     ensures { (w : Words) (m : List ℕ) → result ≡ bin_after (request_tests p (tables_of w st.now m) request.size request.align request.offset request.offer) (bin_of p (raised p request.size request.align)) }
 {
     if !allocator::good_request(p, request.size, request.align, request.offset) {
-        return Checked::Refused(Refusal::BadRequest);
+        return Err(Refusal::BadRequest);
     }
-    match allocator::get_maximum_aligned_size(p, request.size, request.align) {
-        Raised::TooBig => Checked::Refused(Refusal::TooBig),
-        Raised::Fits(size) => {
-            let offer = request.offer;
-            if !good_offer(p, st, offer) {
-                return Checked::Refused(Refusal::BadOffer);
-            }
-            Checked::Bin(size_class::bin_of(p, size))
-        }
+    let size = allocator::get_maximum_aligned_size(p, request.size, request.align).ok_or(
+        Refusal::TooBig,
+    )?;
+    if !good_offer(p, st, request.offer) {
+        return Err(Refusal::BadOffer);
     }
+    Ok(size_class::bin_of(p, size))
 }
 
 pub(crate) fn check_alloc(
@@ -177,14 +162,12 @@ pub(crate) fn check_alloc(
     st: &[u8],
     holder: usize,
     request: Request,
-) -> Checked
+) -> Result<usize, Refusal>
     requires { Lengths p w.now st.now }
     ensures { (m : List ℕ) → result ≡ bin_after (call_tests p (tables_of (view w.now) st.now m) (alloc holder request.size request.align request.offset request.offer)) (bin_of p (raised p request.size request.align)) }
 {
-    match check_bound(w, holder) {
-        Tested::Refused(r) => Checked::Refused(r),
-        Tested::Passed => check_request(p, st, request),
-    }
+    check_bound(w, holder)?;
+    check_request(p, st, request)
 }
 
 // ---- mark
@@ -236,19 +219,21 @@ fn good_object(p: Params, st: &[u8], place: Address, b: Block) -> bool
     in_block(p, b, a)
 }
 
-pub(crate) fn check_mark(p: Params, w: &[usize], st: &[u8], place: Address, b: Block) -> Tested
+pub(crate) fn check_mark(
+    p: Params,
+    w: &[usize],
+    st: &[u8],
+    place: Address,
+    b: Block,
+) -> Result<(), Refusal>
     requires { good_params p ≡ true }
     ensures { (m : List ℕ) → result ≡ mark_tests p (tables_of (view w.now) st.now m) place.0 b.0 }
 {
-    match check_phase(w, global::MARKING) {
-        Tested::Refused(r) => Tested::Refused(r),
-        Tested::Passed => {
-            if !good_object(p, st, place, b) {
-                return Tested::Refused(Refusal::BadObject);
-            }
-            Tested::Passed
-        }
+    check_phase(w, global::MARKING)?;
+    if !good_object(p, st, place, b) {
+        return Err(Refusal::BadObject);
     }
+    Ok(())
 }
 
 // ---- releases
@@ -272,29 +257,29 @@ fn released_already(w: &[usize], holder: usize) -> bool
     global::has_released(w, holder)
 }
 
-pub(crate) fn check_release(w: &[usize], holder: usize) -> Tested
+pub(crate) fn check_release(w: &[usize], holder: usize) -> Result<(), Refusal>
     ensures { result ≡ release_tests (view w.now) holder }
 {
     if !may_release(w) {
-        return Tested::Refused(Refusal::WrongPhase);
+        return Err(Refusal::WrongPhase);
     }
     if released_already(w, holder) {
-        return Tested::Refused(Refusal::WrongPhase);
+        return Err(Refusal::WrongPhase);
     }
     if !global::is_bound(w, holder) {
-        return Tested::Refused(Refusal::BadHolder);
+        return Err(Refusal::BadHolder);
     }
-    Tested::Passed
+    Ok(())
 }
 
-pub(crate) fn check_shared_release(w: &[usize]) -> Tested
+pub(crate) fn check_shared_release(w: &[usize]) -> Result<(), Refusal>
     ensures { result ≡ shared_tests (view w.now) }
 {
     if !may_release(w) {
-        return Tested::Refused(Refusal::WrongPhase);
+        return Err(Refusal::WrongPhase);
     }
     if global::has_released(w, 0) {
-        return Tested::Refused(Refusal::WrongPhase);
+        return Err(Refusal::WrongPhase);
     }
-    Tested::Passed
+    Ok(())
 }

@@ -1,6 +1,6 @@
 // The free chain of a block, walked a cell at a time, and the chain that a sweep would build, asked cell by cell: what a listing
 // prints of it. Any parameters, words, marks and heap will do; on parameters that are off a walk stands at no cell.
-ghost use Rattle.std.specs.Prelude.{◌≡◌, true, ◌&&◌, ◌+◌, ◌-◌, ◌*◌, ltb};
+ghost use Rattle.std.specs.Prelude.{◌≡◌, true, false, MatchOption, ◌&&◌, ◌+◌, ◌-◌, ◌*◌, ltb};
 ghost use Rattle.model.specs.Params.{good_params, start};
 ghost use Rattle.model.specs.Tables.{view};
 ghost use Rattle.model.specs.Block.{first_cell, more_cells, next_cell, cell_count, cell_at, frees_cell};
@@ -9,101 +9,71 @@ use crate::{address, block, memory, params};
 use model::{Address, Block, ChainWalk, Params};
 use words::tables;
 
+// No Iterator and no methods: the walk is a public record of `model` that definitions compute with, and the heap is lent to each turn.
 // The walk at the block's free head.
+#[tactic(auto, unfolding(model::specs::Block::first_cell))]
 pub fn first(p: Params, words: &[usize], b: Block) -> ChainWalk
     ensures { result ≡ first_cell p (view words.now) b }
 {
-    let number = b.0;
-    let head = tables::free(words, number);
-    let size = tables::size(words, number);
+    let at = Address(tables::free(words, b.0));
+    let size = tables::size(words, b.0);
     let left = block::cell_count(p, size);
     ChainWalk {
         block: b,
-        at: Address(head),
+        at,
         size,
         left,
     }
 }
 
 // Whether the walk stands at a cell: it ends at a bad link, or after as many cells as a block has.
+#[tactic(auto, unfolding(model::specs::Block::more_cells))]
 pub fn more(p: Params, walk: ChainWalk) -> bool
     ensures { result ≡ more_cells p walk }
 {
-    if !params::good_params(p) {
-        return false;
-    }
-    if walk.left == 0 {
-        return false;
-    }
-    block::is_cell(p, walk.block, walk.size, walk.at)
-}
-
-// One less, and 0 for 0.
-fn less_one(n: usize) -> usize
-    ensures { result ≡ n - 1 }
-{
-    if n == 0 {
-        return 0;
-    }
-    n - 1
+    params::good_params(p) && 0 < walk.left && block::is_cell(p, walk.block, walk.size, walk.at)
 }
 
 // The walk from the cell's link on.
+#[tactic(auto, unfolding(model::specs::Block::next_cell))]
 pub fn next(p: Params, heap: &[u8], walk: ChainWalk) -> ChainWalk
     ensures { result ≡ next_cell p heap.now walk }
 {
-    let block = walk.block;
-    let at = walk.at;
-    let link = memory::load(p, heap, at);
-    let left = less_one(walk.left);
+    let link = memory::load(p, heap, walk.at);
     ChainWalk {
-        block,
         at: Address(link),
-        size: walk.size,
-        left,
+        left: walk.left.saturating_sub(1),
+        ..walk
     }
 }
 
-// Whether a block with cells of `size` bytes has an i-th one, from 0.
-fn has_cell(p: Params, size: usize, i: usize) -> bool
-    ensures { result ≡ (good_params p && ltb i (cell_count p size)) }
+// Where the i-th whole cell of a block with cells of `size` bytes stands, from 0, if it has one.
+fn cell(p: Params, b: Block, size: usize, i: usize) -> Option<Address>
+    ensures { MatchOption result ((good_params p && ltb i (cell_count p size)) ≡ false) (λ at. ((good_params p && ltb i (cell_count p size)) ≡ true) × (at.0 ≡ start p b.0 + i * size)) }
 {
-    if !params::good_params(p) {
-        return false;
+    if params::good_params(p) && i < block::cell_count(p, size) {
+        Some(Address(address::start(p, b).0 + i * size))
+    } else {
+        None
     }
-    let count = block::cell_count(p, size);
-    i < count
 }
 
-fn cell(p: Params, b: Block, size: usize, i: usize) -> Address
-    requires { (good_params p && ltb i (cell_count p size)) ≡ true }
-    ensures { result.0 ≡ start p b.0 + i * size }
-{
-    let from = address::start(p, b);
-    let up = i * size;
-    let at = from.0 + up;
-    Address(at)
-}
-
-// Where the i-th whole cell stands; 0 if there is none.
+// The same, and 0 if there is none.
+#[tactic(auto, unfolding(model::specs::Block::cell_at))]
 pub fn cell_at(p: Params, b: Block, size: usize, i: usize) -> Address
     ensures { result.0 ≡ cell_at p b.0 size i }
 {
-    if !has_cell(p, size, i) {
-        return Address(0);
-    }
-    cell(p, b, size, i)
+    cell(p, b, size, i).unwrap_or(Address(0))
 }
 
 // Whether a sweep by these marks frees it.
+#[tactic(auto, using(crate::proofs::Chains::frees_kept), unfolding(model::specs::Block::frees_cell))]
 pub fn frees_cell(p: Params, marks: &[u8], b: Block, size: usize, i: usize) -> bool
     ensures { result ≡ frees_cell p marks.now b.0 size i }
 {
-    if !has_cell(p, size, i) {
+    let Some(at) = cell(p, b, size, i) else {
         return false;
-    }
-    let at = cell(p, b, size, i);
+    };
     let simple = block::is_simple(p);
-    let kept = block::cell_is_marked(p, simple, marks, at, size);
-    !kept
+    !block::cell_is_marked(p, simple, marks, at, size)
 }

@@ -1,10 +1,9 @@
 // The search for a block with a free cell, and the public call alloc. Named after the Rust's free_list_allocator.rs; its
 // `init_block` and `block_alloc` stand in block.rt. The searches are right on any words; that tables are sound is nothing they
 // need.
-ghost use Rattle.std.specs.Prelude.{◌≡◌, true, false, List, [], ℕ, ◌<◌, ◌≤◌, length};
-ghost use Rattle.model.specs.Base.{flag};
+ghost use Rattle.std.specs.Prelude.{◌≡◌, true, false, List, [], ℕ, ◌<◌, ◌≤◌, length, IfSome};
 ghost use Rattle.model.specs.Params.{good_params, word_count, bins, lists, holders, block_at};
-ghost use Rattle.model.specs.declared.Tested.TheVariants.{Passed};
+ghost use Rattle.model.specs.declared.Block.{Block as TheBlock};
 ghost use Rattle.model.specs.Tables.{view, tables_of};
 ghost use Rattle.model.specs.BlockList.{popped};
 ghost use Rattle.model.specs.SizeClasses.{bin_of, raised};
@@ -13,93 +12,89 @@ ghost use Rattle.model.specs.Calls.{alloc, take_cell};
 ghost use Rattle.model.specs.Answers.{alloc_reply};
 ghost use Rattle.native_ms.specs.Closing.{Filed, skimmed, reached, closed, Searched};
 ghost use Rattle.model.specs.Promise.{lend, Promised};
-ghost use Rattle.native_ms.specs.Abandoned.{next_of, pop_abandoned, TakenOver};
+ghost use Rattle.native_ms.specs.Links.{word_of};
+ghost use Rattle.native_ms.specs.Abandoned.{next_seen, pop_abandoned, TakenOver};
 ghost use Rattle.native_ms.specs.Ending.{ended, closed_search, acquire_global, Freshened, stepped, shown, ServedBy, Ready, Shiftable, Does};
 ghost use Rattle.native_ms.specs.Checked.{lent_tests, Serves};
 ghost use Rattle.native_ms.specs.ShortWay.{Passes, Shortly};
 ghost use Rattle.native_ms.specs.Places.{Known, Standing, Classed, Offered, HasFree, Takeable};
 
-use crate::allocator::Request;
-use crate::checks::Checked;
+use crate::address::{BlockStart, Lists};
 use crate::sound::{known, lists};
 use crate::{address, allocator, block, block_list, checks, size_class};
-use model::{ABANDONED, Address, AllocAnswer, Block, Offer, Params, Tested};
+use model::{ABANDONED, Address, Block, Params, Request, Served, Unserved};
 use words::{states, tables};
 
-// What a search gives: the start of a block with a free cell, 0 for none, and how many blocks were swept.
+// What a search gives: a block with a free cell, if there is one, and how many blocks were swept.
 #[derive(Clone, Copy)]
 pub(crate) struct Found {
-    pub at: Address,
+    pub at: Option<BlockStart>,
     pub swept: usize,
 }
 
-// What the whole search gives: the start of a block with a free cell, 0 for none, how many blocks were swept, and whether the
-// block is the offered one.
+// What the whole search gives: a block with a free cell, if there is one, how many blocks were swept, and whether the block is
+// the offered one.
 #[derive(Clone, Copy)]
 pub(crate) struct Search {
-    pub at: Address,
+    pub at: Option<BlockStart>,
     pub swept: usize,
     pub fresh: bool,
 }
 
 // What an alloc that passed its tests looks for.
+// The lent slices stay apart: where a struct of `&mut` was made for a call, the proof did not learn what it left behind them.
 #[derive(Clone, Copy)]
 pub(crate) struct Wanted {
     pub holder: usize,
     pub bin: usize,
     pub align: usize,
     pub offset: usize,
-    pub offer: Offer,
+    pub offer: Option<Block>,
+    ghost holder_from: { 1 ≤ holder },
+    ghost holder_to: { holder ≤ holders },
+    ghost bin_low: { bin < bins },
 }
 
-// The next abandoned block of a bin, 0 for none, and whether it waits for a sweep.
+// The next abandoned block of a bin, and whether it waits for a sweep.
 #[derive(Clone, Copy)]
 pub(crate) struct Abandoned {
-    pub at: Address,
+    pub at: BlockStart,
     pub unswept: bool,
 }
 
-// The first block of the list avail with a free cell. Those before it go to the list full.
-pub(crate) fn find_free_block_with(
-    p: Params,
-    words: &mut [usize],
-    avail: usize,
-    full: usize,
-) -> Address
-    requires { (good_params p ≡ true) × (avail < lists) × (full < lists) }
-    ensures { popped result.0 (view words.new) ≡ skimmed (find_free_block_with p.blocks p avail full (view words.old)) }
+// The first available block with a free cell. Those before it become consumed.
+pub(crate) fn find_free_block_with(p: Params, words: &mut [usize], own: Lists) -> Option<BlockStart>
+    requires { good_params p ≡ true }
+    ensures { popped (word_of result) (view words.new) ≡ skimmed (find_free_block_with p.blocks p own.available own.consumed (view words.old)) }
 {
-    let mut left = p.blocks;
-    while 0 < left {
-        let first = tables::first(words, avail);
+    for _ in 0..p.blocks {
+        let first = tables::first(words, own.available);
         if first == 0 {
-            return Address(0);
+            return None;
         }
-        let b = address::block_at(p, Address(first));
-        let number = b.0;
-        let cell = tables::free(words, number);
+        let at = Address(first);
+        let b = address::block_at(p, at);
+        let cell = tables::free(words, b.0);
         if cell != 0 {
-            return Address(first);
+            return Some(BlockStart { at });
         }
-        block_list::pop(p, words, avail);
-        block_list::push(p, words, full, b);
-        left = left - 1;
+        block_list::pop(p, words, own.available);
+        block_list::push(p, words, own.consumed, b);
     }
-    Address(0)
+    None
 }
 
-// Puts a block on the list avail if it has a free cell, else on the list full. The answer: whether it has one.
-fn file_block(p: Params, words: &mut [usize], avail: usize, full: usize, b: Block) -> bool
-    requires { (good_params p ≡ true) × (avail < lists) × (full < lists) }
-    ensures { Filed p avail full b.0 (view words.old) result (view words.new) }
+// Makes a block available if it has a free cell, else consumed. The answer: whether it has one.
+fn file_block(p: Params, words: &mut [usize], own: Lists, b: Block) -> bool
+    requires { good_params p ≡ true }
+    ensures { Filed p own.available own.consumed b.0 (view words.old) result (view words.new) }
 {
-    let number = b.0;
-    let cell = tables::free(words, number);
+    let cell = tables::free(words, b.0);
     if cell == 0 {
-        block_list::push(p, words, full, b);
+        block_list::push(p, words, own.consumed, b);
         return false;
     }
-    block_list::push(p, words, avail, b);
+    block_list::push(p, words, own.available, b);
     true
 }
 
@@ -113,55 +108,40 @@ pub(crate) fn recycle_local_blocks(
     bin: usize,
 ) -> Found
     requires { (Known p (length words.old) (length marks.now) (length heap.old)) × (owner < 28) × (bin < bins) }
-    ensures { Searched p.blocks (reached result.at.0 result.swept (view words.new) heap.new) (closed p 0 heap.old (recycle_local_blocks p.blocks p marks.now owner bin (view words.old))) }
+    ensures { Searched p.blocks (reached (word_of result.at) result.swept (view words.new) heap.new) (closed p 0 heap.old (recycle_local_blocks p.blocks p marks.now owner bin (view words.old))) }
 {
-    let from = address::unswept(owner, bin);
-    let avail = address::available(owner, bin);
-    let full = address::consumed(owner, bin);
-    let mut left = p.blocks;
+    let own = address::lists_of(owner, bin);
     let mut swept: usize = 0;
-    while 0 < left {
-        let at = block_list::pop(p, words, from);
-        let start = at.0;
-        if start == 0 {
+    for _ in 0..p.blocks {
+        let Some(start) = block_list::pop(p, words, own.unswept) else {
+            return Found { at: None, swept };
+        };
+        let b = address::block_at(p, start.at);
+        block::sweep(p, words, marks, heap, b);
+        swept += 1;
+        let free = file_block(p, words, own, b);
+        if free {
             return Found {
-                at: Address(0),
+                at: Some(start),
                 swept,
             };
         }
-        let b = address::block_at(p, at);
-        block::sweep(p, words, marks, heap, b);
-        swept = swept + 1;
-        let free = file_block(p, words, avail, full, b);
-        if free {
-            return Found { at, swept };
-        }
-        left = left - 1;
     }
-    Found {
-        at: Address(0),
-        swept,
-    }
+    Found { at: None, swept }
 }
 
 // Takes an abandoned block of the bin off its list: an available one, or else an unswept one. Abandoned consumed blocks are
 // not tried.
-fn pop_abandoned(p: Params, words: &mut [usize], bin: usize) -> Abandoned
+fn pop_abandoned(p: Params, words: &mut [usize], bin: usize) -> Option<Abandoned>
     requires { (good_params p ≡ true) × (bin < bins) }
-    ensures { next_of result.at.0 result.unswept (view words.new) ≡ pop_abandoned p bin (view words.old) }
+    ensures { next_seen result (view words.new) ≡ pop_abandoned p bin (view words.old) }
 {
-    let avail = address::available(ABANDONED, bin);
-    let waiting = address::unswept(ABANDONED, bin);
-    let at = block_list::pop(p, words, avail);
-    let start = at.0;
-    if start != 0 {
-        return Abandoned { at, unswept: false };
+    let shared = address::lists_of(ABANDONED, bin);
+    if let Some(at) = block_list::pop(p, words, shared.available) {
+        return Some(Abandoned { at, unswept: false });
     }
-    let second = block_list::pop(p, words, waiting);
-    Abandoned {
-        at: second,
-        unswept: true,
-    }
+    let at = block_list::pop(p, words, shared.unswept)?;
+    Some(Abandoned { at, unswept: true })
 }
 
 // Makes an abandoned block the holder's, swept if it was unswept. The answer: whether it has a free cell.
@@ -170,35 +150,21 @@ fn take_over(
     words: &mut [usize],
     marks: &[u8],
     heap: &mut [u8],
-    holder: usize,
-    bin: usize,
+    wanted: Wanted,
     next: Abandoned,
 ) -> bool
-    requires { (Known p (length words.old) (length marks.now) (length heap.old)) × (1 ≤ holder) × (holder ≤ holders) × (bin < bins) }
-    ensures { TakenOver p marks.now holder bin (block_at p next.at.0) next.unswept (view words.old) heap.old result (view words.new) heap.new }
+    requires { Known p (length words.old) (length marks.now) (length heap.old) }
+    ensures { TakenOver p marks.now wanted.holder wanted.bin (block_at p next.at.at.0) next.unswept (view words.old) heap.old result (view words.new) heap.new }
 {
-    let at = next.at;
-    let b = address::block_at(p, at);
-    let number = b.0;
-    let owner = address::local_sets(holder);
-    let avail = address::available(owner, bin);
-    let full = address::consumed(owner, bin);
-    tables::set_tls(words, number, holder);
+    let b = address::block_at(p, next.at.at);
+    let owner = address::local_sets(wanted.holder);
+    let own = address::lists_of(owner, wanted.bin);
+    tables::set_tls(words, b.0, wanted.holder);
     if next.unswept {
         block::sweep(p, words, marks, heap, b);
-        return file_block(p, words, avail, full, b);
+        return file_block(p, words, own, b);
     }
-    file_block(p, words, avail, full, b)
-}
-
-// A yes as 1.
-fn one_if(yes: bool) -> usize
-    ensures { result ≡ flag yes }
-{
-    if yes {
-        return 1;
-    }
-    0
+    file_block(p, words, own, b)
 }
 
 // Takes over abandoned blocks until one has a free cell. `before` blocks were swept already.
@@ -207,36 +173,27 @@ pub(crate) fn acquire_abandoned(
     words: &mut [usize],
     marks: &[u8],
     heap: &mut [u8],
-    holder: usize,
-    bin: usize,
+    wanted: Wanted,
     before: usize,
 ) -> Found
-    requires { (Known p (length words.old) (length marks.now) (length heap.old)) × (1 ≤ holder) × (holder ≤ holders) × (bin < bins) × (before ≤ 1024) }
-    ensures { reached result.at.0 result.swept (view words.new) heap.new ≡ closed p before heap.old (acquire_abandoned p.blocks p marks.now holder bin (view words.old)) }
+    requires { (Known p (length words.old) (length marks.now) (length heap.old)) × (before ≤ 1024) }
+    ensures { reached (word_of result.at) result.swept (view words.new) heap.new ≡ closed p before heap.old (acquire_abandoned p.blocks p marks.now wanted.holder wanted.bin (view words.old)) }
 {
-    let mut left = p.blocks;
     let mut swept = before;
-    while 0 < left {
-        let next = pop_abandoned(p, words, bin);
-        let at = next.at;
-        let start = at.0;
-        if start == 0 {
+    for _ in 0..p.blocks {
+        let Some(next) = pop_abandoned(p, words, wanted.bin) else {
+            return Found { at: None, swept };
+        };
+        let free = take_over(p, words, marks, heap, wanted, next);
+        swept += usize::from(next.unswept);
+        if free {
             return Found {
-                at: Address(0),
+                at: Some(next.at),
                 swept,
             };
         }
-        let free = take_over(p, words, marks, heap, holder, bin, next);
-        swept = swept + one_if(next.unswept);
-        if free {
-            return Found { at, swept };
-        }
-        left = left - 1;
     }
-    Found {
-        at: Address(0),
-        swept,
-    }
+    Found { at: None, swept }
 }
 
 // Makes the offered block the holder's, all its cells of the bin's size free.
@@ -245,20 +202,18 @@ fn acquire_fresh(
     words: &mut [usize],
     states: &mut [u8],
     heap: &mut [u8],
-    holder: usize,
-    bin: usize,
+    wanted: Wanted,
     b: Block,
 )
-    requires { (Standing p (length words.old) (length heap.old) b.0) × (1 ≤ holder) × (holder ≤ holders) × (bin < bins) × Classed p bin }
-    ensures { Freshened p holder bin b.0 (view words.old) states.old heap.old (view words.new) states.new heap.new }
+    requires { (Standing p (length words.old) (length heap.old) b.0) × Classed p wanted.bin }
+    ensures { Freshened p wanted.holder wanted.bin b.0 (view words.old) states.old heap.old (view words.new) states.new heap.new }
 {
-    let number = b.0;
-    let owner = address::local_sets(holder);
-    let avail = address::available(owner, bin);
-    let size = size_class::cell_bytes(p, bin);
+    let owner = address::local_sets(wanted.holder);
+    let avail = address::available(owner, wanted.bin);
+    let size = size_class::cell_bytes(p, wanted.bin);
     block_list::push(p, words, avail, b);
-    block::init_block(p, words, heap, b, size, holder);
-    states::set_state(states, number, block::UNMARKED);
+    block::init_block(p, words, heap, b, size, wanted.holder);
+    states::set_state(states, b.0, block::UNMARKED);
 }
 
 // A block from outside the holder's lists: an abandoned one, or the offer. `before` blocks were swept already.
@@ -271,34 +226,29 @@ pub(crate) fn acquire_global_block(
     wanted: Wanted,
     before: usize,
 ) -> Search
-    requires { (Known p (length words.old) (length marks.now) (length heap.old)) × (1 ≤ wanted.holder) × (wanted.holder ≤ holders) × (wanted.bin < bins) × (before ≤ 1024) × Offered p wanted.bin wanted.offer }
-    ensures { ended result.at.0 result.swept result.fresh (tables_of (view words.new) states.new marks.now) heap.new ≡ closed_search p before heap.old (acquire_global p wanted.holder wanted.bin wanted.offer (tables_of (view words.old) states.old marks.now)) }
+    requires { (Known p (length words.old) (length marks.now) (length heap.old)) × (before ≤ 1024) × Offered p wanted.bin wanted.offer }
+    ensures { ended (word_of result.at) result.swept result.fresh (tables_of (view words.new) states.new marks.now) heap.new ≡ closed_search p before heap.old (acquire_global p wanted.holder wanted.bin wanted.offer (tables_of (view words.old) states.old marks.now)) }
 {
-    let holder = wanted.holder;
-    let bin = wanted.bin;
-    let offer = wanted.offer;
-    let found = acquire_abandoned(p, words, marks, heap, holder, bin, before);
-    let at = found.at;
+    let found = acquire_abandoned(p, words, marks, heap, wanted, before);
     let swept = found.swept;
-    let start = at.0;
-    if start != 0 {
+    if let Some(start) = found.at {
         return Search {
-            at,
+            at: Some(start),
             swept,
             fresh: false,
         };
     }
-    match offer {
-        Offer::Nothing => Search {
-            at: Address(0),
+    match wanted.offer {
+        None => Search {
+            at: None,
             swept,
             fresh: false,
         },
-        Offer::Fresh(b) => {
-            acquire_fresh(p, words, states, heap, holder, bin, b);
-            let offered = address::start(p, b);
+        Some(b) => {
+            acquire_fresh(p, words, states, heap, wanted, b);
+            let at = address::start(p, b);
             Search {
-                at: offered,
+                at: Some(BlockStart { at }),
                 swept,
                 fresh: true,
             }
@@ -315,29 +265,24 @@ pub(crate) fn find_block(
     heap: &mut [u8],
     wanted: Wanted,
 ) -> Search
-    requires { (Known p (length words.old) (length marks.now) (length heap.old)) × (1 ≤ wanted.holder) × (wanted.holder ≤ holders) × (wanted.bin < bins) × Offered p wanted.bin wanted.offer }
-    ensures { ended result.at.0 result.swept result.fresh (tables_of (view words.new) states.new marks.now) heap.new ≡ closed_search p 0 heap.old (find_block p wanted.holder wanted.bin wanted.offer (tables_of (view words.old) states.old marks.now)) }
+    requires { (Known p (length words.old) (length marks.now) (length heap.old)) × Offered p wanted.bin wanted.offer }
+    ensures { ended (word_of result.at) result.swept result.fresh (tables_of (view words.new) states.new marks.now) heap.new ≡ closed_search p 0 heap.old (find_block p wanted.holder wanted.bin wanted.offer (tables_of (view words.old) states.old marks.now)) }
 {
     let bin = wanted.bin;
     let owner = address::local_sets(wanted.holder);
-    let avail = address::available(owner, bin);
-    let full = address::consumed(owner, bin);
-    let skimmed = find_free_block_with(p, words, avail, full);
-    let start = skimmed.0;
-    if start != 0 {
+    let own = address::lists_of(owner, bin);
+    if let Some(start) = find_free_block_with(p, words, own) {
         return Search {
-            at: skimmed,
+            at: Some(start),
             swept: 0,
             fresh: false,
         };
     }
     let recycled = recycle_local_blocks(p, words, marks, heap, owner, bin);
-    let at = recycled.at;
     let swept = recycled.swept;
-    let second = at.0;
-    if second != 0 {
+    if let Some(start) = recycled.at {
         return Search {
-            at,
+            at: Some(start),
             swept,
             fresh: false,
         };
@@ -353,53 +298,51 @@ fn serve_searched(
     marks: &[u8],
     heap: &mut [u8],
     wanted: Wanted,
-) -> AllocAnswer
+) -> Result<Served, Unserved>
     requires { (Ready p (view words.old) wanted.holder wanted.bin wanted.align wanted.offset) × (Known p (length words.old) (length marks.now) (length heap.old)) × Offered p wanted.bin wanted.offer }
     ensures { stepped (alloc_reply result) (tables_of (view words.new) states.new marks.now) heap.new ≡ ServedBy p wanted.align wanted.offset heap.old (find_block p wanted.holder wanted.bin wanted.offer (tables_of (view words.old) states.old marks.now)) }
 {
     let search = find_block(p, words, states, marks, heap, wanted);
-    let at = search.at;
-    let start = at.0;
-    if start == 0 {
-        return AllocAnswer::Exhausted {
+    let Some(start) = search.at else {
+        return Err(Unserved::Exhausted {
             swept: search.swept,
-        };
-    }
-    let b = address::block_at(p, at);
+        });
+    };
+    let b = address::block_at(p, start.at);
     let taken = block::block_alloc(p, words, heap, b);
     let address = allocator::align_allocation(taken.at, wanted.align, wanted.offset);
-    AllocAnswer::Served {
+    Ok(Served {
         address,
         cell_size: taken.size,
         offer_used: search.fresh,
         swept: search.swept,
-    }
+    })
 }
 
 // ---- the short way
 
-// The block at the head of a list, if it has a free cell; else a number past the last block. Its number is found by a shift.
-fn free_head(p: Params, words: &[usize], list: usize) -> Block
+// The block at the head of a list, if it has a free cell. Its number is found by a shift.
+fn free_head(p: Params, words: &[usize], list: usize) -> Option<Block>
     requires { (good_params p ≡ true) × (length words.now ≡ word_count p) × (list < lists) }
-    ensures { result.0 < p.blocks → HasFree p (view words.now) list result.0 }
+    ensures { IfSome result (λ (b : TheBlock). (b.0 < p.blocks) × HasFree p (view words.now) list b.0) }
 {
     let base = p.base;
     let blocks = p.blocks;
     let first = known::first(words, list);
     let start = first.0;
     if start < base {
-        return Block(blocks);
+        return None;
     }
     let log = lists::log_of(p);
     let number = (start - base) >> log;
     if blocks <= number {
-        return Block(blocks);
+        return None;
     }
     let cell = known::free(words, blocks, Block(number));
     if cell.0 == 0 {
-        return Block(blocks);
+        return None;
     }
-    Block(number)
+    Some(Block(number))
 }
 
 // Takes a cell of the block b, whose free head is a cell.
@@ -410,24 +353,24 @@ fn serve_head(
     b: Block,
     align: usize,
     offset: usize,
-) -> AllocAnswer
+) -> Result<Served, Unserved>
     requires { (Takeable p (view words.old) (length words.old) (length heap.old) b.0) × Shiftable align offset }
     ensures { (st ms : List ℕ) → stepped (alloc_reply result) (tables_of (view words.new) st ms) heap.new ≡ shown (take_cell p (tables_of (view words.old) st ms) [] heap.old b.0 align offset false) }
 {
     let taken = block::take_head(p, words, heap, b);
     let address = allocator::align_allocation(taken.at, align, offset);
-    AllocAnswer::Served {
+    Ok(Served {
         address,
         cell_size: taken.size,
         offer_used: false,
         swept: 0,
-    }
+    })
 }
 
 // What the short way of an alloc gives: the answer, or the bin of which a block is to be searched for.
 #[derive(Clone, Copy)]
 pub(crate) enum Short {
-    Ends(AllocAnswer),
+    Ends(Result<Served, Unserved>),
     Searches(usize),
 }
 
@@ -445,12 +388,11 @@ pub(crate) fn alloc_short(
     ensures { Shortly p words.old states.now heap.old (alloc holder request.size request.align request.offset request.offer) (bin_of p (raised p request.size request.align)) result words.new heap.new }
 {
     match checks::check_alloc(p, words, states, holder, request) {
-        Checked::Refused(r) => Short::Ends(AllocAnswer::Refused(r)),
-        Checked::Bin(bin) => {
+        Err(refusal) => Short::Ends(Err(Unserved::from(refusal))),
+        Ok(bin) => {
             let owner = address::local_sets(holder);
             let list = address::available(owner, bin);
-            let b = free_head(p, words, list);
-            if b.0 < p.blocks {
+            if let Some(b) = free_head(p, words, list) {
                 return Short::Ends(serve_head(p, words, heap, b, request.align, request.offset));
             }
             Short::Searches(bin)
@@ -468,8 +410,8 @@ pub(crate) fn alloc_searched(
     holder: usize,
     request: Request,
     bin: usize,
-) -> AllocAnswer
-    requires { (lent_tests p (lend words.old states.old marks.now heap.old) ≡ Passed) × Serves p (view words.old) states.old (alloc holder request.size request.align request.offset request.offer) (bin_of p (raised p request.size request.align)) bin }
+) -> Result<Served, Unserved>
+    requires { (lent_tests p (lend words.old states.old marks.now heap.old) ≡ Ok tt) × Serves p (view words.old) states.old (alloc holder request.size request.align request.offset request.offer) (bin_of p (raised p request.size request.align)) bin }
     ensures { Does p (tables_of (view words.old) states.old marks.now) heap.old (alloc holder request.size request.align request.offset request.offer) (alloc_reply result) (tables_of (view words.new) states.new marks.now) heap.new }
 {
     let offer = request.offer;
@@ -492,8 +434,8 @@ pub(crate) fn do_alloc(
     heap: &mut [u8],
     holder: usize,
     request: Request,
-) -> AllocAnswer
-    requires { lent_tests p (lend words.old states.old marks.now heap.old) ≡ Passed }
+) -> Result<Served, Unserved>
+    requires { lent_tests p (lend words.old states.old marks.now heap.old) ≡ Ok tt }
     ensures { Does p (tables_of (view words.old) states.old marks.now) heap.old (alloc holder request.size request.align request.offset request.offer) (alloc_reply result) (tables_of (view words.new) states.new marks.now) heap.new }
 {
     match alloc_short(p, words, states, heap, holder, request) {
@@ -511,11 +453,9 @@ pub fn alloc(
     heap: &mut [u8],
     holder: usize,
     request: Request,
-) -> AllocAnswer
+) -> Result<Served, Unserved>
     ensures { Promised p (lend words.old states.old marks.now heap.old) (alloc holder request.size request.align request.offset request.offer) (alloc_reply result) (lend words.new states.new marks.now heap.new) }
 {
-    match checks::check_lent(p, words, states, marks, heap) {
-        Tested::Refused(r) => AllocAnswer::Refused(r),
-        Tested::Passed => do_alloc(p, words, states, marks, heap, holder, request),
-    }
+    checks::check_lent(p, words, states, marks, heap)?;
+    do_alloc(p, words, states, marks, heap, holder, request)
 }

@@ -16,7 +16,7 @@ ghost use Rattle.model.specs.Params.{good_params, bins, lists, holders, parts, h
 ghost use Rattle.model.specs.Tables.{view, tables_of, with_released};
 ghost use Rattle.model.specs.Global.{freed, unmarked_state, release_from, release_bin, release_holder, sweep_later_bin, sweep_later, is_holder, is_bound, has_released, all_released};
 ghost use Rattle.model.specs.Calls.{bind, destroy, prepare, mark, release, shared_release};
-ghost use Rattle.model.specs.Answers.{reply_of, destroy_reply, mark_reply, release_reply};
+ghost use Rattle.model.specs.Answers.{reply_of, count_reply, mark_reply, release_reply};
 ghost use Rattle.model.specs.Promise.{lend, Promised, SetUpPromised};
 ghost use Rattle.native_ms.specs.Moved.{moved, bin_moves, bins_move, end_moves, part_moves};
 ghost use Rattle.native_ms.specs.Ending.{Does};
@@ -25,13 +25,10 @@ ghost use Rattle.native_ms.specs.Eager.{waits};
 ghost use Rattle.native_ms.specs.Places.{Known};
 
 use crate::{address, block, block_list, checks, classes, memory};
-use model::{
-    ABANDONED, Address, Answer, BINS, Block, DestroyAnswer, HOLDERS, IN_GC, MarkAnswer, PARTS,
-    Params, Refusal, ReleaseAnswer, Tested,
-};
+use model::{ABANDONED, Address, BINS, Block, HOLDERS, IN_GC, PARTS, Params, Refusal, Released};
 use words::{marks, states, tables};
 
-// The phases.
+// The phases, as table words. No enum: a lent word may hold any number, so that each comparison would first need a TryFrom.
 pub(crate) const RUNNING: usize = 0;
 
 pub(crate) const MARKING: usize = 1;
@@ -43,22 +40,13 @@ pub(crate) const RELEASING: usize = 2;
 pub(crate) fn is_holder(holder: usize) -> bool
     ensures { result ≡ is_holder holder }
 {
-    if holder < 1 {
-        return false;
-    }
-    holder <= HOLDERS
+    1 <= holder && holder <= HOLDERS
 }
 
 pub(crate) fn is_bound(w: &[usize], holder: usize) -> bool
     ensures { result ≡ is_bound (view w.now) holder }
 {
-    if holder < 1 {
-        return false;
-    }
-    if HOLDERS < holder {
-        return false;
-    }
-    tables::bound(w, holder - 1) == 1
+    is_holder(holder) && tables::bound(w, holder - 1) == 1
 }
 
 pub(crate) fn has_released(w: &[usize], part: usize) -> bool
@@ -71,22 +59,17 @@ pub(crate) fn has_released(w: &[usize], part: usize) -> bool
 fn not_due(w: &[usize], holder: usize) -> bool
     ensures { result ≡ (not (is_bound (view w.now) holder) || has_released (view w.now) holder) }
 {
-    if !is_bound(w, holder) {
-        return true;
-    }
-    has_released(w, holder)
+    !is_bound(w, holder) || has_released(w, holder)
 }
 
 // Nothing is due any more.
 pub(crate) fn all_released(w: &[usize]) -> bool
     ensures { result ≡ all_released (view w.now) }
 {
-    let mut left = HOLDERS;
-    while 0 < left {
-        if !not_due(w, left) {
+    for holder in 1..=HOLDERS {
+        if !not_due(w, holder) {
             return false;
         }
-        left = left - 1;
     }
     has_released(w, 0)
 }
@@ -96,11 +79,7 @@ pub(crate) fn all_released(w: &[usize]) -> bool
 fn clear_words(w: &mut [usize])
     ensures { w.new ≡ replicate (length w.old) 0 }
 {
-    let mut i: usize = 0;
-    while i < w.len() {
-        w[i] = 0;
-        i = i + 1;
-    }
+    w.fill(0);
 }
 
 // Zeroes tables and marks, and leaves the heap.
@@ -110,34 +89,30 @@ pub fn set_up(
     states: &mut [u8],
     marks: &mut [u8],
     heap: &[u8],
-) -> Answer
+) -> Result<(), Refusal>
     ensures { SetUpPromised p (lend words.old states.old marks.old heap.now) (reply_of result) (lend words.new states.new marks.new heap.now) }
 {
     if !checks::lent_fits(p, words, states, marks, heap) {
-        return Answer::Refused(Refusal::BadSetup);
+        return Err(Refusal::BadSetup);
     }
     if !classes::classes_fit(p) {
-        return Answer::Refused(Refusal::BadClasses);
+        return Err(Refusal::BadClasses);
     }
     clear_words(words);
     marks::clear_all(states);
     marks::clear_all(marks);
-    Answer::Done
+    Ok(())
 }
 
 // ---- holders
 
 // Gives a holder its lists, which are empty.
-pub(crate) fn do_bind(w: &mut [usize], holder: usize) -> Answer
+pub(crate) fn do_bind(w: &mut [usize], holder: usize) -> Result<(), Refusal>
     ensures { (p : Params) (s m h : List ℕ) → Does p (tables_of (view w.old) s m) h (bind holder) (reply_of result) (tables_of (view w.new) s m) h }
 {
-    match checks::check_bind(w, holder) {
-        Tested::Refused(r) => Answer::Refused(r),
-        Tested::Passed => {
-            tables::set_bound(w, holder - 1, 1);
-            Answer::Done
-        }
-    }
+    checks::check_bind(w, holder)?;
+    tables::set_bound(w, holder - 1, 1);
+    Ok(())
 }
 
 pub fn bind(
@@ -147,13 +122,11 @@ pub fn bind(
     marks: &[u8],
     heap: &[u8],
     holder: usize,
-) -> Answer
+) -> Result<(), Refusal>
     ensures { Promised p (lend words.old states.now marks.now heap.now) (bind holder) (reply_of result) (lend words.new states.now marks.now heap.now) }
 {
-    match checks::check_lent(p, words, states, marks, heap) {
-        Tested::Refused(r) => Answer::Refused(r),
-        Tested::Passed => do_bind(words, holder),
-    }
+    checks::check_lent(p, words, states, marks, heap)?;
+    do_bind(words, holder)
 }
 
 // One bin of three lists goes behind another owner's. The answer is how many blocks went over.
@@ -161,47 +134,38 @@ fn abandon_bin(p: Params, w: &mut [usize], to: usize, from: usize, bin: usize) -
     requires { (good_params p ≡ true) × (to ≤ in_gc) × (from ≤ in_gc) × (bin < bins) }
     ensures { moved result (view w.new) ≡ bin_moves p to from bin (view w.old) }
 {
-    let available = address::available(to, bin);
-    let unswept = address::unswept(to, bin);
-    let consumed = address::consumed(to, bin);
-    let from_available = address::available(from, bin);
-    let from_unswept = address::unswept(from, bin);
-    let from_consumed = address::consumed(from, bin);
-    let free = block_list::append(p, w, available, from_available);
-    let full = block_list::append(p, w, consumed, from_consumed);
-    let kept = block_list::append(p, w, unswept, from_unswept);
+    let own = address::lists_of(to, bin);
+    let other = address::lists_of(from, bin);
+    let free = block_list::append(p, w, own.available, other.available);
+    let full = block_list::append(p, w, own.consumed, other.consumed);
+    let kept = block_list::append(p, w, own.unswept, other.unswept);
     free + full + kept
 }
 
 // All lists of one owner, by its first set, go behind another's. The answer is how many blocks went over.
+// A loop over the bins for each step, here and below: a closure over the words would have its contract beside the step's.
 fn abandon_blocks(p: Params, w: &mut [usize], to: usize, from: usize) -> usize
     requires { (good_params p ≡ true) × (to ≤ in_gc) × (from ≤ in_gc) }
     ensures { moved result (view w.new) ≡ bins_move bins p to from (view w.old) }
 {
-    let mut bin: usize = 0;
     let mut count: usize = 0;
-    while bin < BINS {
-        count = count + abandon_bin(p, w, to, from, bin);
-        bin = bin + 1;
+    for bin in 0..BINS {
+        count += abandon_bin(p, w, to, from, bin);
     }
     count
 }
 
 // Hands a holder's lists to abandoned, where the shared release treats them; the holder is bound no more. The answer is how many
 // blocks it left behind.
-pub(crate) fn do_destroy(p: Params, w: &mut [usize], holder: usize) -> DestroyAnswer
+pub(crate) fn do_destroy(p: Params, w: &mut [usize], holder: usize) -> Result<usize, Refusal>
     requires { good_params p ≡ true }
-    ensures { (s m h : List ℕ) → Does p (tables_of (view w.old) s m) h (destroy holder) (destroy_reply result) (tables_of (view w.new) s m) h }
+    ensures { (s m h : List ℕ) → Does p (tables_of (view w.old) s m) h (destroy holder) (count_reply result) (tables_of (view w.new) s m) h }
 {
-    match checks::check_leave(w, holder) {
-        Tested::Refused(r) => DestroyAnswer::Refused(r),
-        Tested::Passed => {
-            let from = address::local_sets(holder);
-            let count = abandon_blocks(p, w, ABANDONED, from);
-            tables::set_bound(w, holder - 1, 0);
-            DestroyAnswer::Destroyed { blocks: count }
-        }
-    }
+    checks::check_leave(w, holder)?;
+    let from = address::local_sets(holder);
+    let count = abandon_blocks(p, w, ABANDONED, from);
+    tables::set_bound(w, holder - 1, 0);
+    Ok(count)
 }
 
 pub fn destroy(
@@ -211,13 +175,11 @@ pub fn destroy(
     marks: &[u8],
     heap: &[u8],
     holder: usize,
-) -> DestroyAnswer
-    ensures { Promised p (lend words.old states.now marks.now heap.now) (destroy holder) (destroy_reply result) (lend words.new states.now marks.now heap.now) }
+) -> Result<usize, Refusal>
+    ensures { Promised p (lend words.old states.now marks.now heap.now) (destroy holder) (count_reply result) (lend words.new states.now marks.now heap.now) }
 {
-    match checks::check_lent(p, words, states, marks, heap) {
-        Tested::Refused(r) => DestroyAnswer::Refused(r),
-        Tested::Passed => do_destroy(p, words, holder),
-    }
+    checks::check_lent(p, words, states, marks, heap)?;
+    do_destroy(p, words, holder)
 }
 
 // ---- marking
@@ -235,28 +197,21 @@ fn unmarked_state(state: u8) -> u8
 fn unmark_blocks(st: &mut [u8])
     ensures { st.new ≡ map unmarked_state st.old }
 {
-    let mut i: usize = 0;
-    while i < st.len() {
-        let state = unmarked_state(st[i]);
-        st[i] = state;
-        i = i + 1;
+    for state in st.iter_mut() {
+        *state = unmarked_state(*state);
     }
 }
 
 // Starts a collection.
-pub(crate) fn do_prepare(w: &mut [usize], st: &mut [u8], m: &mut [u8]) -> Answer
+pub(crate) fn do_prepare(w: &mut [usize], st: &mut [u8], m: &mut [u8]) -> Result<(), Refusal>
     requires { head_words ≤ length w.old }
     ensures { (p : Params) (h : List ℕ) → Does p (tables_of (view w.old) st.old m.old) h prepare (reply_of result) (tables_of (view w.new) st.new m.new) h }
 {
-    match checks::check_phase(w, RUNNING) {
-        Tested::Refused(r) => Answer::Refused(r),
-        Tested::Passed => {
-            tables::set_phase(w, MARKING);
-            unmark_blocks(st);
-            marks::clear_all(m);
-            Answer::Done
-        }
-    }
+    checks::check_phase(w, RUNNING)?;
+    tables::set_phase(w, MARKING);
+    unmark_blocks(st);
+    marks::clear_all(m);
+    Ok(())
 }
 
 pub fn prepare(
@@ -265,13 +220,11 @@ pub fn prepare(
     states: &mut [u8],
     marks: &mut [u8],
     heap: &[u8],
-) -> Answer
+) -> Result<(), Refusal>
     ensures { Promised p (lend words.old states.old marks.old heap.now) prepare (reply_of result) (lend words.new states.new marks.new heap.now) }
 {
-    match checks::check_lent(p, words, states, marks, heap) {
-        Tested::Refused(r) => Answer::Refused(r),
-        Tested::Passed => do_prepare(words, states, marks),
-    }
+    checks::check_lent(p, words, states, marks, heap)?;
+    do_prepare(words, states, marks)
 }
 
 // Marks a place of a block, and says whether the mark is new. A repeated mark changes nothing.
@@ -282,21 +235,17 @@ pub(crate) fn do_mark(
     m: &mut [u8],
     place: Address,
     b: Block,
-) -> MarkAnswer
+) -> Result<bool, Refusal>
     requires { good_params p ≡ true }
     ensures { (h : List ℕ) → Does p (tables_of (view w.now) st.old m.old) h (mark place.0 b.0) (mark_reply result) (tables_of (view w.now) st.new m.new) h }
 {
-    match checks::check_mark(p, w, st, place, b) {
-        Tested::Refused(r) => MarkAnswer::Refused(r),
-        Tested::Passed => {
-            if memory::is_marked(p, m, place) {
-                return MarkAnswer::Marked { new: false };
-            }
-            states::set_state(st, b.0, block::MARKED);
-            memory::set_mark(p, m, place);
-            MarkAnswer::Marked { new: true }
-        }
+    checks::check_mark(p, w, st, place, b)?;
+    if memory::is_marked(p, m, place) {
+        return Ok(false);
     }
+    states::set_state(st, b.0, block::MARKED);
+    memory::set_mark(p, m, place);
+    Ok(true)
 }
 
 pub fn mark(
@@ -307,24 +256,22 @@ pub fn mark(
     heap: &[u8],
     place: Address,
     block: Block,
-) -> MarkAnswer
+) -> Result<bool, Refusal>
     ensures { Promised p (lend words.now states.old marks.old heap.now) (mark place.0 block.0) (mark_reply result) (lend words.now states.new marks.new heap.now) }
 {
-    match checks::check_lent(p, words, states, marks, heap) {
-        Tested::Refused(r) => MarkAnswer::Refused(r),
-        Tested::Passed => do_mark(p, words, states, marks, place, block),
-    }
+    checks::check_lent(p, words, states, marks, heap)?;
+    do_mark(p, words, states, marks, place, block)
 }
 
 // ---- releasing
 
 // Takes the block out of the list and releases it, if it is Unmarked. The answer is how many were released: 1 or 0.
+// No bool: the contract counts, and so does the caller.
 fn attempt_release(p: Params, w: &mut [usize], st: &mut [u8], list: usize, b: Block) -> usize
     requires { (good_params p ≡ true) × (list < lists) }
     ensures { out result (view w.new) st.new ≡ attempt_release p list b.0 (view w.old) st.old }
 {
-    let number = b.0;
-    let state = states::state(st, number);
+    let state = states::state(st, b.0);
     if state != block::UNMARKED {
         return 0;
     }
@@ -338,17 +285,15 @@ fn release_blocks(p: Params, w: &mut [usize], st: &mut [u8], list: usize) -> usi
     requires { (good_params p ≡ true) × (list < lists) }
     ensures { out result (view w.new) st.new ≡ total (release_from p.blocks p list (get_or (view w.old).first list 0) (view w.old) st.old) }
 {
-    let mut more = p.blocks;
     let mut link = tables::first(w, list);
     let mut released: usize = 0;
-    while 0 < more {
+    for _ in 0..p.blocks {
         if link == 0 {
             return released;
         }
         let b = address::block_at(p, Address(link));
         link = tables::next(w, b.0);
-        released = released + attempt_release(p, w, st, list, b);
-        more = more - 1;
+        released += attempt_release(p, w, st, list, b);
     }
     released
 }
@@ -369,13 +314,11 @@ fn release_bin(p: Params, w: &mut [usize], st: &mut [u8], owner: usize, bin: usi
     requires { (good_params p ≡ true) × (owner ≤ in_gc) × (bin < bins) }
     ensures { out result (view w.new) st.new ≡ total (release_bin p owner bin (freed (view w.old) st.old)) }
 {
-    let available = address::available(owner, bin);
-    let unswept = address::unswept(owner, bin);
-    let consumed = address::consumed(owner, bin);
-    let free = release_blocks(p, w, st, available);
-    left_unswept(p, w, unswept, available);
-    let full = release_blocks(p, w, st, consumed);
-    left_unswept(p, w, unswept, consumed);
+    let own = address::lists_of(owner, bin);
+    let free = release_blocks(p, w, st, own.available);
+    left_unswept(p, w, own.unswept, own.available);
+    let full = release_blocks(p, w, st, own.consumed);
+    left_unswept(p, w, own.unswept, own.consumed);
     free + full
 }
 
@@ -383,11 +326,9 @@ fn release_bins(p: Params, w: &mut [usize], st: &mut [u8], owner: usize) -> usiz
     requires { (good_params p ≡ true) × (owner ≤ in_gc) }
     ensures { out result (view w.new) st.new ≡ total (released_bins p owner bins (view w.old) st.old) }
 {
-    let mut bin: usize = 0;
     let mut released: usize = 0;
-    while bin < BINS {
-        released = released + release_bin(p, w, st, owner, bin);
-        bin = bin + 1;
+    for bin in 0..BINS {
+        released += release_bin(p, w, st, owner, bin);
     }
     released
 }
@@ -408,14 +349,12 @@ fn sweep_later_bin(p: Params, w: &mut [usize], st: &mut [u8], bin: usize) -> usi
     requires { (good_params p ≡ true) × (bin < bins) }
     ensures { out result (view w.new) st.new ≡ total (sweep_later_bin p bin (freed (view w.old) st.old)) }
 {
-    let available = address::available(ABANDONED, bin);
-    let unswept = address::unswept(ABANDONED, bin);
-    let consumed = address::consumed(ABANDONED, bin);
-    let free = release_blocks(p, w, st, available);
-    let full = release_blocks(p, w, st, consumed);
-    let waiting = release_blocks(p, w, st, unswept);
-    left_unswept(p, w, unswept, available);
-    left_unswept(p, w, unswept, consumed);
+    let shared = address::lists_of(ABANDONED, bin);
+    let free = release_blocks(p, w, st, shared.available);
+    let full = release_blocks(p, w, st, shared.consumed);
+    let waiting = release_blocks(p, w, st, shared.unswept);
+    left_unswept(p, w, shared.unswept, shared.available);
+    left_unswept(p, w, shared.unswept, shared.consumed);
     free + full + waiting
 }
 
@@ -424,11 +363,9 @@ fn sweep_later(p: Params, w: &mut [usize], st: &mut [u8]) -> usize
     requires { good_params p ≡ true }
     ensures { out result (view w.new) st.new ≡ total (sweep_later p (view w.old) st.old) }
 {
-    let mut bin: usize = 0;
     let mut released: usize = 0;
-    while bin < BINS {
-        released = released + sweep_later_bin(p, w, st, bin);
-        bin = bin + 1;
+    for bin in 0..BINS {
+        released += sweep_later_bin(p, w, st, bin);
     }
     released
 }
@@ -445,10 +382,8 @@ fn clear_released(w: &mut [usize])
     requires { head_words ≤ length w.old }
     ensures { view w.new ≡ with_released (replicate parts 0) (view w.old) }
 {
-    let mut i: usize = 0;
-    while i < PARTS {
-        tables::set_released(w, i, 0);
-        i = i + 1;
+    for part in 0..PARTS {
+        tables::set_released(w, part, 0);
     }
 }
 
@@ -485,23 +420,19 @@ pub(crate) fn do_release(
     m: &[u8],
     heap: &mut [u8],
     holder: usize,
-) -> ReleaseAnswer
+) -> Result<Released, Refusal>
     requires { Known p (length w.old) (length m.now) (length heap.old) }
     ensures { Does p (tables_of (view w.old) st.old m.now) heap.old (release holder) (release_reply result) (tables_of (view w.new) st.new m.now) heap.new }
 {
-    match checks::check_release(w, holder) {
-        Tested::Refused(r) => ReleaseAnswer::Refused(r),
-        Tested::Passed => {
-            let count = release_holder(p, w, st, holder);
-            let swept = eager::eagerly(p, w, st, m, heap, holder);
-            let merged = part_released(p, w, holder);
-            ReleaseAnswer::Released {
-                blocks: count,
-                merged,
-                swept,
-            }
-        }
-    }
+    checks::check_release(w, holder)?;
+    let count = release_holder(p, w, st, holder);
+    let swept = eager::eagerly(p, w, st, m, heap, holder);
+    let merged = part_released(p, w, holder);
+    Ok(Released {
+        blocks: count,
+        merged,
+        swept,
+    })
 }
 
 pub fn release(
@@ -511,13 +442,11 @@ pub fn release(
     marks: &[u8],
     heap: &mut [u8],
     holder: usize,
-) -> ReleaseAnswer
+) -> Result<Released, Refusal>
     ensures { Promised p (lend words.old states.old marks.now heap.old) (release holder) (release_reply result) (lend words.new states.new marks.now heap.new) }
 {
-    match checks::check_lent(p, words, states, marks, heap) {
-        Tested::Refused(r) => ReleaseAnswer::Refused(r),
-        Tested::Passed => do_release(p, words, states, marks, heap, holder),
-    }
+    checks::check_lent(p, words, states, marks, heap)?;
+    do_release(p, words, states, marks, heap, holder)
 }
 
 // The shared part's release.
@@ -527,23 +456,19 @@ pub(crate) fn do_shared_release(
     st: &mut [u8],
     m: &[u8],
     heap: &mut [u8],
-) -> ReleaseAnswer
+) -> Result<Released, Refusal>
     requires { Known p (length w.old) (length m.now) (length heap.old) }
     ensures { Does p (tables_of (view w.old) st.old m.now) heap.old shared_release (release_reply result) (tables_of (view w.new) st.new m.now) heap.new }
 {
-    match checks::check_shared_release(w) {
-        Tested::Refused(r) => ReleaseAnswer::Refused(r),
-        Tested::Passed => {
-            let released = sweep_later(p, w, st);
-            let swept = eager::eagerly(p, w, st, m, heap, 0);
-            let merged = part_released(p, w, 0);
-            ReleaseAnswer::Released {
-                blocks: released,
-                merged,
-                swept,
-            }
-        }
-    }
+    checks::check_shared_release(w)?;
+    let released = sweep_later(p, w, st);
+    let swept = eager::eagerly(p, w, st, m, heap, 0);
+    let merged = part_released(p, w, 0);
+    Ok(Released {
+        blocks: released,
+        merged,
+        swept,
+    })
 }
 
 pub fn shared_release(
@@ -552,11 +477,9 @@ pub fn shared_release(
     states: &mut [u8],
     marks: &[u8],
     heap: &mut [u8],
-) -> ReleaseAnswer
+) -> Result<Released, Refusal>
     ensures { Promised p (lend words.old states.old marks.now heap.old) shared_release (release_reply result) (lend words.new states.new marks.now heap.new) }
 {
-    match checks::check_lent(p, words, states, marks, heap) {
-        Tested::Refused(r) => ReleaseAnswer::Refused(r),
-        Tested::Passed => do_shared_release(p, words, states, marks, heap),
-    }
+    checks::check_lent(p, words, states, marks, heap)?;
+    do_shared_release(p, words, states, marks, heap)
 }

@@ -3,6 +3,9 @@
 // p is the parameters, a an address, b a block, i a place in a list, v a value to store. global, block_list, memory and checks also name what
 // they are lent by a letter or two: w the table words, st the state bytes, m the marks, h the heap. All else is spelled out: a list is by
 // its number, a link is an address of a block.
+//
+// What is lent is handed on slice by slice, each as a step needs it: of a struct of `&mut` every step would also have to promise that its
+// fields stay the same references, and where one was made for a call (tried) the proof did not learn what the call left behind them.
 #![tactic(auto)]
 
 mod address;
@@ -18,6 +21,5 @@ pub mod global;
 mod memory;
 mod params;
 pub mod run;
-pub mod said;
 pub mod size_class;
 mod sound;

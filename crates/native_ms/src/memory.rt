@@ -1,8 +1,8 @@
 // Words, zeros and mark bits by address, over the lent heap and mark bytes. Total: an address below the heap is taken for
-// its first byte, as in the definitions. At the end, words and mark bits by offset and index that are known to be there.
-ghost use Rattle.std.specs.Prelude.{◌≡◌, true, ◌+◌, ◌-◌, ◌/◌, ◌%◌, ◌≤◌, ◌<◌, length, get_or};
+// its first byte, as in the definitions.
+ghost use Rattle.std.specs.Prelude.{◌≡◌, true, ◌-◌};
 ghost use Rattle.model.specs.Params.{good_params};
-ghost use Rattle.model.specs.Memory.{load, store, zeroed, marked, set_mark, bytes_of, overwrite, bit_of};
+ghost use Rattle.model.specs.Memory.{load, store, zeroed, marked, set_mark};
 
 use crate::address;
 use model::{Address, Params};
@@ -12,12 +12,7 @@ use words::{bytes, marks};
 fn offset(p: Params, a: Address) -> usize
     ensures { result ≡ a.0 - p.base }
 {
-    let at = a.0;
-    let base = p.base;
-    if at < base {
-        return 0;
-    }
-    at - base
+    a.0.saturating_sub(p.base)
 }
 
 pub(crate) fn load(p: Params, h: &[u8], a: Address) -> usize
@@ -27,6 +22,7 @@ pub(crate) fn load(p: Params, h: &[u8], a: Address) -> usize
     bytes::load_word(h, from)
 }
 
+// `store` and `zero` have one line in common.
 pub(crate) fn store(p: Params, h: &mut [u8], a: Address, v: usize)
     ensures { h.new ≡ store p h.old a.0 v }
 {
@@ -46,12 +42,7 @@ pub(crate) fn is_marked(p: Params, m: &[u8], place: Address) -> bool
     requires { good_params p ≡ true }
     ensures { result ≡ marked p m.now place.0 }
 {
-    let inside = address::in_heap(p, place);
-    if inside {
-        let from = offset(p, place);
-        return marks::test(m, from / 8);
-    }
-    false
+    address::in_heap(p, place) && marks::test(m, offset(p, place) / 8)
 }
 
 pub(crate) fn set_mark(p: Params, m: &mut [u8], place: Address)
@@ -59,36 +50,4 @@ pub(crate) fn set_mark(p: Params, m: &mut [u8], place: Address)
 {
     let from = offset(p, place);
     marks::set_bit(m, from / 8);
-}
-
-// The n low bytes of v, from the offset i on.
-fn put_bytes(h: &mut [u8], i: usize, v: usize, n: usize)
-    requires { i + n ≤ length h.old }
-    ensures { h.new ≡ overwrite i (bytes_of n v) h.old }
-{
-    let mut more = n;
-    let mut at = i;
-    let mut rest = v;
-    while 0 < more {
-        h[at] = (rest % 256) as u8;
-        rest = rest / 256;
-        at = at + 1;
-        more = more - 1;
-    }
-}
-
-pub(crate) fn put_word(h: &mut [u8], i: usize, v: usize)
-    requires { i + 8 ≤ length h.old }
-    ensures { h.new ≡ overwrite i (bytes_of 8 v) h.old }
-{
-    put_bytes(h, i, v, 8);
-}
-
-// Mark bit g.
-pub(crate) fn bit(m: &[u8], g: usize) -> bool
-    requires { g / 8 < length m.now }
-    ensures { result ≡ bit_of (get_or m.now (g / 8) 0) (g % 8) }
-{
-    let byte = g / 8;
-    (m[byte] >> (g % 8)) & 1 == 1
 }

@@ -5,15 +5,12 @@ ghost use Rattle.model.specs.Params.{power_of_two, lower_ok, max_rows, good_para
 use model::{BLOCK_TABLES, HEAD_WORDS, Params, ROWS};
 
 // A power of two up to 65,536.
+#[tactic(auto, using(laws::proofs::Below::any_below_none), unfolding(model::specs::Params::power_of_two))]
 pub(crate) fn power_of_two(number: usize) -> bool
     ensures { result ≡ power_of_two number }
 {
-    let mut more: usize = 17;
-    let mut power: usize = 131072;
-    while 0 < more {
-        more = more - 1;
-        power = power / 2;
-        if number == power {
+    for shift in 0..17usize {
+        if number == 1 << shift {
             return true;
         }
     }
@@ -23,51 +20,29 @@ pub(crate) fn power_of_two(number: usize) -> bool
 fn good_min(min: usize) -> bool
     ensures { result ≡ (eqb min 4 || eqb min 8) }
 {
-    if min == 4 {
-        return true;
-    }
-    min == 8
+    min == 4 || min == 8
 }
 
 // A power of two from low to high.
 pub(crate) fn power_between(number: usize, low: usize, high: usize) -> bool
     ensures { result ≡ (power_of_two number && leb low number && leb number high) }
 {
-    if number < low {
-        return false;
-    }
-    if high < number {
-        return false;
-    }
-    power_of_two(number)
+    low <= number && number <= high && power_of_two(number)
 }
 
 // L: a multiple of 8, −64 to 64, and 0 if unified.
+#[tactic(auto, unfolding(model::specs::Params::lower_ok))]
 fn good_lower(unified: bool, lower: i64) -> bool
     ensures { result ≡ (lower_ok lower && (not unified || eqb (nat_abs lower) 0)) }
 {
-    if lower < -64 {
-        return false;
-    }
-    if 64 < lower {
-        return false;
-    }
-    if lower % 8 != 0 {
-        return false;
-    }
-    if !unified {
-        return true;
-    }
-    lower == 0
+    let size = lower.unsigned_abs();
+    size % 8 == 0 && size <= 64 && (!unified || size == 0)
 }
 
 fn good_blocks(blocks: usize) -> bool
     ensures { result ≡ (leb 1 blocks && leb blocks 1024) }
 {
-    if blocks < 1 {
-        return false;
-    }
-    blocks <= 1024
+    1 <= blocks && blocks <= 1024
 }
 
 // Where the heap stands, once its size is known to be small.
@@ -75,69 +50,33 @@ fn good_base(base: usize, bytes: usize, blocks: usize) -> bool
     requires { (0 < bytes) × (bytes ≤ 65536) × (blocks ≤ 1024) }
     ensures { result ≡ (ltb 0 base && eqb (base % bytes) 0 && leb (base + blocks * bytes) (2 ^ 47)) }
 {
-    if base == 0 {
-        return false;
-    }
-    if base % bytes != 0 {
-        return false;
-    }
-    base <= 140737488355328 - blocks * bytes
+    0 < base && base % bytes == 0 && base <= (1 << 47) - blocks * bytes
 }
 
-// The parameters, with few enough rows.
-fn good_values(p: Params) -> bool
-    requires { p.count ≤ max_rows }
-    ensures { result ≡ good_params p }
-{
-    let min = p.min;
-    let max = p.max;
-    let lower = p.lower;
-    let unified = p.unified;
-    let bytes = p.bytes;
-    let blocks = p.blocks;
-    let base = p.base;
-    if !good_min(min) {
-        return false;
-    }
-    if !power_between(max, min, 64) {
-        return false;
-    }
-    if !good_lower(unified, lower) {
-        return false;
-    }
-    if !power_between(bytes, 4096, 65536) {
-        return false;
-    }
-    if !good_blocks(blocks) {
-        return false;
-    }
-    good_base(base, bytes, blocks)
-}
-
+// Whether every part of the parameters is good, tested in the definition's order.
+#[tactic(auto, unfolding(model::specs::Params::good_params, model::specs::Params::heap_end, model::specs::Params::heap_bytes))]
 pub(crate) fn good_params(p: Params) -> bool
     ensures { result ≡ good_params p }
 {
-    if ROWS < p.count {
-        return false;
-    }
-    good_values(p)
+    good_min(p.min)
+        && power_between(p.max, p.min, 64)
+        && good_lower(p.unified, p.lower)
+        && power_between(p.bytes, 4096, 65536)
+        && good_blocks(p.blocks)
+        && good_base(p.base, p.bytes, p.blocks)
+        && p.count <= ROWS
 }
 
 // Whether lent buffers have the lengths that good parameters give.
+#[tactic(auto, using(crate::proofs::Limits::blocks_few, crate::proofs::Limits::heap_few), unfolding(model::specs::Params::word_count, model::specs::Params::heap_bytes))]
 pub(crate) fn lengths_fit(p: Params, words: usize, states: usize, marks: usize, heap: usize) -> bool
     requires { good_params p ≡ true }
     ensures { result ≡ (eqb words (word_count p) && eqb states p.blocks && eqb marks (heap_bytes p / 64) && eqb heap (heap_bytes p)) }
 {
     let blocks = p.blocks;
-    let bytes = p.bytes;
-    if words != HEAD_WORDS + BLOCK_TABLES * blocks {
-        return false;
-    }
-    if states != blocks {
-        return false;
-    }
-    if marks != blocks * bytes / 64 {
-        return false;
-    }
-    heap == blocks * bytes
+    let bytes = blocks * p.bytes;
+    words == HEAD_WORDS + BLOCK_TABLES * blocks
+        && states == blocks
+        && marks == bytes / 64
+        && heap == bytes
 }

@@ -1,7 +1,6 @@
 // A run of many calls after one check: the calls come as words, and are made one after the other as they would be singly. What is
 // lent is tested once, and each call then does its own work alone: calls keep tables sound.
-ghost use Rattle.std.specs.Prelude.{◌≡◌, ◌+◌, ◌*◌, ◌≤◌, length};
-ghost use Rattle.model.specs.declared.Tested.TheVariants.{Passed};
+ghost use Rattle.std.specs.Prelude.{◌≡◌, ◌+◌, ◌*◌, ◌≤◌, length, Ok};
 ghost use Rattle.model.specs.Memory.{overwrite};
 ghost use Rattle.model.specs.Calls.{refused, call};
 ghost use Rattle.model.specs.Answers.{reply_of, call_of, said_of, outcome, outcome_of};
@@ -11,10 +10,9 @@ ghost use Rattle.model.specs.Promise.{lend};
 ghost use Rattle.native_ms.specs.Checked.{lent_tests};
 ghost use Rattle.native_ms.specs.RunLoop.{entry_call, ran, laid, refused_reply, refused_from};
 
-use crate::allocator::Request;
 use crate::free_list_allocator::Short;
-use crate::{checks, free_list_allocator, global, said};
-use model::{Address, Answer, Ask, Block, Offer, Params, Refusal, Said, Tested};
+use crate::{checks, free_list_allocator, global};
+use model::{Address, Ask, Block, Params, Refusal, Request, Said};
 
 // A call's words: its kind, and its arguments in document 01's order.
 const CALL_WORDS: usize = 6;
@@ -23,50 +21,45 @@ const CALL_WORDS: usize = 6;
 const ANSWER_WORDS: usize = 5;
 
 // 2^64 − 1 offers none.
-const NO_OFFER: usize = 18446744073709551615;
-
-// What an entry of the list asks; `Bad` is of another kind.
-#[derive(Clone, Copy)]
-pub(crate) enum Entry {
-    Asks(Ask),
-    Bad,
-}
+pub const NO_OFFER: usize = 18446744073709551615;
 
 // ---- reading
 
 // The offer that a number names.
-pub fn offered(n: usize) -> Offer
+pub fn offered(n: usize) -> Option<Block>
     ensures { result ≡ offered_by n }
 {
     if n == NO_OFFER {
-        return Offer::Nothing;
+        return None;
     }
-    Offer::Fresh(Block(n))
+    Some(Block(n))
 }
 
-// What the words from i on ask.
-fn entry_at(calls: &[usize], i: usize) -> Entry
+// What the words from i on ask; none of another kind.
+fn entry_at(calls: &[usize], i: usize) -> Option<Ask>
     requires { i + 6 ≤ length calls.now }
     ensures { entry_call result ≡ call_at calls.now i }
 {
     match calls[i] {
-        1 => Entry::Asks(Ask::Bind(calls[i + 1])),
-        2 => Entry::Asks(Ask::Destroy(calls[i + 1])),
-        3 => Entry::Asks(Ask::Alloc {
+        1 => Some(Ask::Bind(calls[i + 1])),
+        2 => Some(Ask::Destroy(calls[i + 1])),
+        3 => Some(Ask::Alloc {
             holder: calls[i + 1],
-            size: calls[i + 2],
-            align: calls[i + 3],
-            offset: calls[i + 4],
-            offer: offered(calls[i + 5]),
+            request: Request {
+                size: calls[i + 2],
+                align: calls[i + 3],
+                offset: calls[i + 4],
+                offer: offered(calls[i + 5]),
+            },
         }),
-        4 => Entry::Asks(Ask::Prepare),
-        5 => Entry::Asks(Ask::Mark {
+        4 => Some(Ask::Prepare),
+        5 => Some(Ask::Mark {
             place: calls[i + 1],
             block: calls[i + 2],
         }),
-        6 => Entry::Asks(Ask::Release(calls[i + 1])),
-        7 => Entry::Asks(Ask::SharedRelease),
-        _ => Entry::Bad,
+        6 => Some(Ask::Release(calls[i + 1])),
+        7 => Some(Ask::SharedRelease),
+        _ => None,
     }
 }
 
@@ -80,34 +73,22 @@ fn make(
     heap: &mut [u8],
     ask: Ask,
 ) -> Said
-    requires { lent_tests p (lend words.old states.old marks.old heap.old) ≡ Passed }
+    requires { lent_tests p (lend words.old states.old marks.old heap.old) ≡ Ok tt }
     ensures { outcome result (lend words.new states.new marks.new heap.new) ≡ outcome_of (call p (lend words.old states.old marks.old heap.old) (call_of ask)) }
 {
     match ask {
-        Ask::Bind(h) => said::simple_said(global::do_bind(words, h)),
-        Ask::Destroy(h) => said::destroy_said(global::do_destroy(p, words, h)),
-        Ask::Alloc {
-            holder,
-            size,
-            align,
-            offset,
-            offer,
-        } => {
-            let request = Request {
-                size,
-                align,
-                offset,
-                offer,
-            };
+        Ask::Bind(h) => Said::from(global::do_bind(words, h)),
+        Ask::Destroy(h) => Said::from(global::do_destroy(p, words, h)),
+        Ask::Alloc { holder, request } => {
             match free_list_allocator::alloc_short(p, words, states, heap, holder, request) {
-                Short::Ends(answer) => said::alloc_said(answer),
-                Short::Searches(bin) => said::alloc_said(free_list_allocator::alloc_searched(
+                Short::Ends(answer) => Said::from(answer),
+                Short::Searches(bin) => Said::from(free_list_allocator::alloc_searched(
                     p, words, states, marks, heap, holder, request, bin,
                 )),
             }
         }
-        Ask::Prepare => said::simple_said(global::do_prepare(words, states, marks)),
-        Ask::Mark { place, block } => said::mark_said(global::do_mark(
+        Ask::Prepare => Said::from(global::do_prepare(words, states, marks)),
+        Ask::Mark { place, block } => Said::from(global::do_mark(
             p,
             words,
             states,
@@ -115,10 +96,8 @@ fn make(
             Address(place),
             Block(block),
         )),
-        Ask::Release(h) => said::release_said(global::do_release(p, words, states, marks, heap, h)),
-        Ask::SharedRelease => said::release_said(global::do_shared_release(
-            p, words, states, marks, heap,
-        )),
+        Ask::Release(h) => Said::from(global::do_release(p, words, states, marks, heap, h)),
+        Ask::SharedRelease => Said::from(global::do_shared_release(p, words, states, marks, heap)),
     }
 }
 
@@ -129,14 +108,14 @@ fn make_entry(
     states: &mut [u8],
     marks: &mut [u8],
     heap: &mut [u8],
-    entry: Entry,
+    entry: Option<Ask>,
 ) -> Said
-    requires { lent_tests p (lend words.old states.old marks.old heap.old) ≡ Passed }
+    requires { lent_tests p (lend words.old states.old marks.old heap.old) ≡ Ok tt }
     ensures { outcome result (lend words.new states.new marks.new heap.new) ≡ outcome_of (made p (lend words.old states.old marks.old heap.old) (entry_call entry)) }
 {
     match entry {
-        Entry::Asks(ask) => make(p, words, states, marks, heap, ask),
-        Entry::Bad => said::refusal_said(Refusal::BadLine),
+        Some(ask) => make(p, words, states, marks, heap, ask),
+        None => Said::from(Refusal::BadLine),
     }
 }
 
@@ -164,28 +143,23 @@ fn run_passed(
     heap: &mut [u8],
     count: usize,
 )
-    requires { (lent_tests p (lend words.old states.old marks.old heap.old) ≡ Passed) × (6 * count ≤ length calls.now) × (5 * count ≤ length answers.old) }
+    requires { (lent_tests p (lend words.old states.old marks.old heap.old) ≡ Ok tt) × (6 * count ≤ length calls.now) × (5 * count ≤ length answers.old) }
     ensures { ran answers.new (lend words.new states.new marks.new heap.new) ≡ laid 0 answers.old (run_from count p (lend words.old states.old marks.old heap.old) calls.now 0) }
 {
-    let mut left = count;
-    let mut from: usize = 0;
-    let mut to: usize = 0;
-    while 0 < left {
-        let said = make_entry(p, words, states, marks, heap, entry_at(calls, from));
-        put_said(answers, to, said);
-        from = from + CALL_WORDS;
-        to = to + ANSWER_WORDS;
-        left = left - 1;
+    for i in 0..count {
+        let entry = entry_at(calls, CALL_WORDS * i);
+        let said = make_entry(p, words, states, marks, heap, entry);
+        put_said(answers, ANSWER_WORDS * i, said);
     }
 }
 
 // What an entry is answered where the first tests refuse.
-fn refuse_entry(entry: Entry, refusal: Refusal) -> Said
+fn refuse_entry(entry: Option<Ask>, refusal: Refusal) -> Said
     ensures { result ≡ said_of (refused_reply refusal (entry_call entry)) }
 {
     match entry {
-        Entry::Asks(_) => said::refusal_said(refusal),
-        Entry::Bad => said::refusal_said(Refusal::BadLine),
+        Some(_) => Said::from(refusal),
+        None => Said::from(Refusal::BadLine),
     }
 }
 
@@ -194,15 +168,9 @@ fn run_refused(calls: &[usize], answers: &mut [usize], count: usize, refusal: Re
     requires { (6 * count ≤ length calls.now) × (5 * count ≤ length answers.old) }
     ensures { answers.new ≡ overwrite 0 (refused_from count refusal calls.now 0) answers.old }
 {
-    let mut left = count;
-    let mut from: usize = 0;
-    let mut to: usize = 0;
-    while 0 < left {
-        let said = refuse_entry(entry_at(calls, from), refusal);
-        put_said(answers, to, said);
-        from = from + CALL_WORDS;
-        to = to + ANSWER_WORDS;
-        left = left - 1;
+    for i in 0..count {
+        let said = refuse_entry(entry_at(calls, CALL_WORDS * i), refusal);
+        put_said(answers, ANSWER_WORDS * i, said);
     }
 }
 
@@ -216,26 +184,21 @@ pub fn run(
     states: &mut [u8],
     marks: &mut [u8],
     heap: &mut [u8],
-) -> Answer
+) -> Result<(), Refusal>
     ensures { run_result (reply_of result) answers.new (lend words.new states.new marks.new heap.new) ≡ run_calls p (lend words.old states.old marks.old heap.old) calls.now answers.old }
 {
     let length = calls.len();
     let room = answers.len();
     let count = length / CALL_WORDS;
     if length % CALL_WORDS != 0 {
-        return Answer::Refused(Refusal::BadSetup);
+        return Err(Refusal::BadSetup);
     }
     if room != ANSWER_WORDS * count {
-        return Answer::Refused(Refusal::BadSetup);
+        return Err(Refusal::BadSetup);
     }
     match checks::check_lent(p, words, states, marks, heap) {
-        Tested::Refused(refusal) => {
-            run_refused(calls, answers, count, refusal);
-            Answer::Done
-        }
-        Tested::Passed => {
-            run_passed(p, calls, answers, words, states, marks, heap, count);
-            Answer::Done
-        }
+        Err(refusal) => run_refused(calls, answers, count, refusal),
+        Ok(()) => run_passed(p, calls, answers, words, states, marks, heap, count),
     }
+    Ok(())
 }

@@ -2,9 +2,9 @@
 ghost use Rattle.std.specs.Prelude.{◌≡◌, ◌<◌, ◌≤◌};
 ghost use Rattle.model.specs.Base.{least_from};
 ghost use Rattle.model.specs.Params.{bins};
-ghost use Rattle.model.specs.SizeClasses.{bin_in_octave, class_bytes, mi_bin, row_at, covers, words_asked, cell_bytes, bin_of};
+ghost use Rattle.model.specs.SizeClasses.{bin_in_octave, class_bytes, mi_bin, row_at, covers, words_in, words_asked, cell_bytes, bin_of};
 
-use model::{BINS, CLASS_WORDS, LAST_BIN, Params, ROWS, Row};
+use model::{BINS, CLASS_WORDS, LAST_BIN, Params, Row};
 
 // ---- document 01's
 
@@ -13,17 +13,25 @@ use model::{BINS, CLASS_WORDS, LAST_BIN, Params, ROWS, Row};
 pub fn class_bytes(bin: usize) -> usize
     ensures { result ≡ class_bytes bin }
 {
-    if bin < BINS {
-        if bin < 9 {
-            if bin == 0 {
-                return 8;
-            }
-            return bin * 8;
-        }
-        let step = bin - 9;
-        return (5 + step % 4) << (step / 4 + 4);
+    if BINS <= bin {
+        return 0;
     }
-    0
+    if bin == 0 {
+        return 8;
+    }
+    if bin < 9 {
+        return bin * 8;
+    }
+    let step = bin - 9;
+    (5 + step % 4) << (step / 4 + 4)
+}
+
+// A size in words, rounded up.
+#[tactic(auto, unfolding(model::specs::SizeClasses::words_in))]
+fn words_in(size: usize) -> usize
+    ensures { result ≡ words_in size }
+{
+    size.div_ceil(8)
 }
 
 // The bin of n + 1 words, past eight: the position of the highest one bit picks the octave.
@@ -43,7 +51,7 @@ pub fn mi_bin_from_size(size: usize) -> usize
     if CLASS_WORDS[LAST_BIN] * 8 < size {
         return 0;
     }
-    let words = (size + 7) / 8;
+    let words = words_in(size);
     if words <= 1 {
         return 1;
     }
@@ -56,49 +64,38 @@ pub fn mi_bin_from_size(size: usize) -> usize
 // ---- by rows or without
 
 // How many words a size asks for: a size of 0 asks for one.
+#[tactic(auto, unfolding(model::specs::SizeClasses::words_asked))]
 fn words_asked(size: usize) -> usize
     ensures { result ≡ words_asked size }
 {
     if size == 0 {
         return 1;
     }
-    size / 8 + (size % 8 + 7) / 8
+    words_in(size)
 }
 
 // Whether a count of words falls in the row.
+#[tactic(auto, unfolding(model::specs::SizeClasses::covers))]
 pub(crate) fn covers(row: Row, words: usize) -> bool
     ensures { result ≡ covers row words }
 {
-    if row.from == 0 {
-        return false;
-    }
-    if words < row.from {
-        return false;
-    }
-    words <= row.to
+    0 < row.from && row.from <= words && words <= row.to
 }
 
-// The first row that a count of words falls in, counted from 1; 0 for none.
+// The first row that a count of words falls in, counted from 1; 0 for none, as 01 numbers bins, so that `bin_of` passes it on.
 fn row_for(p: Params, words: usize) -> usize
     ensures { result ≡ least_from p.count 1 (λ n. covers (row_at p n) words) }
 {
-    let rows = p.rows;
-    let count = p.count;
-    let mut n: usize = 0;
-    while n < count {
-        if ROWS <= n {
-            return 0;
-        }
-        let row = rows[n];
-        n = n + 1;
-        if covers(row, words) {
-            return n;
+    for n in 0..p.count.min(p.rows.len()) {
+        if covers(p.rows[n], words) {
+            return n + 1;
         }
     }
     0
 }
 
 // The bin of a size in bytes, 0 for none: the row that its words fall in, or without rows `mi_bin_from_size`.
+#[tactic(auto, unfolding(model::specs::SizeClasses::bin_of))]
 pub fn bin_of(p: Params, size: usize) -> usize
     ensures { result ≡ bin_of p size }
 {
@@ -109,21 +106,16 @@ pub fn bin_of(p: Params, size: usize) -> usize
 }
 
 // The cell size of a bin in bytes, which is known to be small; 0 for a bin without a row.
+#[tactic(auto, unfolding(model::specs::SizeClasses::cell_bytes, model::specs::SizeClasses::row_at))]
 pub(crate) fn cell_bytes(p: Params, bin: usize) -> usize
     requires { (bin < bins) × (cell_bytes p bin ≤ 65536) }
     ensures { result ≡ cell_bytes p bin }
 {
-    let count = p.count;
-    if count == 0 {
+    if p.count == 0 {
         return class_bytes(bin);
     }
-    if bin == 0 {
+    if bin == 0 || p.count < bin {
         return 0;
     }
-    if count < bin {
-        return 0;
-    }
-    let rows = p.rows;
-    let row = rows[bin - 1];
-    row.cell * 8
+    p.rows[bin - 1].cell * 8
 }

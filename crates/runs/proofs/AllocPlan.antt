@@ -1,4 +1,5 @@
 -- Alloc's plan keeps the invariant of a run, and takes the first free cell of a block that waits for no sweep.
+use Rattle.std.specs.Prelude.{Option, None, Some}
 use mathlib.Core.Path.{◌≡◌, refl, sym, ap, ◌∙◌, subst}
 use mathlib.Core.Logic.{◌≢◌, ◌⊎◌, inl, inr, ⊎_elim}
 use mathlib.Core.Bool.{true, false}
@@ -11,8 +12,7 @@ use lib.ListN.{length, get_or, set}
 use lib.Seq.{get_or-set_same, get_or-set_other}
 use borrow.Author.Tests.{eqb-true, eq-eqb, ne_eqb, ltb-true}
 use Rattle.model.specs.declared.Params.{Params}
-use Rattle.model.specs.declared.Offer.{Offer}
-use Rattle.model.specs.declared.Offer.TheVariants.{Nothing, Fresh}
+use Rattle.model.specs.declared.Block.{Block}
 use Rattle.model.specs.declared.Refusal.TheVariants.{Exhausted}
 use Rattle.model.specs.Params.{start, block_at, list_word, local_sets, available, unswept}
 use Rattle.model.specs.Tables.{Words, Tables, tables_of, with_words, set_free, set_size, set_tls, set_cells}
@@ -27,8 +27,7 @@ use Rattle.model.specs.Runs.{Book, book_event, book_events, book_answer, taker_o
 use Rattle.laws.proofs.Base.{and_left, and_right, not_both}
 use Rattle.laws.proofs.Params.{Bounds, some_start, block_at_start}
 use Rattle.laws.proofs.Classes.{cell_bytes_words}
-use Rattle.laws.proofs.Tables.{sized_same, kept_lengths, lengths}
-use Rattle.laws.proofs.Memory as Mem
+use Rattle.laws.proofs.Tables.{sized_same, kept_lengths}
 use Rattle.laws.proofs.Frame.{LinksOnly, links_refl, push_links, push_list, push_first}
 use Rattle.laws.proofs.Walks.{find_keeps}
 use Rattle.soundness.proofs.SoundLists.{sound_lists}
@@ -205,7 +204,7 @@ module _ (p : Params) (B : Bounds p) (t : Tables) (h : List ℕ) (sh : List (Lis
           chain = get_or-set_same shadow b chain [] (omega (arith, lb, S.core.chains.shadow)) ∙ k.2;
         }
 
-    fresh_searched : SearchEnds (acquire_fresh p hd bin (Fresh (record { 0 = b })) f t)
+    fresh_searched : SearchEnds (acquire_fresh p hd bin (Some (record { 0 = b })) f t)
     unfolding acquire_fresh event_heap shadow_event init_block set_cells set_tls set_size set_free is_taken
     fresh_searched =
         record {
@@ -215,17 +214,17 @@ module _ (p : Params) (B : Bounds p) (t : Tables) (h : List ℕ) (sh : List (Lis
           result = inr (behind p B hd (λ x y z. Cellful tables y (start p b)) f.events (initialised b chain) h sh bk fresh_cellful);
         }
 
-  offered : (offer : Offer) → good_offer p t offer ≡ true → (f : Found) → f.at ≡ 0 → On f.events f.words → SearchEnds (acquire_fresh p hd bin offer f t)
+  offered : (offer : Option Block) → good_offer p t offer ≡ true → (f : Found) → f.at ≡ 0 → On f.events f.words → SearchEnds (acquire_fresh p hd bin offer f t)
   unfolding acquire_fresh good_offer state_of
-  offered Nothing fine f e A = found_searched f A (inl e)
-  offered (Fresh b) fine f e A =
+  offered None fine f e A = found_searched f A (inl e)
+  offered (Some b) fine f e A =
       fresh_searched b.0
       (ltb-true _ _ (and_left (ltb b.0 p.blocks) (eqb (get_or t.states b.0 0) 0) fine))
       (eqb-true _ _ (and_right (ltb b.0 p.blocks) (eqb (get_or t.states b.0 0) 0) fine)) f A
 
   -- ---- the whole search
 
-  pub find_searched : (offer : Offer) → good_offer p t offer ≡ true → SearchEnds (find_block p hd bin offer t)
+  pub find_searched : (offer : Option Block) → good_offer p t offer ≡ true → SearchEnds (find_block p hd bin offer t)
   unfolding events_heap shadow_events book_events
   find_searched offer fine =
       find_keeps p hd bin t On (Gone p B t.states t.marks hd h sh bk bin)
@@ -234,7 +233,7 @@ module _ (p : Params) (B : Bounds p) (t : Tables) (h : List ℕ) (sh : List (Lis
 
   -- ---- the plan
 
-  pub alloc_planned : (size align offset : ℕ) (offer : Offer) → good_offer p t offer ≡ true
+  pub alloc_planned : (size align offset : ℕ) (offer : Option Block) → good_offer p t offer ≡ true
       → ((x : ℕ) → x % 8 ≡ 0 → align_allocation x align offset + size ≤ x + cell_bytes p bin)
       → Planned p B t h sh bk (alloc hd size align offset offer) (take_plan p align offset (find_block p hd bin offer t))
   unfolding take_plan taker_of book_for book_answer Serves EndOk

@@ -1,5 +1,5 @@
 -- Every call, on tables and a heap under the invariant: its plan, and its step.
-use Rattle.std.specs.Prelude.{if◌then◌else◌}
+use Rattle.std.specs.Prelude.{if◌then◌else◌, Ok, Option}
 use mathlib.Core.Path.{◌≡◌, refl, ap, ◌∙◌}
 use mathlib.Core.Bool.{Bool, true, false, ◌&&◌}
 use mathlib.Core.List.{List}
@@ -9,9 +9,8 @@ use lib.Dec.{leb}
 use lib.ListN.{get_or}
 use borrow.Author.Tests.{leb-true}
 use Rattle.model.specs.declared.Params.{Params}
-use Rattle.model.specs.declared.Offer.{Offer}
+use Rattle.model.specs.declared.Block.{Block}
 use Rattle.model.specs.declared.Refusal.TheVariants.{BadTables}
-use Rattle.model.specs.declared.Tested.TheVariants.{Passed}
 use Rattle.model.specs.Params.{good_params}
 use Rattle.model.specs.Tables.{Words, Tables}
 use Rattle.model.specs.SizeClasses.{bin_of, raised, align_allocation}
@@ -65,7 +64,7 @@ module _ (p : Params) (fine : good_params p ≡ true) where
   B = good_bounds p fine
 
   module _ (rows : classes_fit p ≡ true) (t : Tables) (h : List ℕ) (sh : List (List ℕ)) (bk : Book) (I : Inv p B t h sh bk) where
-    planned_alloc : (d size align offset : ℕ) (offer : Offer) → sound p t ≡ true → Asked p t d size align offset offer
+    planned_alloc : (d size align offset : ℕ) (offer : Option Block) → sound p t ≡ true → Asked p t d size align offset offer
         → Planned p B t h sh bk (alloc d size align offset offer) (take_plan p align offset (find_block p d (bin_of p (raised p size align)) offer t))
     planned_alloc d size align offset offer s a =
         let g : Good p = good p fine in
@@ -76,7 +75,7 @@ module _ (p : Params) (fine : good_params p ≡ true) where
         alloc_planned p B t h sh bk I s a.running d r.0 r.1 (bin_of p (raised p size align)) k.from (omega (arith, k.to))
         k.word k.room size align offset offer a.offered (object_in_cell p g q rows a.small)
 
-    planned_passed : (c : Call) → sound p t ≡ true → call_tests p t c ≡ Passed → Planned p B t h sh bk c (plan_passed p t c)
+    planned_passed : (c : Call) → sound p t ≡ true → call_tests p t c ≡ Ok tt → Planned p B t h sh bk c (plan_passed p t c)
     unfolding call_tests plan_passed
     planned_passed (bind d) s e = bind_planned p B t h sh bk I d
     planned_passed (destroy d) s e =
@@ -115,7 +114,7 @@ module _ (p : Params) (fine : good_params p ≡ true) where
 
     module _ (t' : Tables) (es : List Event) where
       -- an alloc that takes a cell
-      alloc_end : (d size align offset : ℕ) (offer : Offer) (b : ℕ) (fresh : Bool) → EventsOk p B d es h bk
+      alloc_end : (d size align offset : ℕ) (offer : Option Block) (b : ℕ) (fresh : Bool) → EventsOk p B d es h bk
           → Inv p B t' (events_heap p es h) (shadow_events es sh) (book_events p d es bk)
           → Taking p B t' (shadow_events es sh) b
           → ((x : ℕ) → x % 8 ≡ 0 → align_allocation x align offset + size ≤ x + get_or t'.words.size b 0)

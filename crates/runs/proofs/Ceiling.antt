@@ -2,6 +2,7 @@
 -- no more blocks than leave the abandoned unswept lists, and spends a block as often as it comes to name a consumed list. So the
 -- sweeps of a span are at most the blocks that waited at its start, and no block is spent twice. With eager sweeping none waits on
 -- tables that a call accepts, so none is swept.
+use Rattle.std.specs.Prelude.{Ok, Option, None, Some}
 use mathlib.Core.Path.{◌≡◌, refl, sym, ap, ◌∙◌, subst}
 use mathlib.Core.Logic.{◌≢◌, ◌⊎◌, inl, inr, ⊎_elim}
 use mathlib.Core.Bool.{Bool, true, false, not, ◌&&◌}
@@ -13,11 +14,9 @@ use lib.Dec.{eqb, ltb}
 use lib.ListN.{length, get_or, set, replicate, get_or-eq_default}
 use borrow.Author.Tests.{eqb-true, eqb-false, eq-eqb, ne_eqb, ltb-true, not-true}
 use Rattle.model.specs.declared.Params.{Params}
-use Rattle.model.specs.declared.Offer.{Offer}
-use Rattle.model.specs.declared.Offer.TheVariants.{Nothing, Fresh}
+use Rattle.model.specs.declared.Block.{Block}
 use Rattle.model.specs.declared.Refusal.TheVariants.{BadTables}
 use Rattle.model.specs.declared.Refusal.{Refusal}
-use Rattle.model.specs.declared.Tested.TheVariants.{Passed}
 use Rattle.model.specs.Base.{all_below, member, filter, flag, In}
 use Rattle.model.specs.Params.{good_params, Lent, fits, list_word, local_sets, abandoned, available, unswept, consumed, bins}
 use Rattle.model.specs.Tables.{Words, Tables, set_bound, set_free, set_size, set_tls, set_cells}
@@ -29,7 +28,7 @@ use Rattle.model.specs.Events.{Event, initialised, taken, events_heap, is_sweep,
 use Rattle.model.specs.FreeListAllocator.{Found, Search, in_found, acquire_fresh, find_block}
 use Rattle.model.specs.Global.{bind_holder, abandon_bin, abandon_blocks, destroy_holder, fresh_tables}
 use Rattle.model.specs.Sound.{state_of, block_clear, list_named, set_named, sound, on_unswept, released_before, eager_block, eager_ok, chained, sound_on}
-use Rattle.model.specs.Calls.{Call, bind, destroy, alloc, prepare, mark, release, shared_release, End, says, takes, Plan, refuses, good_offer, may_release, take_plan, call_tests, plan_passed, plan, Step, take_cell, finish, step, Result, tables_in, result_from}
+use Rattle.model.specs.Calls.{Call, bind, destroy, alloc, prepare, mark, release, shared_release, End, says, takes, Plan, refuses, good_offer, may_release, take_plan, call_tests, plan_passed, plan, Step, take_cell, finish, step, Returned, tables_in, result_from}
 use Rattle.model.specs.Runs.{Book, book_events, book_after, Write, written, Turn, State, step_of, result_of, turned, empty_book, begun, Holds, HoldersWrite}
 use Rattle.model.specs.Spans.{after_turns, phase_in, is_prepare, NoPrepare, Span, swept_count, alloc_sweeps, awaits, waiting, SweepsBound, EagerSweepsNone, passes, PassOnce, is_consumed, PassSeen}
 use Rattle.laws.proofs.Base.{all_below_lem, and_left, and_right, Bool_cases, if_cases, in_member, member_in, or_cases, not_both}
@@ -247,22 +246,22 @@ module _ (p : Params) (B : Bounds p) (t : Tables) (h : List ℕ) (sh : List (Lis
           queue_moved p st (set st b 255) f.words.list u b lb (λ z n. (set_off st b 255 z n, others z n)) (rw (now, own) (available_waits (hd - 1) bin (omega arith) low)) in
           omega (arith, q)
 
-      fresh_ends : Ends (acquire_fresh p hd bin (Fresh (record { 0 = b })) f t)
+      fresh_ends : Ends (acquire_fresh p hd bin (Some (record { 0 = b })) f t)
       unfolding acquire_fresh init_block set_cells set_tls set_size set_free sweeps times_spent filter is_sweep spends
       fresh_ends = (
         omega (arith, queued, K.few, sweeps_append f.events (initialised b (init_chain p b (cell_bytes p bin)) ∷ [])),
         λ d. omega (arith, still d (ℕ_discrete d b), K.once d, spent_append d f.events (initialised b (init_chain p b (cell_bytes p bin)) ∷ [])),
       )
 
-    offered : (offer : Offer) → good_offer p t offer ≡ true → (f : Found) → Work p st t.words f.events f.words → Sized p.blocks f.words
+    offered : (offer : Option Block) → good_offer p t offer ≡ true → (f : Found) → Work p st t.words f.events f.words → Sized p.blocks f.words
         → Ends (acquire_fresh p hd bin offer f t)
     unfolding acquire_fresh good_offer state_of
-    offered Nothing fine f K Z = found_ends f K
-    offered (Fresh b) fine f K Z =
+    offered None fine f K Z = found_ends f K
+    offered (Some b) fine f K Z =
         fresh_ends b.0 (ltb-true _ _ (and_left (ltb b.0 p.blocks) (eqb (get_or st b.0 0) 0) fine))
         (eqb-true _ _ (and_right (ltb b.0 p.blocks) (eqb (get_or st b.0 0) 0) fine)) f K Z.list
 
-    find_ends : (offer : Offer) → good_offer p t offer ≡ true → Ends (find_block p hd bin offer t)
+    find_ends : (offer : Option Block) → good_offer p t offer ≡ true → Ends (find_block p hd bin offer t)
     unfolding events_heap shadow_events book_events
     find_ends offer fine =
         find_keeps p hd bin t (On p B st t.marks hd h sh bk bin (hd - 1) low (omega arith) own t.words)
@@ -271,7 +270,7 @@ module _ (p : Params) (B : Bounds p) (t : Tables) (h : List ℕ) (sh : List (Lis
         (λ f e o. offered offer fine f o.1 o.0.searching.lengths) (λ f e o. found_ends f o.1)
         (record { events = no_events p B hd h bk; searching = starting p B t h sh bk I passes_test running hd lo hi bin some low word room }, no_work p st t.words)
 
-    alloc_worked : (align offset : ℕ) (offer : Offer) → good_offer p t offer ≡ true
+    alloc_worked : (align offset : ℕ) (offer : Option Block) → good_offer p t offer ≡ true
         → let q : Plan = take_plan p align offset (find_block p hd bin offer t) in Worked p t q.events q.tables
     unfolding take_plan
     alloc_worked align offset offer fine =
@@ -314,14 +313,14 @@ module _ (p : Params) (fine : good_params p ≡ true) (rows : classes_fit p ≡ 
       none b low (yes z) = flag_none (rw (eq-eqb (get_or t.states b 0) 0 z))
       none b low (no occ) = flag_none (rw (ne_eqb (get_or t.states b 0) 0 occ, not_waiting t b (all_below_lem p.blocks (eager_block t) all b low) occ))
 
-  alloc_works : (d size align offset : ℕ) (offer : Offer) → (s : sound p t ≡ true) → (p.eager ≡ true → queue p t.states t.words.list ≡ 0) → Asked p t d size align offset offer
+  alloc_works : (d size align offset : ℕ) (offer : Option Block) → (s : sound p t ≡ true) → (p.eager ≡ true → queue p t.states t.words.list ≡ 0) → Asked p t d size align offset offer
       → let q : Plan = take_plan p align offset (find_block p d (bin_of p (raised p size align)) offer t) in Worked p t q.events q.tables
   alloc_works d size align offset offer s w a =
       let r = bound_at t.words d a.bound in
       let k = chosen p B rows (raised p size align) (fits_raised p size align a.small) in
       alloc_worked p B t h sh bk I s running w d r.low r.high (bin_of p (raised p size align)) k.from (omega (arith, k.to)) k.word k.room align offset offer a.offered
 
-  passed_works : (c : Call) → sound p t ≡ true → (p.eager ≡ true → queue p t.states t.words.list ≡ 0) → call_tests p t c ≡ Passed → Works c (plan_passed p t c)
+  passed_works : (c : Call) → sound p t ≡ true → (p.eager ≡ true → queue p t.states t.words.list ≡ 0) → call_tests p t c ≡ Ok tt → Works c (plan_passed p t c)
   unfolding call_tests plan_passed is_prepare finish bind_holder set_bound
   passed_works (bind d) s w e = λ n. quiet_worked p t (bind_holder d t) running refl refl
   passed_works (destroy d) s w e =
@@ -425,7 +424,7 @@ module _ (p : Params) (fine : good_params p ≡ true) (rows : classes_fit p ≡ 
       running = sym (ap (λ (x : Tables). x.words.phase) before) ∙ R.running
 
       quiet : (is_prepare u.call && eqb (step p t g u.call).reply.number 0) ≡ false
-      quiet = subst (λ (x : Result). (is_prepare u.call && eqb x.reply.number 0) ≡ false) result R.prepares.0
+      quiet = subst (λ (x : Returned). (is_prepare u.call && eqb x.reply.number 0) ≡ false) result R.prepares.0
 
   runs_next : (s : State) (u : Turn) (us : List Turn) → Runs s (u ∷ us) → Runs (turned p s u) us
   unfolding NoPrepare
@@ -475,7 +474,7 @@ module _ (p : Params) (fine : good_params p ≡ true) (rows : classes_fit p ≡ 
   unfolding begun
   start_at l us f H =
       let e : begun p l ≡ standing p fine rows (fresh_tables p) l.heap empty_book =
-      ap (λ (x : Result). record { lent = x.lent; book = empty_book }) (set_up_is p l f rows) in
+      ap (λ (x : Returned). record { lent = x.lent; book = empty_book }) (set_up_is p l f rows) in
       record {
         tables = fresh_tables p;
         heap = l.heap;

@@ -1,4 +1,5 @@
 -- The counts that a call answers are those of its events, on any tables and heap. Assumes nothing.
+use Rattle.std.specs.Prelude.{Option}
 use mathlib.Core.Path.{◌≡◌, refl, sym, ap}
 use mathlib.Core.List.{List, [], ◌∷◌, ◌++◌}
 use Prim.Native.Nat.{ℕ, suc}
@@ -6,7 +7,7 @@ use native.Mathlib.Omega.{arith}
 use lib.Dec.{eqb}
 use borrow.Author.Tests.{eq-eqb}
 use Rattle.model.specs.declared.Params.{Params}
-use Rattle.model.specs.declared.Offer.{Offer}
+use Rattle.model.specs.declared.Block.{Block}
 use Rattle.model.specs.declared.Refusal.{Refusal}
 use Rattle.model.specs.declared.Refusal.TheVariants.{BadTables}
 use Rattle.model.specs.Base.{filter}
@@ -53,7 +54,7 @@ module _ (p : Params) (t : Tables) (h : List ℕ) where
   unfolding finish
   refuses_counts c r = refused_counted c r
 
-  take_counts : (d size align offset : ℕ) (offer : Offer) (s : Search) → Counts (alloc d size align offset offer) (take_plan p align offset s)
+  take_counts : (d size align offset : ℕ) (offer : Option Block) (s : Search) → Counts (alloc d size align offset offer) (take_plan p align offset s)
   unfolding take_plan finish take_cell Counted refusal_number
   take_counts d size align offset offer s =
       if_cases (λ (e : End). CountedIn c (finish p s.tables s.events (events_heap p s.events h) e)) (eqb s.at 0)

@@ -21,7 +21,7 @@ use Rattle.model.specs.Events.{sweeps, releases}
 use Rattle.model.specs.Global.{fresh_words, fresh_tables}
 use Rattle.model.specs.Block.{ChainStands}
 use Rattle.model.specs.Sound.{sound_on}
-use Rattle.model.specs.Calls.{Reply, answered, refused, Call, Step, step, Result, tables_in, lent_of, result_from, set_up, pages, Question, free_cells, cells_of, ask}
+use Rattle.model.specs.Calls.{Reply, answered, refused, Call, Step, step, Returned, tables_in, lent_of, result_from, set_up, pages, Question, free_cells, cells_of, ask}
 use Rattle.model.specs.Runs.{Cell, Book, book_after, Write, written, Turn, State, found_by, step_of, result_of, book_of, turned, empty_book, begun, covers, Holds, HoldersWrite, Seen, seen, seen_in, points, TurnKeeps, RunKeeps, Demand3}
 use Rattle.laws.proofs.Params.{Bounds}
 use Rattle.laws.proofs.Tables.{part_zeros, Sized, sized_view}
@@ -345,7 +345,7 @@ demand3 p l l' us us' e e' H H' same = (
     rows = answered_classes p l e
 
     start_is : (l : Lent) → fits p l ≡ true → begun p l ≡ state_of p fine rows (fresh_tables p) l.heap empty_book
-    start_is l f = ap (λ (x : Result). record { lent = x.lent; book = empty_book }) (set_up_is p l f rows)
+    start_is l f = ap (λ (x : Returned). record { lent = x.lent; book = empty_book }) (set_up_is p l f rows)
 
     inv : (l : Lent) → fits p l ≡ true → Inv p (bounds p fine rows) (fresh_tables p) l.heap (replicate p.blocks []) empty_book
     inv l f = fresh_inv p fine rows l.heap (fits_parts p l f).1
@@ -372,4 +372,4 @@ demand3 p l l' us us' e e' H H' same = (
     calls_same = run_is l fit us H ∙ ap (shadow_seen_in p fine rows (fresh_tables p) (replicate p.blocks [])) same ∙ sym (run_is l' fit' us' H')
 
     seen_same : seen (set_up p l) [] ≡ seen (set_up p l') []
-    seen_same = ap (λ (x : Result). seen x []) (set_up_is p l fit rows) ∙ sym (ap (λ (x : Result). seen x []) (set_up_is p l' fit' rows))
+    seen_same = ap (λ (x : Returned). seen x []) (set_up_is p l fit rows) ∙ sym (ap (λ (x : Returned). seen x []) (set_up_is p l' fit' rows))

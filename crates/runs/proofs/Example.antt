@@ -10,17 +10,17 @@
 --
 -- A fourth run meets those of `SweepsBound` and `PassOnce`, and reaches both: a block of one cell, which is marked, waits at the end of the
 -- collection. The alloc after it sweeps the block, frees nothing, moves it to consumed and is Exhausted.
+use Rattle.std.specs.Prelude.{Option, None, Some}
 use Prim.Native.Nat.{ℕ, ◌≤◌}
 use native.Mathlib.Omega.{arith}
 use mathlib.Core.Path.{◌≡◌, refl, sym, ap, ◌∙◌, subst}
 use mathlib.Core.Logic.{◌≢◌, inl, inr, ⊎_elim}
-use mathlib.Core.Bool.{Bool, true, false, not, ◌&&◌}
+use mathlib.Core.Bool.{Bool, true, false, ◌&&◌}
 use mathlib.Core.List.{List, [], ◌∷◌, ◌++◌, head_d}
 use lib.Count.{count_leading_zeros}
 use lib.ListN.{set, replicate}
 use Rattle.model.specs.declared.Params.{Params}
-use Rattle.model.specs.declared.Offer.{Offer}
-use Rattle.model.specs.declared.Offer.TheVariants.{Nothing, Fresh}
+use Rattle.model.specs.declared.Block.{Block}
 use Rattle.model.specs.Base.{all_below, any_below, member, filter, sum_below, each_below, flag, In, any}
 use Rattle.model.specs.Params.{Lent, power_of_two, lower_ok, biased, plus_lower, minus_lower, heap_bytes, heap_end, good_params, word_count, fits, start, block_at, in_heap, is_start, list_of, list_word, local_sets, available, unswept, consumed}
 use Rattle.model.specs.Memory.{load_bytes, bytes_of, overwrite, load, store, zeroed, bit_of, set_bit, mark_index, marked, set_mark, cleared}
@@ -29,7 +29,7 @@ use Rattle.model.specs.SizeClasses.{fours, class_words, class_bytes, words_in, h
 use Rattle.model.specs.Classes.{classes_fit}
 use Rattle.model.specs.BlockList.{push, pop_head, pop, remove_between, remove, relabel, link, append, walk, blocks_on, appended}
 use Rattle.model.specs.Block.{cell_count, is_cell, cells_down, link_all, init_chain, init_block, simple, keeps, sweep_chain, swept_words, clear_block, chain_from, free_chain}
-use Rattle.model.specs.Events.{Event, swept, released, taken, spent, event_heap, events_heap, is_sweep, is_release, sweeps, releases, spends, times_spent}
+use Rattle.model.specs.Events.{Event, swept, taken, spent, event_heap, events_heap, is_sweep, is_release, sweeps, releases, spends, times_spent}
 use Rattle.model.specs.FreeListAllocator.{find_free_block_with, recycle_local_blocks, acquire_abandoned, acquire_fresh, find_block}
 use Rattle.model.specs.Global.{fresh_words, fresh_tables, is_holder, is_bound, bind_holder, abandon_bin, abandon_blocks, abandoned_bin, abandoned_below, abandoned_blocks, destroy_holder, unmarked_state, prepared, mark_place, release_from, release_blocks, append_to, left_unswept, release_bin, release_holder, sweep_later_bin, sweep_later, has_released, all_released, is_last, sweep_block, sweep_all, recycle_from, recycle_bin, recycle_blocks, swept_eagerly, eagerly, part_released, merged}
 use Rattle.model.specs.Sound.{state_of, state_known, block_clear, list_named, bin_named, set_named, on_list_named, size_ok, link_ok, tls_ok, block_sound, linked_from, linked, owner_empty, unbound_empty, in_gc_empty, phase_known, flags_known, released_few, released_some, released_empty, sound, chain_counts, chain_ok, on_unswept, released_before, eager_block, eager_ok, chained}
@@ -80,23 +80,23 @@ quiet c = record { writes = []; call = c }
 abbrev writing : Write
 writing = record { holder = 1; address = 27656; byte = 7 }
 
-abbrev ask : Offer → Call
+abbrev ask : Option Block → Call
 ask offer = alloc 1 1024 8 0 offer
 
 unfoldable pub turns : List Turn
 turns =
-    quiet (bind 1) ∷ quiet (ask (Fresh (record { 0 = 2 }))) ∷ quiet (ask Nothing)
+    quiet (bind 1) ∷ quiet (ask (Some (record { 0 = 2 }))) ∷ quiet (ask None)
     ∷ record { writes = writing ∷ []; call = prepare } ∷ quiet (mark 27648 2) ∷ quiet (release 1) ∷ quiet shared_release
-    ∷ quiet (ask Nothing) ∷ []
+    ∷ quiet (ask None) ∷ []
 
 -- the second run, up to where releasing begins, and from there
 unfoldable pub before_releasing : List Turn
 before_releasing =
-    quiet (bind 1) ∷ quiet (ask (Fresh (record { 0 = 2 }))) ∷ quiet (ask Nothing)
+    quiet (bind 1) ∷ quiet (ask (Some (record { 0 = 2 }))) ∷ quiet (ask None)
     ∷ record { writes = writing ∷ []; call = prepare } ∷ quiet (mark 27648 2) ∷ quiet (destroy 1) ∷ []
 
 abbrev other_ask : Call
-other_ask = alloc 2 1024 8 0 Nothing
+other_ask = alloc 2 1024 8 0 None
 
 unfoldable pub after_releasing : List Turn
 after_releasing = quiet (bind 2) ∷ quiet other_ask ∷ []
@@ -104,19 +104,19 @@ after_releasing = quiet (bind 2) ∷ quiet other_ask ∷ []
 -- the third run
 unfoldable pub eager_turns : List Turn
 eager_turns =
-    quiet (bind 1) ∷ quiet (ask (Fresh (record { 0 = 2 }))) ∷ quiet (ask Nothing)
+    quiet (bind 1) ∷ quiet (ask (Some (record { 0 = 2 }))) ∷ quiet (ask None)
     ∷ record { writes = writing ∷ []; call = prepare } ∷ quiet (mark 27648 2) ∷ quiet (release 1) ∷ quiet shared_release ∷ []
 
 -- the fourth, up to the end of its last release, and from there
-abbrev wide : Offer → Call
+abbrev wide : Option Block → Call
 wide offer = alloc 1 4096 8 0 offer
 
 unfoldable pub until_released : List Turn
 until_released =
-    quiet (bind 1) ∷ quiet (wide (Fresh (record { 0 = 2 }))) ∷ quiet prepare ∷ quiet (mark 24576 2) ∷ quiet (release 1) ∷ quiet shared_release ∷ []
+    quiet (bind 1) ∷ quiet (wide (Some (record { 0 = 2 }))) ∷ quiet prepare ∷ quiet (mark 24576 2) ∷ quiet (release 1) ∷ quiet shared_release ∷ []
 
 unfoldable pub after_released : List Turn
-after_released = quiet (wide Nothing) ∷ []
+after_released = quiet (wide None) ∷ []
 
 -- ---- what stands between its turns
 
@@ -286,11 +286,11 @@ turn₁ : turned p after₀ (quiet (bind 1)) ≡ after₁
 unfolding machine
 turn₁ = refl
 
-turn₂ : turned p after₁ (quiet (ask (Fresh (record { 0 = 2 })))) ≡ after₂
+turn₂ : turned p after₁ (quiet (ask (Some (record { 0 = 2 })))) ≡ after₂
 unfolding machine
 turn₂ = refl
 
-turn₃ : turned p after₂ (quiet (ask Nothing)) ≡ after₃
+turn₃ : turned p after₂ (quiet (ask None)) ≡ after₃
 unfolding machine
 turn₃ = refl
 
@@ -310,7 +310,7 @@ turn₇ : turned p after₆ (quiet shared_release) ≡ after₇
 unfolding machine
 turn₇ = refl
 
-turn₈ : turned p after₇ (quiet (ask Nothing)) ≡ after₈
+turn₈ : turned p after₇ (quiet (ask None)) ≡ after₈
 unfolding machine
 turn₈ = refl
 
@@ -397,7 +397,7 @@ held_after = refl
 
 -- the last alloc swept block 2 and took the cell
 abbrev last : List Event
-last = (step_of p after₇ (quiet (ask Nothing))).events
+last = (step_of p after₇ (quiet (ask None))).events
 
 pub last_events : last ≡ swept 2 (26624 ∷ 25600 ∷ 24576 ∷ []) ∷ taken 26624 1024 ∷ []
 unfolding machine
@@ -423,10 +423,10 @@ pub waits : awaits_sweep (tables_in after₇.lent).words 2 ≡ true
 unfolding machine
 waits = refl
 
-pub as_printed : 26624 ∷ 25600 ∷ 24576 ∷ [] ≡ printed_chain (tables_in after₇.lent) (found_by p after₇.lent (quiet (ask Nothing))).heap 2
+pub as_printed : 26624 ∷ 25600 ∷ 24576 ∷ [] ≡ printed_chain (tables_in after₇.lent) (found_by p after₇.lent (quiet (ask None))).heap 2
 unfolding step_of In
 as_printed =
-    printed_is_built (tables_in after₇.lent) (found_by p after₇.lent (quiet (ask Nothing))).heap 1 1024 8 0 Nothing 2 _ waits
+    printed_is_built (tables_in after₇.lent) (found_by p after₇.lent (quiet (ask None))).heap 1 1024 8 0 None 2 _ waits
     (subst (In (swept 2 (26624 ∷ 25600 ∷ 24576 ∷ []))) (sym last_events) (inl refl))
 
 -- ---- R-10: the second run
@@ -541,11 +541,11 @@ eager_turn₁ : turned p' after₀ (quiet (bind 1)) ≡ after₁
 unfolding machine
 eager_turn₁ = refl
 
-eager_turn₂ : turned p' after₁ (quiet (ask (Fresh (record { 0 = 2 })))) ≡ after₂
+eager_turn₂ : turned p' after₁ (quiet (ask (Some (record { 0 = 2 })))) ≡ after₂
 unfolding machine
 eager_turn₂ = refl
 
-eager_turn₃ : turned p' after₂ (quiet (ask Nothing)) ≡ after₃
+eager_turn₃ : turned p' after₂ (quiet (ask None)) ≡ after₃
 unfolding machine
 eager_turn₃ = refl
 
@@ -605,9 +605,9 @@ eager_lost = rw eager_events
 -- ---- R-12: after the third run an alloc finds the block swept. It is a span with the choice on
 
 pub after_eager : List Turn
-after_eager = quiet (ask Nothing) ∷ []
+after_eager = quiet (ask None) ∷ []
 
-eager_turn₈ : turned p' eager₇ (quiet (ask Nothing)) ≡ after₈
+eager_turn₈ : turned p' eager₇ (quiet (ask None)) ≡ after₈
 unfolding machine
 eager_turn₈ = refl
 
@@ -644,13 +644,13 @@ pub eager_ceiling : alloc_sweeps p' (after_turns p' (begun p' lent) eager_turns)
 unfolding EagerSweepsNone
 eager_ceiling = eager_sweeps_none p' lent eager_turns after_eager eager_span refl
 
-pub eager_served : (result_of p' eager₇ (quiet (ask Nothing))).reply ≡ answered (26624 ∷ 1024 ∷ 0 ∷ 0 ∷ [])
+pub eager_served : (result_of p' eager₇ (quiet (ask None))).reply ≡ answered (26624 ∷ 1024 ∷ 0 ∷ 0 ∷ [])
 unfolding machine
 eager_served = refl
 
 -- ---- R-12: the fourth run
 
-went₂ : turned p after₁ (quiet (wide (Fresh (record { 0 = 2 })))) ≡ wide₂
+went₂ : turned p after₁ (quiet (wide (Some (record { 0 = 2 })))) ≡ wide₂
 unfolding machine
 went₂ = refl
 
@@ -670,7 +670,7 @@ went₆ : turned p wide₅ (quiet shared_release) ≡ wide₆
 unfolding machine
 went₆ = refl
 
-went₇ : turned p wide₆ (quiet (wide Nothing)) ≡ wide₇
+went₇ : turned p wide₆ (quiet (wide None)) ≡ wide₇
 unfolding machine
 went₇ = refl
 
@@ -715,11 +715,11 @@ unfolding PassOnce
 passes_once = pass_once p lent until_released after_released 2 span
 
 -- and it reaches both: the alloc sweeps the block, spends it and is Exhausted
-pub first_told : (result_of p wide₆ (quiet (wide Nothing))).reply ≡ exhausted 1
+pub first_told : (result_of p wide₆ (quiet (wide None))).reply ≡ exhausted 1
 unfolding machine
 first_told = refl
 
-pub first_events : (step_of p wide₆ (quiet (wide Nothing))).events ≡ swept 2 [] ∷ spent 2 ∷ []
+pub first_events : (step_of p wide₆ (quiet (wide None))).events ≡ swept 2 [] ∷ spent 2 ∷ []
 unfolding machine
 first_events = refl
 

@@ -1,5 +1,6 @@
 -- The end of a call: the one place where the heap is read once its chains are tested. The link read is the one that the shadow says,
 -- so the reply, the tables and the events are those of a step that sees the shadow and no heap.
+use Rattle.std.specs.Prelude.{Option}
 use mathlib.Core.Path.{◌≡◌, refl, sym, ap, ◌∙◌, subst}
 use mathlib.Core.Logic.{◌≢◌, inl, inr, ⊎_elim}
 use mathlib.Core.Bool.{Bool, true, false}
@@ -9,9 +10,9 @@ use native.Mathlib.Omega.{arith}
 use lib.ListN.{get_or, set}
 use borrow.Author.Tests.{eq-eqb}
 use Rattle.model.specs.declared.Params.{Params}
-use Rattle.model.specs.declared.Offer.{Offer}
+use Rattle.model.specs.declared.Block.{Block}
 use Rattle.model.specs.Base.{In, Pairwise, flag}
-use Rattle.model.specs.Params.{start, block_at, heap_bytes, heap_end}
+use Rattle.model.specs.Params.{block_at, heap_bytes, heap_end}
 use Rattle.model.specs.Memory.{load, zeroed}
 use Rattle.model.specs.Tables.{Tables, with_words, set_free, set_cells}
 use Rattle.model.specs.SizeClasses.{align_allocation}
@@ -195,7 +196,7 @@ module _ (p : Params) (B : Bounds p) where
       shadow_is = rw (head_is, tail_is)
 
   -- of an alloc by d, for this size, align and offset
-  module _ (t : Tables) (h : List ℕ) (sh : List (List ℕ)) (bk : Book) (d asked align offset : ℕ) (offer : Offer)
+  module _ (t : Tables) (h : List ℕ) (sh : List (List ℕ)) (bk : Book) (d asked align offset : ℕ) (offer : Option Block)
       (t' : Tables) (es : List Event) (b : ℕ) (fresh : Bool) (x : ℕ) (l : List ℕ) (o : EventsOk p B d es h bk)
       (I : Inv p B t' (events_heap p es h) (shadow_events es sh) (book_events p d es bk))
       (lb : b < p.blocks) (occ : get_or t'.states b 0 ≢ 0) (settled : Settled (get_or t'.words.list b 0)) (running : t'.words.phase ≡ 0)

@@ -12,7 +12,7 @@ use Rattle.model.specs.Params.{good_params, fits}
 use Rattle.model.specs.Classes.{classes_fit}
 use Rattle.model.specs.Tables.{Tables}
 use Rattle.model.specs.Global.{fresh_tables}
-use Rattle.model.specs.Calls.{refusal_number, Call, step, Result}
+use Rattle.model.specs.Calls.{refusal_number, Call, step, Returned}
 use Rattle.model.specs.Refusals.{NoBadTables}
 use Rattle.model.specs.Runs.{Book, book_after, written, Turn, State, empty_book, begun, HoldersWrite, Seen, seen_in}
 use Rattle.laws.proofs.Lent.{fits_parts, answered_fits, answered_classes, set_up_is}
@@ -37,7 +37,7 @@ module _ (p : Params) (fine : good_params p ≡ true) (rows : classes_fit p ≡ 
       let N : Sound p (bounds p fine rows) t g = kept_sound p (bounds p fine rows) t g K.kept G.core.chains.heap K.eager (chains_pass p fine rows t g sh bk G) in
       ⊎_elim
       (λ q z. never_bad p t g c (sound_on_lem p (bounds p fine rows) t g N)
-      (sym (ap (λ (r : Result). r.reply.number) (result_of_lem p fine rows t h sh bk I u H.0)) ∙ sym (ap (λ (y : Seen). y.reply.number) q) ∙ z))
+      (sym (ap (λ (r : Returned). r.reply.number) (result_of_lem p fine rows t h sh bk I u H.0)) ∙ sym (ap (λ (y : Seen). y.reply.number) q) ∙ z))
       (λ i. never us (step p t g c).tables (step p t g c).heap (shadow_step p t sh c).shadow (book_after p c (step p t g c) bk) O.inv
       (step_sound p (bounds p fine rows) rows t g c N) (subst (λ (y : State). HoldersWrite p y us) e H.1) x
       (subst (λ (y : State). In x (seen_in p y us)) e i)) m
@@ -49,6 +49,6 @@ no_bad_tables p l us e H x m =
     let fine : good_params p ≡ true = (fits_parts p l f).0 in
     let rows : classes_fit p ≡ true = answered_classes p l e in
     let at : begun p l ≡ state_of p fine rows (fresh_tables p) l.heap empty_book =
-    ap (λ (x : Result). record { lent = x.lent; book = empty_book }) (set_up_is p l f rows) in
+    ap (λ (x : Returned). record { lent = x.lent; book = empty_book }) (set_up_is p l f rows) in
     never p fine rows us (fresh_tables p) l.heap (replicate p.blocks []) empty_book (fresh_inv p fine rows l.heap (fits_parts p l f).1) (fresh_sound p (bounds p fine rows) l.heap (fits_parts p l f).1)
     (subst (λ (y : State). HoldersWrite p y us) at H) x (subst (λ (y : State). In x (seen_in p y us)) at m)

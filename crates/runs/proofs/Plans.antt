@@ -4,7 +4,7 @@ use mathlib.Core.Path.{◌≡◌, refl, sym, ap, ◌∙◌, subst}
 use mathlib.Core.Logic.{◌≢◌, inl, inr, ⊎_elim}
 use mathlib.Core.Bool.{Bool, true, false, not, ◌&&◌, ◌||◌}
 use mathlib.Core.List.{List, [], ◌∷◌, map}
-use Prim.Native.Nat.{ℕ, zero, suc, ◌+◌, ◌-◌, ◌*◌, ◌/◌, ◌%◌, ◌≤◌, ◌<◌}
+use Prim.Native.Nat.{ℕ, ◌+◌, ◌-◌, ◌*◌, ◌/◌, ◌%◌, ◌≤◌, ◌<◌}
 use native.Mathlib.Omega.{arith}
 use native.Mathlib.Decide.{ℕ_discrete, dec_lt}
 use lib.Dec.{eqb, ltb, leb}
@@ -30,7 +30,6 @@ use Rattle.model.specs.Runs.{Cell, Book, aged, book_event, book_events, book_ans
 use Rattle.laws.proofs.Base.{and_left, and_right, in_filter, if_false, if_cases, member_in, or_left, or_cases, Bool_cases, not_both}
 use Rattle.laws.proofs.Params.{Bounds, block_at_within}
 use Rattle.laws.proofs.Tables.{Sized, sized_same, kept_lengths}
-use Rattle.laws.proofs.Memory as Mem
 use Rattle.laws.proofs.Marks.{marked_cleared, length_set_mark, length_cleared, bytes_set_mark, bytes_cleared, marked_set_mark}
 use Rattle.laws.proofs.Frame.{LinksOnly, links_refl, push_links, append_links, remove_links, each_keeps, FirstsBut, link_list, append_first, append_none, relabel_keeps}
 use Rattle.laws.proofs.Walks.{released_one, blocks_keep_any, bins_keep_any, later_keeps_any, swept_one, all_keeps, recycle_keeps_any, eagerly_keeps}

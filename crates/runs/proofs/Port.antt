@@ -4,7 +4,7 @@ use mathlib.Core.Path.{◌≡◌, refl, sym, ap, ◌∙◌, subst}
 use mathlib.Core.List.{List, [], ◌∷◌, map}
 use Prim.Native.Nat.{ℕ}
 use Rattle.model.specs.declared.Params.{Params}
-use Rattle.model.specs.Calls.{Reply, answered, Result, set_up, pages}
+use Rattle.model.specs.Calls.{Reply, answered, Returned, set_up, pages}
 use Rattle.model.specs.Runs.{Turn, State, step_of, result_of, turned, empty_book, begun, Seen, seen, seen_in, RunKeeps, Demand3}
 use Rattle.model.specs.Port.{Made, EachPromised, PortRun, turns_of, port_begun, port_turned, port_seen, PortKeeps, ran, IsRun, Demand3OfThePort}
 use Rattle.runs.proofs.Demand3.{demand3}
@@ -41,7 +41,7 @@ module _ (p : Params) where
   chain_ran (m ∷ ms) s c =
       let q : m.gave ≡ result_of p s m.turn = λ i. record { reply = c.0.reply i; lent = c.0.lent i } in
       let rest : ms ≡ ran p (turned p s m.turn) (turns_of ms) =
-      chain_ran ms (turned p s m.turn) (subst (λ (x : Result). EachPromised p x.lent ms) q c.1) in
+      chain_ran ms (turned p s m.turn) (subst (λ (x : Returned). EachPromised p x.lent ms) q c.1) in
       λ i. record { turn = m.turn; gave = q i } ∷ rest i
 
   -- ---- a run of the port
@@ -52,14 +52,14 @@ module _ (p : Params) where
 
     begun_is : port_begun a ≡ begun p a.given
     unfolding port_begun begun
-    begun_is = ap (λ (x : Result). record { lent = x.lent; book = empty_book }) first_is
+    begun_is = ap (λ (x : Returned). record { lent = x.lent; book = empty_book }) first_is
 
     pub is_run : IsRun p a
     unfolding port_begun begun
     is_run =
         record {
           set_ups = first_is;
-          calls = chain_ran a.made (begun p a.given) (subst (λ (x : Result). EachPromised p x.lent a.made) first_is a.calls_kept);
+          calls = chain_ran a.made (begun p a.given) (subst (λ (x : Returned). EachPromised p x.lent a.made) first_is a.calls_kept);
         }
 
     -- what is shown of the machine's calls from where it begins holds of the port's
@@ -72,7 +72,7 @@ module _ (p : Params) where
         (ran_seen (turns_of a.made) (begun p a.given))
 
     answers : a.first.reply ≡ answered [] → (set_up p a.given).reply ≡ answered []
-    answers e = sym (ap (λ (x : Result). x.reply) first_is) ∙ e
+    answers e = sym (ap (λ (x : Returned). x.reply) first_is) ∙ e
 
     run_keeps : RunKeeps p (begun p a.given) (turns_of a.made) → PortKeeps p (port_begun a) a.made
     run_keeps k = as_run (PortKeeps p) (ran_keeps (turns_of a.made) (begun p a.given) k)
@@ -90,7 +90,7 @@ unfolding Demand3OfThePort Demand3
 demand3_of_the_port p a b e e' H H' same =
     let d = demand3 p a.given b.given (turns_of a.made) (turns_of b.made) (answers p a e) (answers p b e') H H' same in
     let set_ups : seen a.first [] ≡ seen b.first [] =
-    ap (λ (x : Result). seen x []) (first_is p a) ∙ d.0.set_ups ∙ sym (ap (λ (x : Result). seen x []) (first_is p b)) in
+    ap (λ (x : Returned). seen x []) (first_is p a) ∙ d.0.set_ups ∙ sym (ap (λ (x : Returned). seen x []) (first_is p b)) in
     let calls : port_seen p (port_begun a) a.made ≡ port_seen p (port_begun b) b.made =
     seen_is p a ∙ d.0.calls ∙ sym (seen_is p b) in (
       (is_run p a, is_run p b),

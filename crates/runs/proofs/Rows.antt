@@ -1,19 +1,19 @@
 -- Rows of `run` are a run of the machine, as the model states it (`RunOfRows`): the calls of a row are turns, the first of them after what
 -- was written. Assumes nothing.
+use Rattle.std.specs.Prelude.{Option, Some, None}
 use mathlib.Core.Path.{◌≡◌, refl, sym, ap, ◌∙◌}
-use mathlib.Core.Logic.{◌⊎◌, inl, inr}
-use mathlib.Core.Bool.{Bool, true}
+use mathlib.Core.Logic.{inl, inr}
+use mathlib.Core.Bool.{true}
 use mathlib.Core.List.{List, [], ◌∷◌, ◌++◌, append_assoc}
-use mathlib.Core.Option.{Option, some, none}
 use Prim.Native.Nat.{ℕ, zero, suc, ◌+◌, ◌-◌}
 use lib.ListN.{set}
 use Rattle.model.specs.declared.Params.{Params}
 use Rattle.model.specs.declared.Refusal.TheVariants.{BadLine}
 use Rattle.model.specs.Base.{In}
 use Rattle.model.specs.Params.{Lent}
-use Rattle.model.specs.Calls.{refused, Call, Result}
+use Rattle.model.specs.Calls.{refused, Call, Returned}
 use Rattle.model.specs.Runs.{Write, written, Turn, State, found_by, result_of, turned, seen_in}
-use Rattle.model.specs.RunCalls.{call_at, made, words_of, RowRan, run_from, call_count, lists_fit, RunResult, run_result, run_calls, RunRow, wrote, row_ran, rows_ran, calls_from, calls_in, Turns, turns_from, turns_of_rows, answers_in, calls_of_rows, RowsFit, RunOfRows}
+use Rattle.model.specs.RunCalls.{call_at, made, words_of, RowRan, run_from, call_count, lists_fit, RunResult, run_calls, RunRow, wrote, row_ran, rows_ran, calls_from, calls_in, Turns, turns_from, turns_of_rows, answers_in, calls_of_rows, RowsFit, RunOfRows}
 use Rattle.model.specs.Spans.{after_turns}
 
 abbrev ran : List ℕ → Lent → RowRan
@@ -44,7 +44,7 @@ module _ (p : Params) where
   unfoldable named_ran : Lent → List (Option Call) → RowRan
   named_ran l [] = ran [] l
   named_ran l (c ∷ cs) =
-      let r : Result = made p l c in
+      let r : Returned = made p l c in
       let rest : RowRan = named_ran r.lent cs in
       ran (words_of r.reply ++ rest.answers) rest.lent
 
@@ -52,7 +52,7 @@ module _ (p : Params) where
   unfolding run_from calls_from named_ran
   run_named calls zero l i = refl
   run_named calls (suc n) l i =
-      let r : Result = made p l (call_at calls i) in
+      let r : Returned = made p l (call_at calls i) in
       ap (λ (rest : RowRan). ran (words_of r.reply ++ rest.answers) rest.lent) (run_named calls n r.lent (i + 6))
 
   -- the buffers after them
@@ -60,8 +60,8 @@ module _ (p : Params) where
       → (named_ran (wrote p ws s.lent) cs).lent ≡ wrote p (turns_from ws cs).left (after_turns p s (turns_from ws cs).turns).lent
   unfolding named_ran turns_from after_turns made wrote written turned result_of found_by
   named_lent [] ws s = refl
-  named_lent (none ∷ cs) ws s = named_lent cs ws s
-  named_lent (some c ∷ cs) ws s = named_lent cs [] (turned p s (record { writes = ws; call = c }))
+  named_lent (None ∷ cs) ws s = named_lent cs ws s
+  named_lent (Some c ∷ cs) ws s = named_lent cs [] (turned p s (record { writes = ws; call = c }))
 
   -- their answers, before those of more
   named_answers : (cs ds : List (Option Call)) (vs : List Turn) (ws : List Write) (s : State)
@@ -69,10 +69,10 @@ module _ (p : Params) where
       ≡ (named_ran (wrote p ws s.lent) cs).answers ++ answers_in ds (seen_in p (after_turns p s (turns_from ws cs).turns) vs)
   unfolding named_ran turns_from after_turns made wrote written turned result_of found_by answers_in seen_in
   named_answers [] ds vs ws s = refl
-  named_answers (none ∷ cs) ds vs ws s =
+  named_answers (None ∷ cs) ds vs ws s =
       ap (λ (xs : List ℕ). words_of (refused BadLine) ++ xs) (named_answers cs ds vs ws s)
       ∙ sym (append_assoc (words_of (refused BadLine)) (named_ran (wrote p ws s.lent) cs).answers (answers_in ds (seen_in p (after_turns p s (turns_from ws cs).turns) vs)))
-  named_answers (some c ∷ cs) ds vs ws s =
+  named_answers (Some c ∷ cs) ds vs ws s =
       let u : Turn = record { writes = ws; call = c } in
       ap (λ (xs : List ℕ). words_of (result_of p s u).reply ++ xs) (named_answers cs ds vs [] (turned p s u))
       ∙ sym (append_assoc (words_of (result_of p s u).reply) (named_ran (wrote p [] (turned p s u).lent) cs).answers

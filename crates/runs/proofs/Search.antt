@@ -7,7 +7,7 @@ use Prim.Native.Nat.{ℕ, ◌-◌, ◌*◌, ◌/◌, ◌%◌, ◌≤◌, ◌<◌
 use native.Mathlib.Omega.{arith}
 use native.Mathlib.Decide.{ℕ_discrete}
 use lib.Dec.{eqb, ltb, leb}
-use lib.ListN.{get_or, set}
+use lib.ListN.{get_or}
 use lib.Seq.{get_or-set_other}
 use borrow.Author.Tests.{eqb-true, ltb-true}
 use Rattle.model.specs.declared.Params.{Params}

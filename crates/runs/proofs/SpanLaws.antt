@@ -14,7 +14,7 @@ use Rattle.model.specs.Params.{plus_lower}
 use Rattle.model.specs.SizeClasses.{words_in}
 use Rattle.model.specs.Block.{keeps, simple}
 use Rattle.model.specs.Events.{Event}
-use Rattle.model.specs.Calls.{Call, bind, destroy, alloc, prepare, mark, release, shared_release, Result}
+use Rattle.model.specs.Calls.{Call, bind, destroy, alloc, prepare, mark, release, shared_release, Returned}
 use Rattle.model.specs.Runs.{Cell, Book, frees, book_event, book_events, book_answer, book_after, taker_of, unmarked, Turn, State, step_of, result_of, book_of, turned, begun, hits, LostExactly, stays_held, TurnKeeps, RunKeeps, Demand3}
 use Rattle.model.specs.Spans.{after_turns, is_prepare, NoPrepare, NotLost, MarkedStays}
 use Rattle.laws.proofs.Base.{or_left, or_right, or_cases, if_cases, not_both}
@@ -100,7 +100,7 @@ module _ (p : Params) (bounds : Bounds p) (c : Cell) where
   unfolding stays_held turned book_of book_after
   turn_marked s u k n m =
       let r = events_marked (taker_of u.call) (step_of p s u).events s.book k.keeps.lost m in
-      let said : (is_prepare u.call && eqb (step_of p s u).reply.number 0) ≡ false = subst (λ (x : Result). (is_prepare u.call && eqb x.reply.number 0) ≡ false) k.result n in (
+      let said : (is_prepare u.call && eqb (step_of p s u).reply.number 0) ≡ false = subst (λ (x : Returned). (is_prepare u.call && eqb x.reply.number 0) ≡ false) k.result n in (
         ap not r.0,
         if_cases state_marked (eqb (step_of p s u).reply.number 0)
             (λ e. answer_marked u.call _ (and_first (is_prepare u.call) _ said e) r.1)

@@ -1,137 +1,87 @@
-// Reading: a script of any length, through a buffer, a line at a time.
+// Reading: a script of any length, a line at a time.
+use arrayvec::ArrayVec;
+use std::io;
 use std::io::{Read, Stderr, Stdin};
+use std::ops::Range;
 
-// The longest line of any form is a `K` of 131,072 digits. One that fills this array is of no form, so the rest of it may go.
-pub(crate) const LINE_BYTES: usize = 131075;
+// The longest line of any form is a `K` of 131,072 digits. One that fills so many bytes is of no form, so the rest of it may go.
+const LINE_BYTES: usize = 131075;
 
-pub(crate) const INPUT_BYTES: usize = 65536;
+const INPUT_BYTES: usize = 65536;
 
-// Standard input, where a read that fails is told, and what was read last.
+// Standard input, where a read that fails is told, and the line that was read last. No `BufReader`: its buffer comes from the heap,
+// so more of C's functions would be assumed.
 #[derive(Drop)]
-pub(crate) struct Input {
-    from: Stdin,
+pub(crate) struct Lines {
+    input: Stdin,
     errors: Stderr,
     bytes: [u8; INPUT_BYTES],
+    // which of the bytes are still to be looked at
+    waiting: Range<usize>,
+    line: ArrayVec<u8, LINE_BYTES>,
 }
 
-// Nothing is read yet.
-pub(crate) fn begun(from: Stdin, errors: Stderr) -> Input {
-    Input {
-        from,
-        errors,
-        bytes: [0; INPUT_BYTES],
-    }
-}
-
-// The bytes of the input buffer that are still to be read.
-#[derive(Clone, Copy)]
-pub(crate) struct Cursor {
-    pub at: usize,
-    pub end: usize,
-}
-
-// The next byte; no more; or no more because a read failed.
-#[derive(Clone, Copy)]
-pub(crate) enum Step {
-    Byte(u8, Cursor),
-    End,
-    Failed,
-}
-
-// A line of `len` bytes, and where the next begins. The last has nothing behind it.
-#[derive(Clone, Copy)]
-pub(crate) struct Line {
-    pub len: usize,
-    pub next: Cursor,
-    pub last: bool,
-}
-
-fn refill(input: &mut Input) -> Step {
-    let mut from = input.from;
-    let Ok(n) = from.read(&mut input.bytes) else {
-        let _ = input
-            .errors
-            .eprint("script: standard input can't be read\n");
-        return Step::Failed;
-    };
-    if n == 0 {
-        return Step::End;
-    }
-    Step::Byte(input.bytes[0], Cursor { at: 1, end: n })
-}
-
-fn next(input: &mut Input, c: Cursor) -> Step {
-    let at = c.at;
-    if at < c.end {
-        if at < INPUT_BYTES {
-            return Step::Byte(
-                input.bytes[at],
-                Cursor {
-                    at: at + 1,
-                    end: c.end,
-                },
-            );
+impl Lines {
+    // Nothing is read yet.
+    pub(crate) fn new(input: Stdin, errors: Stderr) -> Lines {
+        Lines {
+            input,
+            errors,
+            bytes: [0; INPUT_BYTES],
+            waiting: 0..0,
+            line: ArrayVec::new(),
         }
     }
-    refill(input)
-}
 
-// The line with one byte more; one that is too long stays as it is.
-fn keep(line: &mut [u8; LINE_BYTES], n: usize, b: u8) -> usize {
-    if n < LINE_BYTES {
-        line[n] = b;
-        return n + 1;
+    // Reads the next line, and says whether there is one: not at the end of the input, nor where a read fails.
+    pub(crate) fn advance(&mut self) -> bool {
+        match self.read() {
+            Ok(is_line) => is_line,
+            Err(_) => {
+                let _ = self.errors.eprint("script: standard input can't be read\n");
+                false
+            }
+        }
     }
-    n
-}
 
-// The bytes up to a newline or the end of the input; none of a line that a failed read cuts off. Nothing says that the input
-// ends: the turns are counted down from a number that no run uses up.
-pub(crate) fn read(input: &mut Input, line: &mut [u8; LINE_BYTES], from: Cursor) -> Line {
-    let mut c = from;
-    let mut n: usize = 0;
-    let mut turns = usize::MAX;
-    while 0 < turns {
-        turns = turns - 1;
-        match next(input, c) {
-            Step::End => {
-                return Line {
-                    len: n,
-                    next: c,
-                    last: true,
-                };
-            }
-            Step::Failed => {
-                return Line {
-                    len: 0,
-                    next: c,
-                    last: true,
-                };
-            }
-            Step::Byte(b, d) => {
-                if b == b'\n' {
-                    return Line {
-                        len: n,
-                        next: d,
-                        last: false,
-                    };
+    // The next byte, if there is one.
+    fn next(&mut self) -> io::Result<Option<u8>> {
+        if self.waiting.is_empty() {
+            self.waiting = 0..self.input.read(&mut self.bytes)?;
+        }
+        let Some(at) = self.waiting.next() else {
+            return Ok(None);
+        };
+        Ok(self.bytes.get(at).copied())
+    }
+
+    // Nothing says that the input ends: the turns are counted to a number that no run reaches.
+    fn read(&mut self) -> io::Result<bool> {
+        self.line.clear();
+        for _ in 0..u64::MAX {
+            match self.next()? {
+                None => break,
+                Some(b'\n') => return Ok(true),
+                Some(byte) => {
+                    let _ = self.line.try_push(byte);
                 }
-                c = d;
-                n = keep(line, n, b);
             }
         }
+        Ok(!self.line.is_empty())
     }
-    Line {
-        len: n,
-        next: c,
-        last: true,
-    }
-}
 
-// The byte i of a line; 0, which no form has, past the end of the array.
-pub(crate) fn byte(line: &[u8; LINE_BYTES], i: usize) -> u8 {
-    if i < LINE_BYTES {
-        return line[i];
+    // The line without its newline.
+    fn line(&self) -> &[u8] {
+        self.line.as_slice()
     }
-    0
+
+    // Whether it is blank or a comment.
+    pub(crate) fn is_skipped(&self) -> bool {
+        matches!(self.line(), [] | [b'#', ..])
+    }
+
+    // The line, if it is text: no form has other bytes.
+    pub(crate) fn text(&self) -> Option<&str> {
+        str::from_utf8(self.line()).ok()
+    }
 }

@@ -1,30 +1,20 @@
-// Answer lines.
-use crate::{out, setup};
-use model::{Answer, DestroyAnswer, Refusal, ReleaseAnswer};
-use native_ms::said::refusal_number;
-use words::bytes;
+// Answers, and what the library gives made into them.
+use arrayvec::ArrayVec;
+use model::{Ask, Refusal, Said, Verdict};
+use std::fmt;
 
 // The longest slice that an export is lent for its answer.
 pub(crate) const MOST_ANSWER: usize = 64;
 
-// What an export gave: its number, and the slice for its answer, as a length and words.
-#[derive(Clone, Copy)]
+// What an export gave: its number, and the slice for its answer.
+#[derive(Drop)]
 pub(crate) struct Sent {
     pub number: usize,
-    pub length: usize,
-    pub a: usize,
-    pub b: usize,
-    pub c: usize,
-    pub d: usize,
-    pub e: usize,
-    pub f: usize,
-    pub g: usize,
-    pub h: usize,
+    pub answer: ArrayVec<u8, MOST_ANSWER>,
 }
 
-#[derive(Clone, Copy)]
+#[derive(Drop)]
 pub(crate) enum Reply {
-    Bad,
     Done,
     Nothing,
     One(usize),
@@ -32,118 +22,135 @@ pub(crate) enum Reply {
     Four(usize, usize, usize, usize),
     Count(usize),
     Row(usize),
-    Refused(Refusal),
+    Refused(usize),
     Exhausted(usize),
     Export(Sent),
 }
 
-pub(crate) fn of_answer(a: Answer) -> Reply {
-    match a {
-        Answer::Done => Reply::Done,
-        Answer::Refused(r) => Reply::Refused(r),
+impl Reply {
+    // Whether a set-up that was answered so stands.
+    pub(crate) fn is_done(&self) -> bool {
+        matches!(self, Reply::Done | Reply::Export(Sent { number: 0, .. }))
+    }
+
+    // The answer to a call, or to set-up where none is named: so many values as its kind has.
+    pub(crate) fn of_call(ask: Option<Ask>, said: Said) -> Reply {
+        if said.number == usize::from(Refusal::Exhausted) {
+            return Reply::Exhausted(said.fourth);
+        }
+        if said.number != 0 {
+            return Reply::Refused(said.number);
+        }
+        match ask {
+            None | Some(Ask::Bind(_) | Ask::Prepare) => Reply::Done,
+            Some(Ask::Destroy(_) | Ask::Mark { .. }) => Reply::One(said.first),
+            Some(Ask::Release(_) | Ask::SharedRelease) => {
+                Reply::Three(said.first, said.second, said.third)
+            }
+            Some(Ask::Alloc { .. }) => {
+                Reply::Four(said.first, said.second, said.third, said.fourth)
+            }
+        }
     }
 }
 
-pub(crate) fn of_destroy(a: DestroyAnswer) -> Reply {
-    match a {
-        DestroyAnswer::Destroyed { blocks } => Reply::One(blocks),
-        DestroyAnswer::Refused(r) => Reply::Refused(r),
+impl From<Refusal> for Reply {
+    fn from(refusal: Refusal) -> Reply {
+        Reply::Refused(usize::from(refusal))
     }
 }
 
-pub(crate) fn of_release(a: ReleaseAnswer) -> Reply {
-    match a {
-        ReleaseAnswer::Released {
-            blocks,
-            merged,
-            swept,
-        } => Reply::Three(blocks, merged, swept),
-        ReleaseAnswer::Refused(r) => Reply::Refused(r),
+impl From<Result<(), Refusal>> for Reply {
+    fn from(answer: Result<(), Refusal>) -> Reply {
+        match answer {
+            Ok(()) => Reply::Done,
+            Err(refusal) => Reply::from(refusal),
+        }
     }
 }
 
-pub(crate) fn flag(b: bool) -> usize {
-    if b { 1 } else { 0 }
+impl From<Result<usize, Refusal>> for Reply {
+    fn from(answer: Result<usize, Refusal>) -> Reply {
+        match answer {
+            Ok(n) => Reply::One(n),
+            Err(refusal) => Reply::from(refusal),
+        }
+    }
 }
 
-// The slice's bytes.
-fn answer(s: Sent, to: &mut [u8; MOST_ANSWER]) {
-    bytes::store_word(to, 0, s.a);
-    bytes::store_word(to, 8, s.b);
-    bytes::store_word(to, 16, s.c);
-    bytes::store_word(to, 24, s.d);
-    bytes::store_word(to, 32, s.e);
-    bytes::store_word(to, 40, s.f);
-    bytes::store_word(to, 48, s.g);
-    bytes::store_word(to, 56, s.h);
+impl From<Result<Verdict, Refusal>> for Reply {
+    fn from(answer: Result<Verdict, Refusal>) -> Reply {
+        match answer {
+            Ok(Verdict::Accepted) => Reply::Done,
+            Ok(Verdict::BadCount(n)) => Reply::Count(n),
+            Ok(Verdict::BadRow(n)) => Reply::Row(n),
+            Err(refusal) => Reply::from(refusal),
+        }
+    }
 }
 
-// So many bytes of a slice.
-fn part(o: &mut out::Out, n: usize, s: &[u8], count: usize) -> usize {
-    let len = setup::least(count, s.len());
-    out::hex(o, n, &s[..len])
+// Two digits for each byte.
+#[derive(Clone, Copy)]
+pub(crate) struct Hex<'a>(pub &'a [u8]);
+
+// How many digits are written at once.
+const DIGITS: usize = 128;
+
+fn digits_of(byte: u8) -> [u8; 2] {
+    let digits = b"0123456789abcdef";
+    [
+        digits[usize::from(byte / 16)],
+        digits[usize::from(byte % 16)],
+    ]
 }
 
-fn shown(o: &mut out::Out, n: usize, s: &[u8; MOST_ANSWER], count: usize) -> usize {
-    part(o, n, s, count)
+// The bytes' digits at the start of the buffer, as far as it has room.
+fn put_digits(bytes: &[u8], digits: &mut [u8]) {
+    for (byte, pair) in bytes.iter().zip(digits.as_chunks_mut::<2>().0) {
+        *pair = digits_of(*byte);
+    }
+}
+
+// Some bytes at a time: with `{:02x}` for each byte (tried) a run with dumps takes 1.7 times the instructions.
+impl fmt::Display for Hex<'_> {
+    fn fmt<W: fmt::Write>(&self, f: &mut fmt::Formatter<W>) -> fmt::Result {
+        for bytes in self.0.chunks(DIGITS / 2) {
+            let mut digits = [0; DIGITS];
+            put_digits(bytes, &mut digits);
+            let digits = digits.get(..2 * bytes.len()).ok_or(fmt::Error)?;
+            f.write_str(str::from_utf8(digits).map_err(|_| fmt::Error)?)?;
+        }
+        Ok(())
+    }
 }
 
 // `N HEX`, or `N -` for a slice of no bytes.
-fn sent_line(o: &mut out::Out, n: usize, s: Sent) -> usize {
-    let m = out::number(o, n, s.number);
-    let k = out::put(o, m, b' ');
-    if s.length == 0 {
-        return out::put(o, k, b'-');
-    }
-    let mut to = [0u8; MOST_ANSWER];
-    answer(s, &mut to);
-    shown(o, k, &to, s.length)
-}
-
-fn words(o: &mut out::Out, n: usize, r: Reply) -> usize {
-    match r {
-        Reply::Bad => out::text(o, n, b"bad"),
-        Reply::Done => out::text(o, n, b"ok"),
-        Reply::Nothing => out::text(o, n, b"ok -"),
-        Reply::One(a) => {
-            let m = out::text(o, n, b"ok");
-            out::word(o, m, a)
+impl fmt::Display for Sent {
+    fn fmt<W: fmt::Write>(&self, f: &mut fmt::Formatter<W>) -> fmt::Result {
+        let number = self.number;
+        match self.answer.as_slice() {
+            [] => write!(f, "{number} -"),
+            answer => write!(f, "{number} {}", Hex(answer)),
         }
-        Reply::Three(a, b, c) => {
-            let m = out::text(o, n, b"ok");
-            let k = out::word(o, m, a);
-            let l = out::word(o, k, b);
-            out::word(o, l, c)
-        }
-        Reply::Four(a, b, c, d) => {
-            let m = out::text(o, n, b"ok");
-            let k = out::word(o, m, a);
-            let l = out::word(o, k, b);
-            let e = out::word(o, l, c);
-            out::word(o, e, d)
-        }
-        Reply::Count(a) => {
-            let m = out::text(o, n, b"ok count");
-            out::word(o, m, a)
-        }
-        Reply::Row(a) => {
-            let m = out::text(o, n, b"ok row");
-            out::word(o, m, a)
-        }
-        Reply::Refused(why) => {
-            let m = out::text(o, n, b"refused");
-            out::word(o, m, refusal_number(why))
-        }
-        Reply::Exhausted(swept) => {
-            let m = out::text(o, n, b"refused");
-            let k = out::word(o, m, refusal_number(Refusal::Exhausted));
-            out::word(o, k, swept)
-        }
-        Reply::Export(s) => sent_line(o, n, s),
     }
 }
 
-pub(crate) fn line(o: &mut out::Out, n: usize, r: Reply) -> usize {
-    let m = words(o, n, r);
-    out::put(o, m, b'\n')
+impl fmt::Display for Reply {
+    fn fmt<W: fmt::Write>(&self, f: &mut fmt::Formatter<W>) -> fmt::Result {
+        match self {
+            Reply::Done => write!(f, "ok"),
+            Reply::Nothing => write!(f, "ok -"),
+            Reply::One(a) => write!(f, "ok {a}"),
+            Reply::Three(a, b, c) => write!(f, "ok {a} {b} {c}"),
+            Reply::Four(a, b, c, d) => write!(f, "ok {a} {b} {c} {d}"),
+            Reply::Count(n) => write!(f, "ok count {n}"),
+            Reply::Row(n) => write!(f, "ok row {n}"),
+            Reply::Refused(number) => write!(f, "refused {number}"),
+            Reply::Exhausted(swept) => {
+                let number = usize::from(Refusal::Exhausted);
+                write!(f, "refused {number} {swept}")
+            }
+            Reply::Export(sent) => write!(f, "{sent}"),
+        }
+    }
 }

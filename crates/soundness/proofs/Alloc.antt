@@ -1,7 +1,7 @@
 -- The search of an alloc keeps tables good. A block that moves from one list to another is first taken out (`Out`: good tables
 -- but for this block, which is on no list), perhaps gets a new free head or holder, and is then filed.
 -- Assumes nothing.
-use Rattle.std.specs.Prelude.{if◌then◌else◌}
+use Rattle.std.specs.Prelude.{if◌then◌else◌, Option, None, Some}
 use mathlib.Core.Path.{◌≡◌, refl, sym, ap, ◌∙◌, subst}
 use mathlib.Core.Logic.{◌≢◌, inl, inr, ⊎_elim}
 use mathlib.Core.Bool.{Bool, true, false, ◌||◌}
@@ -13,8 +13,7 @@ use lib.Dec.{eqb, ltb}
 use lib.ListN.{get_or, set, length, length-set}
 use borrow.Author.Tests.{eqb-true, ltb-true, le-leb}
 use Rattle.model.specs.declared.Params.{Params}
-use Rattle.model.specs.declared.Offer.{Offer}
-use Rattle.model.specs.declared.Offer.TheVariants.{Nothing, Fresh}
+use Rattle.model.specs.declared.Block.{Block}
 use Rattle.model.specs.Base.{In}
 use Rattle.model.specs.Params.{start, block_at, list_word, local_sets, abandoned, available, unswept, consumed}
 use Rattle.model.specs.Tables.{Words, Tables, tables_of, with_words, set_first, set_last, set_next, set_prev, set_free, set_size, set_list, set_tls, set_cells}
@@ -426,16 +425,16 @@ module _ (p : Params) (B : Bounds p) (st ms : List ℕ) (w : Words) (H : GoodTab
 -- ---- the whole search
 
 -- a search leaves the marks
-pub find_marks : (p : Params) (h bin : ℕ) (offer : Offer) (t : Tables) → (find_block p h bin offer t).tables.marks ≡ t.marks
+pub find_marks : (p : Params) (h bin : ℕ) (offer : Option Block) (t : Tables) → (find_block p h bin offer t).tables.marks ≡ t.marks
 unfolding acquire_fresh
 find_marks p h bin offer t =
     find_keeps p h bin t (λ es w. Unit {0}) (λ es a w. Unit {0})
     (plain_steps p t.marks h bin (λ w. Unit {0}) (λ l w o. tt) (λ l b w o. tt) (λ b w o. tt) (λ b w o. tt))
     (λ s. s.tables.marks ≡ t.marks) offer (λ f e o. fresh offer f) (λ f e o. refl) tt
   where
-    fresh : (o : Offer) (f : Found) → (acquire_fresh p h bin o f t).tables.marks ≡ t.marks
-    fresh Nothing f = refl
-    fresh (Fresh b) f = refl
+    fresh : (o : Option Block) (f : Found) → (acquire_fresh p h bin o f t).tables.marks ≡ t.marks
+    fresh None f = refl
+    fresh (Some b) f = refl
 
 -- what it leaves: good tables, of which lists of the holder and abandoned ones alone changed
 pub record AllocKeeps (p : Params) (h : ℕ) (t u : Tables) : Type 0 where
@@ -451,10 +450,10 @@ module _ (p : Params) (B : Bounds p) (t : Tables) (H : GoodTables p t.marks t.wo
   Good' = SearchedSoFar p B t.states t.marks h bin lo hi low t.words
 
   -- the offer keeps good what a search left
-  fresh_ok : (offer : Offer) → good_offer p t offer ≡ true → (f : Found) → Good' f.words → Ok (acquire_fresh p h bin offer f t)
+  fresh_ok : (offer : Option Block) → good_offer p t offer ≡ true → (f : Found) → Good' f.words → Ok (acquire_fresh p h bin offer f t)
   unfolding acquire_fresh good_offer state_of
-  fresh_ok Nothing e f S = record { good = S.good; frame = S.frame }
-  fresh_ok (Fresh b) e f S =
+  fresh_ok None e f S = record { good = S.good; frame = S.frame }
+  fresh_ok (Some b) e f S =
       let lb = ltb-true _ _ (and_left (ltb b.0 p.blocks) (eqb (get_or t.states b.0 0) 0) e) in
       let z = eqb-true _ _ (and_right (ltb b.0 p.blocks) (eqb (get_or t.states b.0 0) 0) e) in
       record {
@@ -462,7 +461,7 @@ module _ (p : Params) (B : Bounds p) (t : Tables) (H : GoodTables p t.marks t.wo
         frame = framed_trans S.frame (offer_framed p B t.states t.marks f.words S.good b.0 lb z h bin lo hi pos low word);
       }
 
-  pub find_served : (offer : Offer) → good_offer p t offer ≡ true → Ok (find_block p h bin offer t)
+  pub find_served : (offer : Option Block) → good_offer p t offer ≡ true → Ok (find_block p h bin offer t)
   find_served offer fine =
       find_keeps p h bin t (λ es w. Good' w) (λ es a w. Good' w) (steps p B t.states t.marks h bin lo hi low t.words) Ok offer
       (λ f e S. fresh_ok offer fine f S) (λ f e S. record { good = S.good; frame = S.frame }) (record { good = H; frame = framed_refl t.words })

@@ -1,11 +1,12 @@
 -- Every call's plan keeps the chains: links and list words leave them, and each event does to the heap and the words what it does
 -- to the shadow. A plan that takes a cell takes one of a block that has some. Rides on what Alloc.antt shows of each step of a search.
 -- Assumes nothing.
+use Rattle.std.specs.Prelude.{Option, None, Some}
 use mathlib.Core.Path.{◌≡◌, refl, sym, ap, ◌∙◌, subst}
 use mathlib.Core.Logic.{◌≢◌, ◌⊎◌, inl, inr, ⊎_elim}
 use mathlib.Core.Bool.{true, false, ◌&&◌}
 use mathlib.Core.List.{List, [], ◌∷◌, ◌++◌}
-use Prim.Native.Nat.{ℕ, zero, suc, ◌+◌, ◌-◌, ◌*◌, ◌/◌, ◌<◌, ◌≤◌}
+use Prim.Native.Nat.{ℕ, zero, suc, ◌+◌, ◌*◌, ◌/◌, ◌<◌, ◌≤◌}
 use native.Mathlib.Omega.{arith}
 use native.Mathlib.Nat.{le-div_iff_mul-le}
 use native.Mathlib.Decide.{dec_lt, ℕ_discrete}
@@ -14,8 +15,7 @@ use lib.ListN.{get_or, set, length, length-set, get_or-eq_default}
 use lib.Seq.{get_or-set_same}
 use borrow.Author.Tests.{ltb-true, eq-eqb, ne_eqb, eqb-true, eqb-false}
 use Rattle.model.specs.declared.Params.{Params}
-use Rattle.model.specs.declared.Offer.{Offer}
-use Rattle.model.specs.declared.Offer.TheVariants.{Nothing, Fresh}
+use Rattle.model.specs.declared.Block.{Block}
 use Rattle.model.specs.Base.{In, each_below}
 use Rattle.model.specs.Params.{start, block_at, local_sets, abandoned, in_gc, available, unswept, consumed, bins}
 use Rattle.model.specs.Tables.{Words, Tables, set_free, set_size, set_tls, set_cells, set_next, set_prev, set_list, set_phase, set_released, with_released}
@@ -214,10 +214,10 @@ module _ (p : Params) (B : Bounds p) (h : List ℕ) (sh : List (List ℕ)) where
         (init_chains p B u.free u.size u.cells (events_heap p f.events h) (shadow_events f.events sh) E b lb (init_chain p b (cell_bytes p bin)) (cell_bytes p bin)
         word refl)
 
-    fresh_found : (offer : Offer) → good_offer p t offer ≡ true → (f : Found) → f.at ≡ 0 → After f.events f.words → Found' (acquire_fresh p hd bin offer f t)
+    fresh_found : (offer : Option Block) → good_offer p t offer ≡ true → (f : Found) → f.at ≡ 0 → After f.events f.words → Found' (acquire_fresh p hd bin offer f t)
     unfolding acquire_fresh good_offer shadow_event
-    fresh_found Nothing fine f e D = record { chains = D; at = inl e }
-    fresh_found (Fresh b) fine f e D =
+    fresh_found None fine f e D = record { chains = D; at = inl e }
+    fresh_found (Some b) fine f e D =
         let lb : b.0 < p.blocks = ltb-true _ _ (and_left (ltb b.0 p.blocks) _ fine) in
         let k = init_some b.0 in
         record {
@@ -229,7 +229,7 @@ module _ (p : Params) (B : Bounds p) (h : List ℕ) (sh : List (List ℕ)) where
           );
         }
 
-    pub find_after : (offer : Offer) → good_offer p t offer ≡ true → Found' (find_block p hd bin offer t)
+    pub find_after : (offer : Option Block) → good_offer p t offer ≡ true → Found' (find_block p hd bin offer t)
     unfolding events_heap shadow_events
     find_after offer fine =
         find_keeps p hd bin t (On t.states t.marks hd bin lo hi low t.words) (Got t.states t.marks hd bin lo hi low t.words)

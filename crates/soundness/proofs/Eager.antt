@@ -2,10 +2,10 @@
 -- chain that a sweep builds from the marks. Its state, as no Unmarked block is left on any list: holders have none, and those of
 -- abandoned and in-gc were released. Assumes nothing.
 use mathlib.Core.Path.{◌≡◌, refl, sym, ap, ◌∙◌, subst}
-use mathlib.Core.Logic.{◌≢◌, ◌⊎◌, inl, inr, ⊎_elim}
+use mathlib.Core.Logic.{◌≢◌, inl, inr, ⊎_elim}
 use mathlib.Core.Bool.{true, ◌||◌}
 use mathlib.Core.List.{List, []}
-use Prim.Native.Nat.{ℕ, suc, ◌-◌, ◌/◌, ◌<◌, ◌≤◌}
+use Prim.Native.Nat.{ℕ, suc, ◌/◌, ◌<◌, ◌≤◌}
 use native.Mathlib.Omega.{arith}
 use native.Mathlib.Decide.{ℕ_discrete}
 use lib.Dec.{eqb}
@@ -19,7 +19,7 @@ use Rattle.model.specs.Block.{state_unmarked, state_marked, cell_count, is_cell,
 use Rattle.model.specs.Events.{events_heap}
 use Rattle.model.specs.Global.{is_bound, all_released, is_last, Freed, release_holder, sweep_later, eagerly, part_released}
 use Rattle.model.specs.Sound.{state_of, state_known, sound_on}
-use Rattle.model.specs.Calls.{release, shared_release, call_tests, release_plan, plan_passed, finish, carried, Result, tables_in, lent_of, result_from}
+use Rattle.model.specs.Calls.{release, shared_release, call_tests, release_plan, plan_passed, finish, carried, Returned, tables_in, lent_of, result_from}
 use Rattle.model.specs.Eager.{LeftSwept, EndsSwept, EagerSwept}
 use Rattle.laws.proofs.Base.{if_cases, or_cases}
 use Rattle.laws.proofs.Params.{Bounds, good_bounds, some_start}
@@ -56,7 +56,7 @@ module _ (p : Params) (l : Lent) (on : p.eager ≡ true) where
   ms = l.marks
 
   -- of an answer
-  abbrev Ends : Result → Type 0
+  abbrev Ends : Returned → Type 0
   Ends r =
       r.reply.number ≡ 0 → (view r.lent.words).phase ≡ 0
       → (b : ℕ) → b < p.blocks → get_or r.lent.states b 0 ≢ 0 → LeftSwept p l r.lent b

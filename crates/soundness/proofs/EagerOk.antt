@@ -1,6 +1,7 @@
 -- The test of tables with the choice of eager sweeping (02, R-8), as facts: no unswept list has a block, and in Releasing no Unmarked
 -- block is of in-gc or, once the shared part is done, of abandoned. And that calls keep them: what stays of a released list is not
 -- Unmarked. Assumes nothing.
+use Rattle.std.specs.Prelude.{Option, None, Some}
 use mathlib.Core.Path.{◌≡◌, refl, sym, ap, ◌∙◌, subst}
 use mathlib.Core.Logic.{◌≢◌, ◌⊎◌, inl, inr, ⊎_elim}
 use mathlib.Core.Bool.{true, false, not, ◌&&◌}
@@ -12,8 +13,7 @@ use lib.Dec.{eqb, leb}
 use lib.ListN.{get_or, set, get_or-eq_default}
 use borrow.Author.Tests.{eqb-true, eqb-false, eq-eqb, ne_eqb, leb-true, le-leb}
 use Rattle.model.specs.declared.Params.{Params}
-use Rattle.model.specs.declared.Offer.{Offer}
-use Rattle.model.specs.declared.Offer.TheVariants.{Nothing, Fresh}
+use Rattle.model.specs.declared.Block.{Block}
 use Rattle.model.specs.Base.{In, each_below}
 use Rattle.model.specs.Params.{block_at, list_of, list_word, local_sets, abandoned, available, unswept, consumed, bins}
 use Rattle.model.specs.Tables.{Words, Tables, tables_of, set_next, set_prev, set_free, set_size, set_list, set_tls, set_cells, set_phase, set_released, with_released}
@@ -208,12 +208,12 @@ module _ (p : Params) where
           swept = λ es w S none some. absurd (some (settled_none w (unswept abandoned bin) S (unswept_kind 8 bin lb)));
         }
 
-    fresh_settled : (o : Offer) (t : Tables) (f : Found) → Settled f.words → Settled (acquire_fresh p h bin o f t).tables.words
+    fresh_settled : (o : Option Block) (t : Tables) (f : Found) → Settled f.words → Settled (acquire_fresh p h bin o f t).tables.words
     unfolding acquire_fresh init_block set_free set_size set_tls set_cells Settled
-    fresh_settled Nothing t f S = S
-    fresh_settled (Fresh b) t f S = push_settled p (available (local_sets h) bin) b.0 f.words my_available S
+    fresh_settled None t f S = S
+    fresh_settled (Some b) t f S = push_settled p (available (local_sets h) bin) b.0 f.words my_available S
 
-    pub find_settled : (offer : Offer) (t : Tables) → t.marks ≡ ms → Settled t.words → Settled (find_block p h bin offer t).tables.words
+    pub find_settled : (offer : Option Block) (t : Tables) → t.marks ≡ ms → Settled t.words → Settled (find_block p h bin offer t).tables.words
     find_settled offer t e S =
         find_keeps p h bin t (λ es w. Settled w) (λ es a w. Settled w) (subst (λ (x : List ℕ). Steps p x h bin (λ es w. Settled w) (λ es a w. Settled w)) (sym e) settled_steps)
         (λ s. Settled s.tables.words) offer (λ f z S. fresh_settled offer t f S) (λ f z S. S) S

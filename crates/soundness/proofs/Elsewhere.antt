@@ -1,20 +1,20 @@
 -- Rows change nothing but the class of a size and the size of a bin (02, R-5): every other definition gives the same for parameters that
 -- differ in their rows alone. By computation where it is no walk, and by induction where it is. Assumes nothing.
 use Rattle.std.specs.Prelude.{if◌then◌else◌}
-use mathlib.Core.Path.{◌≡◌, refl, sym, ap, ◌∙◌}
-use mathlib.Core.Bool.{Bool, true, false, not, ◌&&◌, ◌||◌}
+use mathlib.Core.Path.{◌≡◌, refl, ap, ◌∙◌}
+use mathlib.Core.Bool.{true, not, ◌&&◌, ◌||◌}
 use mathlib.Core.List.{List, [], ◌∷◌, ◌++◌, head_d}
 use Prim.Native.Nat.{ℕ, zero, suc, ◌+◌, ◌*◌, ◌/◌}
 use lib.Dec.{eqb, leb}
 use lib.ListN.{length, get_or, set, replicate}
 use Rattle.model.specs.declared.Params.{Params}
 use Rattle.model.specs.declared.Row.{Row}
-use Rattle.model.specs.Base.{all_below, sum_below, each_below, member}
-use Rattle.model.specs.Params.{start, block_at, in_heap, is_start, heap_bytes, heap_end, plus_lower, minus_lower, list_word, local_sets, available, unswept, consumed, abandoned, in_gc, bins}
-use Rattle.model.specs.Memory.{load, store, zeroed, mark_index, marked, set_mark}
-use Rattle.model.specs.Tables.{Words, Tables, tables_of, with_words, set_first, set_last, set_next, set_prev, set_list, set_tls, set_released, set_phase, with_released, set_bound}
+use Rattle.model.specs.Base.{all_below, sum_below, each_below}
+use Rattle.model.specs.Params.{start, block_at, in_heap, is_start, heap_bytes, heap_end, plus_lower, list_word, local_sets, available, unswept, consumed, abandoned, in_gc, bins}
+use Rattle.model.specs.Memory.{load, store, zeroed, mark_index, marked}
+use Rattle.model.specs.Tables.{Words, set_first, set_last, set_list, set_tls, set_released, set_phase, with_released}
 use Rattle.model.specs.BlockList.{Popped, push, pop_head, pop, remove_between, remove, relabel, link, append, walk, blocks_on, appended, ends, pages_used, pages_end}
-use Rattle.model.specs.Block.{state_unallocated, state_unmarked, cell_count, is_cell, link_all, init_chain, init_block, simple, keeps, sweep_chain, swept_words, clear_block}
+use Rattle.model.specs.Block.{state_unallocated, state_unmarked, cell_count, is_cell, link_all, simple, keeps, sweep_chain, swept_words, clear_block}
 use Rattle.model.specs.Events.{Event, initialised, swept, released, taken, spent, event_heap, events_heap}
 use Rattle.model.specs.FreeListAllocator.{find_free_block_with, Found, found, after, sweep_of, filed, recycle_local_blocks, acquire_abandoned}
 use Rattle.model.specs.Global.{phase_running, phase_releasing, abandon_bin, abandon_blocks, abandoned_bin, abandoned_below, abandoned_blocks, Freed, freed, after_release, release_from, release_blocks, append_to, left_unswept, release_bin, release_holder, sweep_later_bin, sweep_later, sweep_block, sweep_all, recycle_from, recycle_bin, recycle_blocks, swept_eagerly, is_last, eagerly, all_released, part_released, merged}

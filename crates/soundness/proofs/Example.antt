@@ -2,6 +2,7 @@
 -- phase, an alloc that is Exhausted after it has swept and moved a block, one on tables with a bad chain;
 -- and a release that makes one block Unallocated, a destroy and a last release by which one block goes over, and one with the choice of
 -- eager sweeping, of which Eager.antt speaks.
+use Rattle.std.specs.Prelude.{None, Some}
 use Prim.Native.Nat.{ℕ, zero, suc, ◌<◌}
 use native.Mathlib.Omega.{arith}
 use mathlib.Core.Path.{◌≡◌, refl, sym, ap, ◌∙◌}
@@ -12,7 +13,6 @@ use borrow.Author.Tests.{leb-true}
 use lib.ListN.{get_or, set, replicate}
 use Rattle.model.specs.declared.Params.{Params}
 use Rattle.model.specs.declared.Refusal.TheVariants.{BadTables, WrongPhase}
-use Rattle.model.specs.declared.Offer.TheVariants.{Nothing, Fresh}
 use Rattle.model.specs.Base.{all_below, any_below, member, filter, sum_below, each_below, flag}
 use Rattle.model.specs.Params.{Lent, power_of_two, lower_ok, biased, plus_lower, minus_lower, heap_bytes, heap_end, good_params, word_count, fits, start, block_at, in_heap, is_start, list_of, list_word, local_sets, available, unswept, consumed}
 use Rattle.model.specs.Memory.{load_bytes, bytes_of, overwrite, load, store, zeroed, bit_of, set_bit, mark_index, marked, set_mark, cleared}
@@ -25,7 +25,7 @@ use Rattle.model.specs.Events.{event_heap, events_heap, is_sweep, is_release, sw
 use Rattle.model.specs.FreeListAllocator.{find_free_block_with, recycle_local_blocks, acquire_abandoned, acquire_fresh, find_block}
 use Rattle.model.specs.Global.{fresh_words, fresh_tables, is_holder, is_bound, bind_holder, abandon_bin, abandon_blocks, abandoned_bin, abandoned_below, abandoned_blocks, destroy_holder, unmarked_state, prepared, mark_place, release_from, release_blocks, append_to, left_unswept, release_bin, release_holder, sweep_later_bin, sweep_later, has_released, all_released, is_last, sweep_block, sweep_all, recycle_from, recycle_bin, recycle_blocks, swept_eagerly, eagerly, part_released, merged}
 use Rattle.model.specs.Sound.{state_of, state_known, block_clear, list_named, bin_named, set_named, on_list_named, size_ok, link_ok, tls_ok, block_sound, linked_from, linked, owner_empty, unbound_empty, in_gc_empty, phase_known, flags_known, released_few, released_some, released_empty, sound, chain_counts, chain_ok, on_unswept, released_before, eager_block, eager_ok, chained}
-use Rattle.model.specs.Calls.{Reply, exhausted, tables_in, Call, alloc, mark, release, Result, refusal_number, good_request, too_big, good_offer, good_object, may_release, and_then, phase_test, bind_tests, bound_tests, request_tests, mark_tests, release_tests, shared_tests, call_tests, take_plan, release_plan, plan_passed, if_passed, plan_sound, plan, take_cell, finish, step, refused, answered, call, set_up, destroy, shared_release, may_leave, leave_tests, free_cells, cells_of, ask}
+use Rattle.model.specs.Calls.{Reply, exhausted, tables_in, Call, alloc, mark, release, Returned, refusal_number, good_request, too_big, good_offer, good_object, may_release, and_then, phase_test, bind_tests, bound_tests, request_tests, mark_tests, release_tests, shared_tests, call_tests, take_plan, release_plan, plan_passed, if_passed, plan_sound, plan, take_cell, finish, step, refused, answered, call, set_up, destroy, shared_release, may_leave, leave_tests, free_cells, cells_of, ask}
 use Rattle.model.specs.OwnRows.{with_own_rows, LowBins, OwnRows}
 use Rattle.model.specs.Census.{census_params}
 use Rattle.model.specs.Eager.{LeftSwept, EndsSwept, EagerSwept}
@@ -83,7 +83,7 @@ lent w s m = lent_on heap₀ w s m
 
 -- holder 2 asks for a cell of block 2's class, and nothing is offered
 abbrev wants : Call
-wants = alloc 2 1024 8 0 Nothing
+wants = alloc 2 1024 8 0 None
 
 -- who opens `machine` opens all that its line names
 machine : Params
@@ -118,14 +118,14 @@ none_left = refl
 pub exhausted_keeps : KeptExhausted p 2 (bin_of p (raised p 1024 8)) full (call p full wants).lent
 unfolding RefusalKeeps OfAlloc refusal_number
 exhausted_keeps =
-    let n : (call p full wants).reply.number ≡ 9 = ap (λ (r : Result). r.reply.number) none_left in
+    let n : (call p full wants).reply.number ≡ 9 = ap (λ (r : Returned). r.reply.number) none_left in
     (refusal_keeps p full wants (λ z. omega (arith, sym n ∙ z))).exhausted n
 
 pub one_told : (0 ∷ 0 ∷ 0 ∷ 1 ∷ []) ≡ 0 ∷ 0 ∷ 0 ∷ sweeps (step p (tables_in full) full.heap wants).events ∷ []
 unfolding RefusalKeeps refusal_number
 one_told =
-    let n : (call p full wants).reply.number ≡ 9 = ap (λ (r : Result). r.reply.number) none_left in
-    sym (ap (λ (r : Result). r.reply.values) none_left) ∙ (refusal_keeps p full wants (λ z. omega (arith, sym n ∙ z))).told n
+    let n : (call p full wants).reply.number ≡ 9 = ap (λ (r : Returned). r.reply.number) none_left in
+    sym (ap (λ (r : Returned). r.reply.values) none_left) ∙ (refusal_keeps p full wants (λ z. omega (arith, sym n ∙ z))).told n
 
 -- ---- R-7. A bad link is BadTables, and nothing changes: block 2 is available to holder 2 (171), and its chain is a ring
 
@@ -260,7 +260,7 @@ own_low (suc (suc (suc zero))) l ne = absurd (ne refl)
 own_low (suc (suc (suc (suc b)))) l ne = absurd (omega arith)
 
 abbrev entry : Call
-entry = alloc 1 72 8 0 (Fresh (record { 0 = 1 }))
+entry = alloc 1 72 8 0 (Some (record { 0 = 1 }))
 
 plain_served : (call p idle entry).reply ≡ answered (24480 ∷ 80 ∷ 1 ∷ 0 ∷ [])
 unfolding machine
@@ -272,4 +272,4 @@ plain = refl
 
 pub own_served : (call (with_own_rows p) idle entry).reply ≡ answered (24480 ∷ 80 ∷ 1 ∷ 0 ∷ [])
 unfolding OwnRows
-own_served = ap (λ (r : Result). r.reply) ((own_rows p plain).1 idle own_low entry) ∙ plain_served
+own_served = ap (λ (r : Returned). r.reply) ((own_rows p plain).1 idle own_low entry) ∙ plain_served

@@ -1,4 +1,5 @@
 -- Every call keeps tables sound, chains and free counts too, and set-up makes sound ones. Assumes nothing.
+use Rattle.std.specs.Prelude.{Ok, Option}
 use mathlib.Core.Path.{◌≡◌, refl, sym, ap, ◌∙◌, subst}
 use mathlib.Core.Logic.{◌≢◌, ◌⊎◌, inl, inr, ⊎_elim}
 use mathlib.Core.Bool.{Bool, true, not, ◌&&◌}
@@ -9,10 +10,9 @@ use lib.Dec.{eqb, ltb, leb}
 use lib.ListN.{get_or, set, length, length-set, length-map, replicate, length-replicate}
 use borrow.Author.Tests.{eq-eqb}
 use Rattle.model.specs.declared.Params.{Params}
-use Rattle.model.specs.declared.Offer.{Offer}
-use Rattle.model.specs.declared.Tested.TheVariants.{Passed}
+use Rattle.model.specs.declared.Block.{Block}
 use Rattle.model.specs.Base.{In}
-use Rattle.model.specs.Params.{Lent, fits, word_count, heap_bytes, in_heap, start, minus_lower, lists, local_sets, abandoned}
+use Rattle.model.specs.Params.{Lent, fits, word_count, heap_bytes, in_heap, start, minus_lower, local_sets, abandoned}
 use Rattle.model.specs.Tables.{Words, Tables, with_words, set_bound, set_released, with_released, set_phase, set_free, set_cells}
 use Rattle.model.specs.Global.{phase_running, is_holder, is_bound, unmarked_state, fresh_words, fresh_tables, bind_holder, destroy_holder, prepared, mark_place, all_released, has_released, Freed, release_holder, sweep_later, eagerly, part_released}
 use Rattle.model.specs.Memory.{load, zeroed, marked}
@@ -22,7 +22,7 @@ use Rattle.model.specs.SizeClasses.{bin_of, cell_bytes, raised}
 use Rattle.model.specs.Classes.{classes_fit}
 use Rattle.model.specs.Events.{Event, event_heap, events_heap}
 use Rattle.model.specs.FreeListAllocator.{find_block}
-use Rattle.model.specs.Calls.{changes, good_offer, take_plan, good_object, release_plan, call_tests, plan_passed, Call, bind, destroy, alloc, prepare, mark, release, shared_release, End, says, takes, Plan, plan, plan_sound, Step, take_cell, finish, carried, step, Result, tables_in, lent_of, call}
+use Rattle.model.specs.Calls.{changes, good_offer, take_plan, good_object, release_plan, call_tests, plan_passed, Call, bind, destroy, alloc, prepare, mark, release, shared_release, End, says, takes, Plan, plan, plan_sound, Step, take_cell, finish, carried, step, Returned, tables_in, lent_of, call}
 use Rattle.model.specs.Refusals.{SoundKept}
 use Rattle.laws.proofs.Base.{and_left, and_right, if_cases, if_false, or_left, or_right, Bool_cases, below_all}
 use Rattle.laws.proofs.Memory.{get_d_zeros}
@@ -180,7 +180,7 @@ module _ (p : Params) (B : Bounds p) where
         (λ l lt ne. R.first l (omega (arith, lt)) (omega (arith, lt))) (λ l e lt. absurd (omega (arith, e))) (omega arith)
 
     -- the search of an alloc
-    find_kept : (h bin : ℕ) (offer : Offer) → t.words.phase ≡ 0 → is_bound t.words h ≡ true → 1 ≤ bin → bin < 49 → 8 ≤ cell_bytes p bin
+    find_kept : (h bin : ℕ) (offer : Option Block) → t.words.phase ≡ 0 → is_bound t.words h ≡ true → 1 ≤ bin → bin < 49 → 8 ≤ cell_bytes p bin
         → good_offer p t offer ≡ true
         → Kept (find_block p h bin offer t).tables
     find_kept h bin offer e o pos low word fine =
@@ -223,7 +223,7 @@ module _ (p : Params) (B : Bounds p) where
         passes_eager (destroy_holder p h t) (destroy_kept t K h e o)
         (λ on. settled_facts t.states (abandon_settled p 8 (h - 1) t.words (facts on).settled) (λ z. omega (arith, e, sym R.phase ∙ z)))
 
-    find_eager : (h bin : ℕ) (offer : Offer) → t.words.phase ≡ 0 → is_bound t.words h ≡ true → 1 ≤ bin → bin < 49 → 8 ≤ cell_bytes p bin
+    find_eager : (h bin : ℕ) (offer : Option Block) → t.words.phase ≡ 0 → is_bound t.words h ≡ true → 1 ≤ bin → bin < 49 → 8 ≤ cell_bytes p bin
         → good_offer p t offer ≡ true → eager_ok p (find_block p h bin offer t).tables ≡ true
     find_eager h bin offer e o pos low word fine =
         let P = bound_at t.words h o in
@@ -368,7 +368,7 @@ module _ (p : Params) (B : Bounds p) where
         (ap (λ (w : Words). w.free) e, ap (λ (w : Words). w.size) e, ap (λ (w : Words). w.cells) e)
 
     -- the search of an alloc
-    alloc_leaves : (d size align offset : ℕ) (offer : Offer) → Asked p t d size align offset offer
+    alloc_leaves : (d size align offset : ℕ) (offer : Option Block) → Asked p t d size align offset offer
         → Leaves (take_plan p align offset (find_block p d (bin_of p (raised p size align)) offer t))
     unfolding take_plan
     alloc_leaves d size align offset offer a =
@@ -385,7 +385,7 @@ module _ (p : Params) (B : Bounds p) where
           ends = take_ends p B h S.shadow t (H t K) S.chains d bin P.low P.high lb n.word n.room align offset _ F;
         }
 
-    passed_leaves : (c : Call) → call_tests p t c ≡ Passed → Leaves (plan_passed p t c)
+    passed_leaves : (c : Call) → call_tests p t c ≡ Ok tt → Leaves (plan_passed p t c)
     unfolding call_tests plan_passed release_plan EndsOn
     passed_leaves (bind d) e = let b = bind_passed ws d e in leaves (bind_holder d t) [] (bind_kept t K d b.0 b.1) (bind_eager t K S.eager d) (bind_same d)
     passed_leaves (destroy d) e =
@@ -478,7 +478,7 @@ lent_sound p l fit ok =
 pub sound_kept : SoundKept
 unfolding SoundKept call
 sound_kept p l c fit ok =
-    rw fit (if_cases (λ (r : Result). sound_on p (tables_in r.lent) r.lent.heap ≡ true) (classes_fit p) served (λ k. ok))
+    rw fit (if_cases (λ (r : Returned). sound_on p (tables_in r.lent) r.lent.heap ≡ true) (classes_fit p) served (λ k. ok))
   where
     B : Bounds p
     B = good_bounds p (fitting p l fit).good

@@ -5,30 +5,29 @@ use Rattle.std.specs.Prelude.{if◌then◌else◌}
 use mathlib.Core.Path.{◌≡◌, refl, sym, ap, ◌∙◌, subst}
 use mathlib.Core.Logic.{◌≢◌, ◌⊎◌, inl, inr, ⊎_elim}
 use mathlib.Core.Bool.{Bool, true, false, not, ◌&&◌}
-use mathlib.Core.List.{List, [], ◌∷◌, ◌++◌}
+use mathlib.Core.List.{List, [], ◌++◌}
 use Prim.Native.Nat.{ℕ, zero, suc, ◌+◌, ◌-◌, ◌*◌, ◌/◌, ◌<◌, ◌≤◌}
 use native.Mathlib.Omega.{arith}
 use native.Mathlib.Decide.{ℕ_discrete}
 use lib.Dec.{eqb, ltb, leb}
 use lib.ListN.{length, get_or, set, replicate}
-use borrow.Author.Tests.{eqb-true, eqb-false, eq-eqb, ne_eqb, ltb-true, leb-true, lt-ltb, le-leb}
+use borrow.Author.Tests.{eqb-true, eq-eqb, ne_eqb, ltb-true, leb-true, lt-ltb, le-leb}
 use Rattle.model.specs.declared.Params.{Params}
 use Rattle.model.specs.Base.{In, member, flag, sum_below, each_below}
 use Rattle.model.specs.Params.{Lent, list_word, local_sets, available, unswept, consumed, bins}
-use Rattle.model.specs.Tables.{Words, view, tables_of, set_next, set_prev, set_free, set_size, set_list, set_tls, set_bound, set_phase, set_released, with_released}
+use Rattle.model.specs.Tables.{Words, view, set_phase, set_released, with_released}
 use Rattle.model.specs.BlockList.{remove, append, blocks_on, appended}
 use Rattle.model.specs.Block.{clear_block}
 use Rattle.model.specs.Global.{abandon_bin, abandon_blocks, abandoned_bin, abandoned_below, abandoned_blocks, Freed, freed, release_blocks, append_to, release_bin, release_holder, sweep_later_bin, sweep_later, all_released, part_released, merged}
 use Rattle.model.specs.Sound.{list_named, set_named}
 use Rattle.model.specs.Refusals.{is_of, blocks_of, went_over}
-use Rattle.laws.proofs.Base.{Bool_cases, if_cases, in_member, member_in, in_append_left, in_append_right}
+use Rattle.laws.proofs.Base.{Bool_cases, in_member, member_in, in_append_left, in_append_right}
 use Rattle.laws.proofs.Below.{and_both, and_first, and_second, and_left, and_right, same_test, true_not_false}
 use Rattle.laws.proofs.Params.{Bounds}
 use Rattle.laws.proofs.Stores.{set_at, set_off}
-use Rattle.laws.proofs.Tables.{Sized}
-use Rattle.laws.proofs.Pigeon.{sum_same, sum_zero, sum_add, members_count, flag_one, flag_none, Under}
+use Rattle.laws.proofs.Pigeon.{sum_same, sum_zero, sum_add, members_count, flag_one, flag_none}
 use Rattle.laws.proofs.Walks.{Numbered, available_numbered, unswept_numbered, consumed_numbered, released_one, bins_keep, later_keeps, abandon_keeps}
-use Rattle.soundness.proofs.Lists.{Lists, AllOn, Off, put, put_same, put_other, put_in_lem, on_list, one_list, free_off, lists_distinct, none_first, seg_under}
+use Rattle.soundness.proofs.Lists.{Lists, AllOn, Off, put, put_same, put_other, put_in_lem, on_list, free_off, lists_distinct, none_first, seg_under}
 use Rattle.soundness.proofs.Removes.{without, without_in, append_lists}
 use Rattle.soundness.proofs.SoundLists.{lists_walk}
 use Rattle.soundness.proofs.GoodTables.{GoodTables}

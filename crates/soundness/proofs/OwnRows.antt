@@ -1,46 +1,42 @@
 -- "With 01's own sizes up to the block given as rows, every earlier answer returns on tables with no block in a higher bin" (02, R-5). Rows
 -- change nothing but classes (Elsewhere.antt), and these rows change no class (OwnTable.antt). Assumes nothing.
-use Rattle.std.specs.Prelude.{if◌then◌else◌}
-use mathlib.Core.Path.{◌≡◌, refl, sym, ap, ◌∙◌}
-use mathlib.Core.Logic.{◌⊎◌, inl, inr, ⊎_elim, ◌≢◌}
-use mathlib.Core.Bool.{Bool, true, false, not, ◌&&◌, ◌||◌}
+use Rattle.std.specs.Prelude.{if◌then◌else◌, Result, ⊤, Ok, Err, Option, None, Some}
+use mathlib.Core.Path.{◌≡◌, refl, ap, ◌∙◌}
+use mathlib.Core.Logic.{◌⊎◌, inl, inr, ◌≢◌}
+use mathlib.Core.Bool.{Bool, true, false, not, ◌&&◌}
 use mathlib.Core.List.{List, [], ◌∷◌, ◌++◌}
-use Prim.Native.Nat.{ℕ, zero, suc, ◌+◌, ◌-◌, ◌/◌, ◌%◌, ◌^◌, ◌≤◌, ◌<◌}
+use Prim.Native.Nat.{ℕ, zero, suc, ◌-◌, ◌≤◌, ◌<◌}
 use native.Mathlib.Nat.{eq-zero-or-pos}
 use native.Mathlib.Decide.{ℕ_discrete, dec_lt}
 use native.Mathlib.Omega.{arith}
 use lib.Dec.{eqb, ltb, leb}
-use lib.IntN.{nat_abs}
 use lib.ListN.{length, get_or, set}
-use borrow.Author.Tests.{eq-eqb, ne_eqb, lt-ltb, le-leb, lt-leb}
+use borrow.Author.Tests.{eq-eqb, ne_eqb, lt-ltb, le-leb}
 use Rattle.model.specs.declared.Params.{Params}
 use Rattle.model.specs.declared.Row.{Row}
-use Rattle.model.specs.declared.Offer.{Offer}
-use Rattle.model.specs.declared.Offer.TheVariants.{Nothing, Fresh}
+use Rattle.model.specs.declared.Block.{Block}
+use Rattle.model.specs.declared.Refusal.{Refusal}
 use Rattle.model.specs.declared.Refusal.TheVariants.{BadSetup, BadTables}
-use Rattle.model.specs.declared.Tested.{Tested}
-use Rattle.model.specs.declared.Tested.TheVariants.{Passed, Refused}
-use Rattle.model.specs.Base.{all_below, member, flag}
-use Rattle.model.specs.Params.{power_of_two, lower_ok, good_params, max_rows, Lent, fits, word_count, heap_bytes, heap_end, start, block_at, in_heap, is_start, minus_lower, list_word, lists, local_sets, available, consumed, abandoned}
+use Rattle.model.specs.Base.{all_below, member}
+use Rattle.model.specs.Params.{good_params, max_rows, Lent, fits, word_count, heap_bytes, heap_end, start, block_at, in_heap, minus_lower, lists, local_sets, available, consumed, abandoned}
 use Rattle.model.specs.Memory.{load, zeroed, marked, mark_index, set_mark}
-use Rattle.model.specs.Tables.{Words, Tables, tables_of, with_words, view, set_free, set_bound}
-use Rattle.model.specs.SizeClasses.{mi_bin, bin_of, cell_bytes, raised, align_allocation, tabulated}
+use Rattle.model.specs.Tables.{Words, Tables, tables_of, with_words, view, set_bound}
+use Rattle.model.specs.SizeClasses.{mi_bin, bin_of, cell_bytes, raised, tabulated}
 use Rattle.model.specs.Classes.{classes_fit}
 use Rattle.model.specs.OwnRows.{own_row, with_own_rows, LowBins, OwnRows}
-use Rattle.model.specs.BlockList.{push, pages_used, pages_end}
-use Rattle.model.specs.Block.{state_unallocated, state_unmarked, cell_count, is_cell, init_chain, init_block}
-use Rattle.model.specs.Events.{Event, initialised, taken, event_heap, events_heap, sweeps, releases}
+use Rattle.model.specs.BlockList.{push}
+use Rattle.model.specs.Block.{state_unmarked, cell_count, is_cell, init_chain, init_block}
+use Rattle.model.specs.Events.{Event, initialised, event_heap, events_heap, sweeps, releases}
 use Rattle.model.specs.FreeListAllocator.{Found, followed_by, Search, in_found, acquire_fresh, find_block}
-use Rattle.model.specs.Global.{fresh_words, fresh_tables, bind_holder, abandon_blocks, abandoned_blocks, destroy_holder, prepared, mark_place, Freed, release_holder, sweep_later, part_released, merged}
-use Rattle.model.specs.Sound.{state_of, state_known, block_clear, bin_named, list_named, on_list_named, size_ok, link_ok, tls_ok, block_sound, linked, unbound_empty, in_gc_empty, phase_known, flags_known, released_few, released_some, released_empty, sound, sound_on}
-use Rattle.model.specs.Calls.{Reply, answered, refused, Call, bind, destroy, alloc, prepare, mark, release, shared_release, End, says, takes, Plan, refuses, good_request, too_big, good_offer, good_object, call_tests, request_tests, mark_tests, take_plan, release_plan, plan_passed, if_passed, plan_sound, plan, Step, take_cell, finish, carried, step, Result, tables_in, lent_of, result_from, bad_setup, bad_classes, call, set_up, pages, Question, free_cells, cells_of, ask}
-use Rattle.laws.proofs.Base.{if_true, if_false, if_cases}
-use Rattle.laws.proofs.Below.{test, all_below_at, all_below_from, all_below_off}
+use Rattle.model.specs.Global.{fresh_words, fresh_tables, destroy_holder, mark_place, Freed, release_holder, sweep_later}
+use Rattle.model.specs.Sound.{state_of, state_known, bin_named, list_named, on_list_named, size_ok, link_ok, tls_ok, block_sound, linked, unbound_empty, in_gc_empty, phase_known, flags_known, released_few, released_some, released_empty, sound, sound_on}
+use Rattle.model.specs.Calls.{answered, refused, Call, bind, destroy, alloc, prepare, mark, release, shared_release, End, says, takes, Plan, refuses, good_request, too_big, good_offer, good_object, call_tests, request_tests, mark_tests, take_plan, release_plan, plan_passed, if_passed, plan_sound, plan, take_cell, finish, carried, step, tables_in, call, set_up, pages, Question, free_cells, cells_of, ask}
+use Rattle.laws.proofs.Below.{test}
 use Rattle.laws.proofs.Params.{Bounds, good_bounds}
 use Rattle.laws.proofs.Classes.{mi_chosen, fits_raised}
 use Rattle.laws.proofs.Lent.{fits_parts}
 use Rattle.laws.proofs.Tests.{alloc_passed}
-use Rattle.soundness.proofs.Elsewhere.{blocks_on_same, pages_used_same, pages_end_same, event_heap_same, events_heap_same, find_free_same, recycle_same, abandoned_same, abandon_blocks_same, abandoned_blocks_same, release_holder_same, sweep_later_same, part_released_same, merged_same, linked_from_same, eagerly_same, eager_ok_same, chained_same}
+use Rattle.soundness.proofs.Elsewhere.{blocks_on_same, pages_used_same, pages_end_same, events_heap_same, find_free_same, recycle_same, abandoned_same, abandon_blocks_same, abandoned_blocks_same, release_holder_same, sweep_later_same, part_released_same, merged_same, linked_from_same, eagerly_same, eager_ok_same, chained_same}
 use Rattle.soundness.proofs.OwnTable.{own_fit, own_bin, own_cell, own_low}
 
 module _ (p : Params) where
@@ -123,17 +119,17 @@ module _ (p : Params) where
 
       -- ---- the search, for a bin of the table
 
-      fresh_same : (h bin : ℕ) (offer : Offer) → cell_bytes q bin ≡ cell_bytes p bin → acquire_fresh q h bin offer ≡ acquire_fresh p h bin offer
+      fresh_same : (h bin : ℕ) (offer : Option Block) → cell_bytes q bin ≡ cell_bytes p bin → acquire_fresh q h bin offer ≡ acquire_fresh p h bin offer
       unfolding acquire_fresh init_block init_chain cell_count push start block_at with_own_rows
-      fresh_same h bin Nothing e = refl
-      fresh_same h bin (Fresh b) e = λ i f t.
+      fresh_same h bin None e = refl
+      fresh_same h bin (Some b) e = λ i f t.
           let s : ℕ = e i in
           let w : Words = init_block p b.0 s h (push p (available (local_sets h) bin) b.0 f.words) in
           let t' : Tables = tables_of w (set t.states b.0 state_unmarked) t.marks in
           let events : List Event = f.events ++ (initialised b.0 (init_chain p b.0 s) ∷ []) in
           record { at = start p b.0; fresh = true; tables = t'; events = events }
 
-      find_same : (h bin : ℕ) (offer : Offer) (t : Tables) → cell_bytes q bin ≡ cell_bytes p bin → find_block q h bin offer t ≡ find_block p h bin offer t
+      find_same : (h bin : ℕ) (offer : Option Block) (t : Tables) → cell_bytes q bin ≡ cell_bytes p bin → find_block q h bin offer t ≡ find_block p h bin offer t
       unfolding find_block with_own_rows
       find_same h bin offer t e = λ i.
           let owner : ℕ = local_sets h in
@@ -152,8 +148,8 @@ module _ (p : Params) where
       tests_same t (bind h) = refl
       tests_same t (destroy h) = refl
       tests_same t (release h) = refl
-      tests_same t (alloc h size align offset Nothing) = refl
-      tests_same t (alloc h size align offset (Fresh b)) = refl
+      tests_same t (alloc h size align offset None) = refl
+      tests_same t (alloc h size align offset (Some b)) = refl
       tests_same t (mark place b) = refl
       tests_same t prepare = refl
       tests_same t shared_release = refl
@@ -173,7 +169,7 @@ module _ (p : Params) where
           let tables : Tables = tables_of (part_released_same p rs n i part g.words) g.states t.marks in
           record { tables = tables; events = g.events; end = says (answered (releases g.events ∷ merged_same p rs n i part g.words ∷ sweeps g.events ∷ [])) }
 
-      alloc_same : (t : Tables) (h size align offset : ℕ) (offer : Offer) → raised p size align ≤ p.bytes
+      alloc_same : (t : Tables) (h size align offset : ℕ) (offer : Option Block) → raised p size align ≤ p.bytes
           → take_plan q align offset (find_block q h (bin_of q (raised q size align)) offer t)
           ≡ take_plan p align offset (find_block p h (bin_of p (raised p size align)) offer t)
       alloc_same t h size align offset offer fit =
@@ -184,7 +180,7 @@ module _ (p : Params) where
           ∙ ap (take_plan q align offset) (find_same h (bin_of p r) offer t (own_cell p B plain (bin_of p r) l.0 l.1))
           ∙ take_plan_same align offset (find_block p h (bin_of p r) offer t)
 
-      passed_same : (t : Tables) (c : Call) → call_tests p t c ≡ Passed → plan_passed q t c ≡ plan_passed p t c
+      passed_same : (t : Tables) (c : Call) → call_tests p t c ≡ Ok tt → plan_passed q t c ≡ plan_passed p t c
       unfolding plan_passed destroy_holder mark_place marked mark_index set_mark in_heap heap_end heap_bytes with_own_rows
       passed_same t (bind h) e = refl
       passed_same t (destroy h) e = λ i.
@@ -203,10 +199,10 @@ module _ (p : Params) where
       passed_same t shared_release e =
           release_plan_same 0 t (sweep_later q t.words t.states) ∙ λ i. release_plan p 0 t (sweep_later_same p rs n i t.words t.states)
 
-      planned_same : (t : Tables) (c : Call) (x : Tested) → call_tests p t c ≡ x → if_passed x t (plan_passed q t c) ≡ if_passed x t (plan_passed p t c)
+      planned_same : (t : Tables) (c : Call) (x : Result ⊤ Refusal) → call_tests p t c ≡ x → if_passed x t (plan_passed q t c) ≡ if_passed x t (plan_passed p t c)
       unfolding if_passed
-      planned_same t c Passed e = passed_same t c e
-      planned_same t c (Refused r) e = refl
+      planned_same t c (Ok tt) e = passed_same t c e
+      planned_same t c (Err r) e = refl
 
       plan_same : (t : Tables) (h : List ℕ) (c : Call) → ((b : ℕ) → b < p.blocks → state_of t b ≢ 0 → bin_named t.words b ≤ n)
           → plan q t h c ≡ plan p t h c

@@ -3,27 +3,25 @@
 use Rattle.std.specs.Prelude.{if◌then◌else◌}
 use mathlib.Core.Path.{◌≡◌, refl, sym, ap, ◌∙◌}
 use mathlib.Core.Logic.{◌⊎◌, inl, inr, ⊎_elim, ◌≢◌}
-use mathlib.Core.Bool.{Bool, true, false, not, ◌&&◌, ◌||◌}
-use mathlib.Core.List.{List}
+use mathlib.Core.Bool.{Bool, true, false, not, ◌||◌}
 use Prim.Native.Nat.{ℕ, zero, suc, ◌+◌, ◌-◌, ◌*◌, ◌/◌, ◌<◌, ◌≤◌}
 use native.Mathlib.Nat.{not-suc-le-zero, le_of_suc-le-suc, eq-zero-or-pos}
 use native.Mathlib.Decide.{ℕ_discrete, dec_lt}
 use native.Mathlib.Omega.{arith}
 use lib.Dec.{eqb, ltb, leb}
 use lib.ListN.{get_or}
-use borrow.Author.Tests.{eqb-true, ltb-true, leb-true, eq-eqb, ne_eqb, lt-ltb, le-ltb, le-leb, lt-leb}
+use borrow.Author.Tests.{ltb-true, leb-true, eq-eqb, ne_eqb, lt-ltb, le-leb}
 use Rattle.model.specs.declared.Params.{Params}
 use Rattle.model.specs.declared.Row.{Row}
-use Rattle.model.specs.Base.{all_below, sum_below, least_from, flag}
-use Rattle.model.specs.Params.{max_rows}
+use Rattle.model.specs.Base.{all_below, flag}
 use Rattle.model.specs.SizeClasses.{fours, class_words, class_bytes, words_in, mi_bin, no_row, row_at, covers, words_asked, bin_of, cell_bytes, tabulated}
 use Rattle.model.specs.Classes.{block_words, rows_over, is_bad_count, row_fits, is_bad_row, bad_count, bad_row, classes_fit}
 use Rattle.model.specs.OwnRows.{own_row, with_own_rows}
 use Rattle.laws.proofs.Below.{all_below_at, and_both, or_cases, or_right}
 use Rattle.laws.proofs.Params.{Bounds}
 use Rattle.laws.proofs.Pigeon.{sum_one}
-use Rattle.laws.proofs.Rows.{First, none_least, first_least, Covering, covering, covers_yes, covers_no}
-use Rattle.laws.proofs.Classes.{class_bytes_mono, least_at, Least, MiChosen, mi_chosen, mi_bin_words, mi_bin_zero, one_class, class_in_block, words_of, words_most, plain_bin, plain_cell, row_bin, row_cell}
+use Rattle.laws.proofs.Rows.{none_least, first_least, Covering, covers_yes, covers_no}
+use Rattle.laws.proofs.Classes.{class_bytes_mono, least_at, Least, MiChosen, mi_chosen, mi_bin_words, mi_bin_zero, class_in_block, words_most, plain_bin, plain_cell, row_bin, row_cell}
 
 -- ---- the rows
 

@@ -1,13 +1,13 @@
 -- What the listing prints for a block on U, u or g is what its sweep builds, if the next alloc sweeps it. A search keeps sizes
 -- and marks, and every sweep in it goes by them. Rides on the walk of the search. Assumes nothing.
+use Rattle.std.specs.Prelude.{Option, None, Some}
 use mathlib.Core.Path.{◌≡◌, refl, sym, ap, ◌∙◌, subst}
 use mathlib.Core.Logic.{⊎_elim}
 use mathlib.Core.List.{List, [], ◌∷◌, ◌++◌}
 use Prim.Native.Nat.{ℕ}
 use lib.ListN.{get_or}
 use Rattle.model.specs.declared.Params.{Params}
-use Rattle.model.specs.declared.Offer.{Offer}
-use Rattle.model.specs.declared.Offer.TheVariants.{Nothing, Fresh}
+use Rattle.model.specs.declared.Block.{Block}
 use Rattle.model.specs.Base.{In}
 use Rattle.model.specs.Tables.{Words, Tables, set_free, set_tls, set_cells}
 use Rattle.model.specs.SizeClasses.{bin_of, raised}
@@ -87,18 +87,18 @@ module _ (p : Params) (t : Tables) where
   abbrev All : List Event → Type 0
   All es = AllBuilt p t.marks t.words.size es
 
-  fresh_built : (h bin : ℕ) (offer : Offer) (f : Found) → All f.events → All (acquire_fresh p h bin offer f t).events
+  fresh_built : (h bin : ℕ) (offer : Option Block) (f : Found) → All f.events → All (acquire_fresh p h bin offer f t).events
   unfolding acquire_fresh Built
-  fresh_built h bin Nothing f a = a
-  fresh_built h bin (Fresh b) f a = one_more p t.marks t.words.size f.events _ a tt
+  fresh_built h bin None f a = a
+  fresh_built h bin (Some b) f a = one_more p t.marks t.words.size f.events _ a tt
 
-  find_built : (h bin : ℕ) (offer : Offer) → All (find_block p h bin offer t).events
+  find_built : (h bin : ℕ) (offer : Option Block) → All (find_block p h bin offer t).events
   find_built h bin offer =
       find_keeps p h bin t _ _ (steps p t.marks t.words.size h bin) (λ (s : Search). All s.events) offer
       (λ f z o. fresh_built h bin offer f o.built) (λ f z o. o.built)
       (record { size = refl; built = none_built p t.marks t.words.size })
 
-  plan_built : (heap : List ℕ) (h size align offset : ℕ) (offer : Offer) → All (plan p t heap (alloc h size align offset offer)).events
+  plan_built : (heap : List ℕ) (h size align offset : ℕ) (offer : Option Block) → All (plan p t heap (alloc h size align offset offer)).events
   unfolding plan plan_passed take_plan
   plan_built heap h size align offset offer =
       if_cases Q (sound_on p t heap)
@@ -116,7 +116,7 @@ module _ (p : Params) (t : Tables) where
   finish_built u es h (says r) a = a
   finish_built u es h (takes b align offset fresh) a = one_more p t.marks t.words.size es _ a tt
 
-  pub alloc_built : (h size align offset : ℕ) (offer : Offer) (heap : List ℕ) → All (step p t heap (alloc h size align offset offer)).events
+  pub alloc_built : (h size align offset : ℕ) (offer : Option Block) (heap : List ℕ) → All (step p t heap (alloc h size align offset offer)).events
   unfolding step
   alloc_built h size align offset offer heap = finish_built _ _ _ _ (plan_built heap h size align offset offer)
 

@@ -1,5 +1,6 @@
 -- A refused call changes nothing, save for the block moves and sweeps of an alloc that is refused Exhausted.
 -- Assumes nothing.
+use Rattle.std.specs.Prelude.{Ok, Option, None, Some}
 use mathlib.Core.Path.{◌≡◌, refl, sym, ap, ◌∙◌, subst}
 use mathlib.Core.Logic.{◌≢◌, ◌⊎◌, inl, inr}
 use mathlib.Core.Bool.{true, ◌&&◌}
@@ -10,11 +11,9 @@ use lib.Dec.{ltb}
 use lib.ListN.{get_or, length, get_or-eq_default}
 use borrow.Author.Tests.{ltb-true, eq-eqb, ne_eqb}
 use Rattle.model.specs.declared.Params.{Params}
-use Rattle.model.specs.declared.Offer.{Offer}
-use Rattle.model.specs.declared.Offer.TheVariants.{Nothing, Fresh}
+use Rattle.model.specs.declared.Block.{Block}
 use Rattle.model.specs.declared.Refusal.{Refusal}
 use Rattle.model.specs.declared.Refusal.TheVariants.{BadTables}
-use Rattle.model.specs.declared.Tested.TheVariants as Test
 use Rattle.model.specs.Base.{In}
 use Rattle.model.specs.Params.{Lent, fits, word_count}
 use Rattle.model.specs.Tables.{Words, Tables, tables_of, view, flat}
@@ -25,7 +24,7 @@ use Rattle.model.specs.Block.{ChainStands}
 use Rattle.model.specs.Events.{Event, events_heap}
 use Rattle.model.specs.FreeListAllocator.{Found, Search, in_found, acquire_fresh, find_block}
 use Rattle.model.specs.Sound.{sound, eager_ok, chained, sound_on}
-use Rattle.model.specs.Calls.{refusal_number, Call, bind, destroy, alloc, prepare, mark, release, shared_release, Plan, refuses, changes, good_offer, take_plan, release_plan, call_tests, plan_passed, plan_sound, plan, take_cell, finish, step, Result, tables_in, lent_of, result_from, bad_setup, bad_classes, call, set_up}
+use Rattle.model.specs.Calls.{refusal_number, Call, bind, destroy, alloc, prepare, mark, release, shared_release, Plan, refuses, changes, good_offer, take_plan, release_plan, call_tests, plan_passed, plan_sound, plan, take_cell, finish, step, Returned, tables_in, lent_of, result_from, bad_setup, bad_classes, call, set_up}
 use Rattle.model.specs.Refusals.{PassedOver, SearchKeeps, KeptExhausted, OfAlloc, RefusalKeeps, SetUpKeeps}
 use Rattle.laws.proofs.Base.{if_cases, and_left, and_right}
 use Rattle.laws.proofs.Params.{Bounds, good_bounds, some_start}
@@ -80,7 +79,7 @@ module _ (p : Params) (h bin : ℕ) (l : Lent) (w : Words) (heap : List ℕ) (Z 
 -- ---- calls on buffers that fit
 
 -- what is said of a refused call, but for the count that Exhausted tells (Replies.antt)
-record Leaves (p : Params) (l : Lent) (c : Call) (r : Result) : Type 0 where
+record Leaves (p : Params) (l : Lent) (c : Call) (r : Returned) : Type 0 where
   values : r.reply.number ≢ 9 → r.reply.values ≡ []
   nothing : r.reply.number ≢ 9 → r.lent ≡ l
   exhausted : r.reply.number ≡ 9 → OfAlloc p (λ holder bin. KeptExhausted p holder bin l r.lent) c
@@ -89,11 +88,11 @@ module _ (p : Params) (l : Lent) where
   abbrev t : Tables
   t = tables_in l
 
-  abbrev Ok : Call → Result → Type 0
-  Ok c r = r.reply.number ≢ 0 → Leaves p l c r
+  abbrev Leaving : Call → Returned → Type 0
+  Leaving c r = r.reply.number ≢ 0 → Leaves p l c r
 
   abbrev Fine : Call → Plan → Type 0
-  Fine c q = Ok c (result_from (finish p q.tables q.events (events_heap p q.events l.heap) q.end))
+  Fine c q = Leaving c (result_from (finish p q.tables q.events (events_heap p q.events l.heap) q.end))
 
   -- a plan that is refused changes nothing
   module _ (e : length l.words ≡ word_count p) where
@@ -113,7 +112,7 @@ module _ (p : Params) (l : Lent) where
 
 module _ (p : Params) (l : Lent) (B : Bounds p) (H : GoodTables p l.marks (view l.words) l.states)
     (bare : (b : ℕ) → get_or (view l.words).free b 0 ≡ 0 → get_or (view l.words).cells b 0 ≡ 0)
-    (h size align offset : ℕ) (offer : Offer) (lo : 1 ≤ h) (hi : h ≤ 8) (low : bin_of p (raised p size align) < 49) where
+    (h size align offset : ℕ) (offer : Option Block) (lo : 1 ≤ h) (hi : h ≤ 8) (low : bin_of p (raised p size align) < 49) where
   abbrev bin : ℕ
   bin = bin_of p (raised p size align)
 
@@ -143,11 +142,11 @@ module _ (p : Params) (l : Lent) (B : Bounds p) (H : GoodTables p l.marks (view 
   unfolding take_plan finish take_cell
   some_found s e = rw (ne_eqb _ _ e) (λ z. absurd (z refl))
 
-  fresh_found : (o : Offer) → good_offer p (tables_in l) o ≡ true → (g : Found) → g.at ≡ 0 → Going' g.events g.words
+  fresh_found : (o : Option Block) → good_offer p (tables_in l) o ≡ true → (g : Found) → g.at ≡ 0 → Going' g.events g.words
       → R (acquire_fresh p h bin o g (tables_in l))
   unfolding acquire_fresh good_offer
-  fresh_found Nothing y g e G = none_found g e G
-  fresh_found (Fresh b) y g e G = some_found _ (some_start p B b.0 (ltb-true _ _ (and_left (ltb b.0 p.blocks) _ y)))
+  fresh_found None y g e G = none_found g e G
+  fresh_found (Some b) y g e G = some_found _ (some_start p B b.0 (ltb-true _ _ (and_left (ltb b.0 p.blocks) _ y)))
 
   alloc_fine : good_offer p (tables_in l) offer ≡ true → R (find_block p h bin offer (tables_in l))
   unfolding events_heap
@@ -199,7 +198,7 @@ module _ (p : Params) (l : Lent) (f : fits p l ≡ true) where
         no_chain a [] q low s k = refl
         no_chain a (x ∷ c) q low s k = absurd (omega (arith, sym s.0 ∙ q, whole_nonzero p B b (get_or w.size b 0) x low (k x (inl refl))))
 
-    passed_fine : (c : Call) → call_tests p (tables_in l) c ≡ Test.Passed → Fine p l c (plan_passed p (tables_in l) c)
+    passed_fine : (c : Call) → call_tests p (tables_in l) c ≡ Ok tt → Fine p l c (plan_passed p (tables_in l) c)
     unfolding plan_passed release_plan finish
     passed_fine (bind h) e = done p l (bind h) _ []
     passed_fine (destroy h) e = done p l (destroy h) _ _
@@ -218,11 +217,11 @@ module _ (p : Params) (l : Lent) (f : fits p l ≡ true) where
     plan_fine c =
         plan_cases (Fine p l c) p (tables_in l) c (λ r b. plain p l parts.words c r b.no_search) (λ e. passed_fine c e)
 
-leaves : (p : Params) (l : Lent) (c : Call) → Ok p l c (call p l c)
+leaves : (p : Params) (l : Lent) (c : Call) → Leaving p l c (call p l c)
 unfolding call step plan refusal_number
 leaves p l c =
-    if_cases (Ok p l c) (fits p l)
-    (λ f. if_cases (Ok p l c) (classes_fit p)
+    if_cases (Leaving p l c) (fits p l)
+    (λ f. if_cases (Leaving p l c) (classes_fit p)
     (λ k. if_cases (Fine p l c) (sound_on p (tables_in l) l.heap) (λ s. plan_fine p l f k s c)
     (λ s. plain p l (parts p l f).words c BadTables (λ q. omega (arith, q))))
     (λ k z. record { values = λ b. refl; nothing = λ b. refl; exhausted = λ q. absurd (omega (arith, q)) }))
@@ -238,5 +237,5 @@ pub set_up_keeps : SetUpKeeps
 unfolding SetUpKeeps set_up
 set_up_keeps p l = if_cases Left (fits p l) (λ e. if_cases Left (classes_fit p) (λ k z. absurd (z refl)) (λ k z. inr refl)) (λ e z. inl refl)
   where
-    Left : Result → Type 0
+    Left : Returned → Type 0
     Left r = r.reply.number ≢ 0 → (r ≡ bad_setup l) ⊎ (r ≡ bad_classes l)

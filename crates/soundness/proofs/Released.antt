@@ -1,7 +1,7 @@
 -- What a release answers is the number of blocks whose state byte it made 0, and that of the blocks that went over to abandoned;
 -- and destroy answers the number of its blocks, all of which go over. Each release in a walk is of an Unmarked block, and no other
 -- state byte changes; who goes over is in Over.antt. Assumes nothing.
-use Rattle.std.specs.Prelude.{if◌then◌else◌}
+use Rattle.std.specs.Prelude.{if◌then◌else◌, Ok}
 use mathlib.Core.Path.{◌≡◌, refl, sym, ap, ◌∙◌}
 use mathlib.Core.Logic.{◌≢◌}
 use mathlib.Core.Bool.{Bool, true, false, not, ◌&&◌}
@@ -13,7 +13,6 @@ use lib.Dec.{eqb}
 use lib.ListN.{length, get_or, set, length-set, length-append, get_or-eq_default}
 use borrow.Author.Tests.{eqb-true, eq-eqb, ne_eqb}
 use Rattle.model.specs.declared.Params.{Params}
-use Rattle.model.specs.declared.Tested.TheVariants.{Passed}
 use Rattle.model.specs.Base.{filter, flag, sum_below}
 use Rattle.model.specs.Params.{good_params, Lent, fits, word_count, heap_bytes, local_sets}
 use Rattle.model.specs.Tables.{Words, view, tables_of, set_bound, set_phase, set_released}
@@ -23,7 +22,7 @@ use Rattle.model.specs.Block.{sweep_chain}
 use Rattle.model.specs.Events.{Event, swept, released, events_heap, is_sweep, is_release, sweeps, releases}
 use Rattle.model.specs.Global.{abandon_blocks, abandoned_blocks, destroy_holder, Freed, freed, release_blocks, append_to, is_bound, release_holder, sweep_later, is_last, sweep_block, sweep_all, swept_eagerly, eagerly, part_released, merged}
 use Rattle.model.specs.Sound.{sound, eager_ok, chained, sound_on}
-use Rattle.model.specs.Calls.{refusal_number, Call, destroy, release, shared_release, call_tests, Plan, changes, release_plan, plan_passed, plan, finish, carried, step, Result, tables_in, lent_of, result_from, call}
+use Rattle.model.specs.Calls.{refusal_number, Call, destroy, release, shared_release, call_tests, Plan, changes, release_plan, plan_passed, plan, finish, carried, step, Returned, tables_in, lent_of, result_from, call}
 use Rattle.model.specs.Refusals.{made_unallocated, blocks_of, went_over, swept_at_end, CountsReleased, ReleasedCounts, DestroyedCounts}
 use Rattle.laws.proofs.Base.{and_left, if_cases, filter_append}
 use Rattle.laws.proofs.Below.{and_five}
@@ -210,7 +209,7 @@ module _ (p : Params) (l : Lent) where
   w = view l.words
 
   -- of an answer, of a plan once it is carried out
-  abbrev Counts : (Lent → List ℕ) → Result → Type 0
+  abbrev Counts : (Lent → List ℕ) → Returned → Type 0
   Counts v r = r.reply.number ≡ 0 → r.reply.values ≡ v r.lent
 
   abbrev Planned : (Lent → List ℕ) → Plan → Type 0
@@ -302,8 +301,8 @@ module _ (p : Params) (l : Lent) where
         left = abandoned_count p B l.marks 8 (h - 1) (omega arith) (omega (arith, P.high)) (omega (arith, P.low, P.high)) (omega arith) l.states w good
 
   -- a call, by what holds where it is refused, and by what its plan says if it passed its tests
-  pub call_passed : (P : Result → Type 0) → ((r : Result) → r.reply.number ≢ 0 → P r) → (c : Call)
-      → (fits p l ≡ true → sound_on p (tables_in l) l.heap ≡ true → call_tests p (tables_in l) c ≡ Passed → P (result_from (carried p l.heap (plan_passed p (tables_in l) c))))
+  pub call_passed : (P : Returned → Type 0) → ((r : Returned) → r.reply.number ≢ 0 → P r) → (c : Call)
+      → (fits p l ≡ true → sound_on p (tables_in l) l.heap ≡ true → call_tests p (tables_in l) c ≡ Ok tt → P (result_from (carried p l.heap (plan_passed p (tables_in l) c))))
       → P (call p l c)
   unfolding call step plan refusal_number finish
   call_passed P off c h =
@@ -316,7 +315,7 @@ module _ (p : Params) (l : Lent) where
       (λ e. off _ (λ z. omega (arith, z)))
 
   module _ (v : Lent → List ℕ) where
-    call_counts : (c : Call) → (fits p l ≡ true → sound p (tables_in l) ≡ true → call_tests p (tables_in l) c ≡ Passed → Planned v (plan_passed p (tables_in l) c))
+    call_counts : (c : Call) → (fits p l ≡ true → sound p (tables_in l) ≡ true → call_tests p (tables_in l) c ≡ Ok tt → Planned v (plan_passed p (tables_in l) c))
         → Counts v (call p l c)
     call_counts c h =
         call_passed (Counts v) (λ r off z. absurd (off z)) c

@@ -15,7 +15,7 @@ use Rattle.model.specs.FreeListAllocator.{Search}
 use Rattle.model.specs.Params.{Lent, fits}
 use Rattle.model.specs.Classes.{classes_fit}
 use Rattle.model.specs.Sound.{sound_on}
-use Rattle.model.specs.Calls.{refusal_number, refused, Call, bind, destroy, alloc, prepare, mark, release, shared_release, End, says, takes, Plan, refuses, take_plan, release_plan, plan_passed, plan_sound, plan, Reply, Result, Step, take_cell, finish, step, tables_in, call}
+use Rattle.model.specs.Calls.{refusal_number, refused, Call, bind, destroy, alloc, prepare, mark, release, shared_release, End, says, takes, Plan, refuses, take_plan, release_plan, plan_passed, plan_sound, plan, Reply, Returned, Step, take_cell, finish, step, tables_in, call}
 use Rattle.model.specs.Refusals.{NeverBadLink}
 use Rattle.laws.proofs.Base.{if_cases, Bool_cases}
 use Rattle.laws.proofs.Tests.{plan_cases}
@@ -77,8 +77,8 @@ module _ (p : Params) where
 pub never_bad_link : NeverBadLink
 unfolding NeverBadLink call refusal_number
 never_bad_link p l c =
-    if_cases (λ (r : Result). r.reply.number ≢ 8) (fits p l)
-    (λ f. if_cases (λ (r : Result). r.reply.number ≢ 8) (classes_fit p)
+    if_cases (λ (r : Returned). r.reply.number ≢ 8) (fits p l)
+    (λ f. if_cases (λ (r : Returned). r.reply.number ≢ 8) (classes_fit p)
     (λ k. ⊎_elim (λ e. (fair_reply p (tables_in l) l.heap c e).2)
     (λ e q. omega (arith, sym (ap (λ (r : Reply). r.number) (bad_reply p (tables_in l) l.heap c e)) ∙ q)) (Bool_cases (sound_on p (tables_in l) l.heap)))
     (λ k q. omega (arith, q)))
@@ -127,5 +127,5 @@ exhausted_tells p l c =
     if_cases Told (fits p l) (λ f. if_cases Told (classes_fit p) (λ k. step_tells p (tables_in l) l.heap c) (λ k z. absurd (omega (arith, z))))
     (λ f z. absurd (omega (arith, z)))
   where
-    Told : Result → Type 0
+    Told : Returned → Type 0
     Told r = r.reply.number ≡ 9 → r.reply.values ≡ 0 ∷ 0 ∷ 0 ∷ sweeps (step p (tables_in l) l.heap c).events ∷ []

@@ -2,13 +2,13 @@
 -- 72 bytes, and one that misses the count 9. The tables are computed.
 use mathlib.Core.Path.{◌≡◌, refl, sym, ap, ◌∙◌}
 use mathlib.Core.Bool.{true, false}
-use mathlib.Core.List.{List, [], ◌∷◌}
+use mathlib.Core.List.{[], ◌∷◌}
 use Prim.Native.Nat.{ℕ}
 use native.Mathlib.Omega.{arith}
 use Rattle.model.specs.declared.Params.{Params}
 use Rattle.model.specs.Base.{sum_below, least_from, flag}
 use Rattle.model.specs.SizeClasses.{row_at, covers}
-use Rattle.model.specs.Classes.{block_words, rows_over, is_bad_count, row_fits, is_bad_row, bad_count, bad_row, classes_fit, NamesTheFirst, OnlyRow, AcceptedCovers}
+use Rattle.model.specs.Classes.{block_words, rows_over, is_bad_count, row_fits, is_bad_row, bad_count, bad_row, classes_fit, OnlyRow, AcceptedCovers}
 use Rattle.model.specs.Cases.{row, with_rows, offices}
 use Rattle.laws.proofs.Rows.{names_the_first, accepted_covers}
 

@@ -3,13 +3,14 @@ use mathlib.Core.Path.{◌≡◌, refl, ap}
 use mathlib.Core.List.{List, [], ◌∷◌, ◌++◌, map}
 use Prim.Native.Nat.{ℕ, ◌≤◌}
 use native.Mathlib.Omega.{arith}
-use lib.ListN.{length, take, replicate, length-take}
+use lib.ListN.{length, take, replicate}
 use Rattle.model.specs.declared.Params.{Params}
 use Rattle.model.specs.Params.{Lent, word_count}
 use Rattle.model.specs.Calls.{Reply}
 use Rattle.model.specs.Tables.{tables_of, view}
 use Rattle.model.specs.Sound.{state_of}
 use Rattle.model.specs.Census.{section, occupied, block_row, free_section, lines_of, census_params, census_lent, run_lines, Ran, listing, census}
+use Rattle.listing.specs.declared.print.Refused.{Refused}
 use Rattle.listing.specs.Print.{refused_rows}
 use Rattle.model.specs.Text.{place_after, Printed}
 use Rattle.laws.proofs.Text.{length_printed}
@@ -29,23 +30,18 @@ unfolding blocks_text free_text tables_read block_row occupied state_of
 sections_same w s m h rows name = refl
 
 -- what the run leaves is what is listed
-pub same_listing : (ran : Ran) (n : ℕ) (w s m h : List ℕ) (lines numbers : List ℕ) → TraceRan ran n (lend w s m h) lines numbers
-    → listing_text (take n lines) (take n numbers) w s m h ≡ listing ran
+same_listing : (ran : Ran) (w s m h : List ℕ) (rs : List Refused) → TraceRan ran rs (lend w s m h) → listing_text rs w s m h ≡ listing ran
 unfolding listing_text listing refused_rows
-same_listing ran n w s m h lines numbers t =
+same_listing ran w s m h rs t =
     rw (← t.lent, ← t.refusals) (sections_same w s m h _ _)
 
--- as many as are kept
-pub kept_count : (n : ℕ) (l : List ℕ) → n ≤ length l → n ≡ length (take n l)
-kept_count n l f = omega (arith, length-take n l, f)
-
 -- set-up, the run and the listing, one after the other
-pub listed : {h h' : List ℕ} {r n : ℕ} {p : Params} {reply : Reply} (l l₁ : Lent) (trace w s m heap lines numbers : List ℕ)
-    → p ≡ census_params → SetUpPromised p l reply l₁ → TraceRan (run_lines 1 (lines_of trace) l₁) n (lend w s m heap) lines numbers
-    → Printed h h' 0 r (listing_text (take n lines) (take n numbers) w s m heap) → Printed h h' 0 r (listed_from l trace)
+pub listed : {h h' : List ℕ} {r : ℕ} {p : Params} {reply : Reply} (l l₁ : Lent) (trace w s m heap : List ℕ) {rs rs' : List Refused}
+    → p ≡ census_params → SetUpPromised p l reply l₁ → TraceRan (run_lines 1 (lines_of trace) l₁) rs (lend w s m heap)
+    → rs' ≡ rs → Printed h h' 0 r (listing_text rs' w s m heap) → Printed h h' 0 r (listed_from l trace)
 unfolding listed_from
-listed {n = n} l l₁ trace w s m heap lines numbers e u t q =
-    rw (← e, ← u.lent) (rw (same_listing _ n w s m heap lines numbers t) at q)
+listed l l₁ trace w s m heap e u t k q =
+    rw (← e, ← u.lent) (rw (k, same_listing _ w s m heap _ t) at q)
 
 -- the census lends zeros
 lends_zeros : lend (replicate 2986 0) (replicate 4 0) (replicate 256 0) (replicate 16384 0) ≡ census_lent

@@ -12,8 +12,8 @@ use Rattle.model.specs.Census.{newline, unread}
 use Rattle.laws.proofs.Below.{test}
 use Rattle.model.specs.Text.{piece_end, lines_from}
 use Rattle.laws.proofs.Text.{lines_end}
-use Rattle.trace.specs.declared.NextLine.{NextLine}
-use Rattle.trace.specs.declared.NextLine.TheVariants.{Line, End}
+use Rattle.std.specs.Prelude.{Option, Some, None}
+use Rattle.trace.specs.declared.lines.Line.{Line}
 use Rattle.trace.specs.Lines.{next_line}
 use Rattle.trace.proofs.LinesLaws.{next_more, next_last, next_step, next_over}
 
@@ -22,16 +22,16 @@ lines_some : (s : List ℕ) (at : ℕ) → at < length s → 0 < length (lines_f
 lines_some s at l = go (test (ltb (piece_end newline s at) (length s)))
   where
     go : (ltb (piece_end newline s at) (length s) ≡ true) ⊎ (ltb (piece_end newline s at) (length s) ≡ false) → 0 < length (lines_from s at)
-    go (inl m) = omega (arith, ap length (next_step s at _ _ _ (sym (next_more s at _ l refl (ltb-true _ _ m)))).rest)
-    go (inr m) = omega (arith, ap length (next_step s at _ _ _ (sym (next_last s at _ l refl (ltb-false _ _ m)))).rest)
+    go (inl m) = omega (arith, ap length (next_step s at _ (sym (next_more s at _ l refl (ltb-true _ _ m)))).rest)
+    go (inr m) = omega (arith, ap length (next_step s at _ (sym (next_last s at _ l refl (ltb-false _ _ m)))).rest)
 
 -- n lines are passed, and those from `at` on are left
 module _ (s : List ℕ) (n at : ℕ) (all : n + length (lines_from s at) ≡ length (lines_from s 0)) where
-  pub left_further : {r : NextLine} {from to next : ℕ} → r ≡ next_line s at → r ≡ Line from to next
-      → (n + 1) + length (lines_from s next) ≡ length (lines_from s 0)
-  left_further {from = from} {to = to} {next = next} e g = omega (arith, all, ap length (next_step s at from to next (sym e ∙ g)).rest)
+  pub left_further : {r : Option Line} {line : Line} → r ≡ next_line s at → r ≡ Some line
+      → (n + 1) + length (lines_from s line.next) ≡ length (lines_from s 0)
+  left_further {line = line} e g = omega (arith, all, ap length (next_step s at line (sym e ∙ g)).rest)
 
-  pub left_over : {r : NextLine} → n < 256 → r ≡ next_line s at → r ≡ End → false ≡ ltb 256 (length (lines_from s 0))
+  pub left_over : {r : Option Line} → n < 256 → r ≡ next_line s at → r ≡ None → false ≡ ltb 256 (length (lines_from s 0))
   left_over l e g = sym (le-ltb 256 (length (lines_from s 0)) (omega (arith, all, ap length (next_over s at (sym e ∙ g)))))
 
   pub left_last : n ≡ 256 → ltb at (length s) ≡ ltb 256 (length (lines_from s 0))

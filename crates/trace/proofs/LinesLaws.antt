@@ -13,8 +13,8 @@ use Rattle.model.specs.Census.{newline}
 use Rattle.laws.proofs.Below.{test}
 use Rattle.model.specs.Text.{piece_end, lines_from}
 use Rattle.laws.proofs.Text.{lines_end, lines_more, lines_last, end_between}
-use Rattle.trace.specs.declared.NextLine.{NextLine}
-use Rattle.trace.specs.declared.NextLine.TheVariants.{Line, End}
+use Rattle.std.specs.Prelude.{Some, None}
+use Rattle.trace.specs.declared.lines.Line.{Line}
 use Rattle.trace.specs.Lines.{next_line}
 
 -- the bytes of a line
@@ -22,79 +22,76 @@ unfoldable pub line_bytes : List ℕ → ℕ → ℕ → List ℕ
 line_bytes s from to = take (to - from) (drop from s)
 
 module _ (s : List ℕ) (at : ℕ) where
-  pub next_end : length s ≤ at → End ≡ next_line s at
+  pub next_end : length s ≤ at → None ≡ next_line s at
   unfolding next_line
   next_end l = rw (le-ltb at (length s) l)
 
-  pub next_more : (e : ℕ) → at < length s → e ≡ piece_end newline s at → e < length s → Line at e (e + 1) ≡ next_line s at
+  pub next_more : (e : ℕ) → at < length s → e ≡ piece_end newline s at → e < length s
+      → Some (record { from = at; to = e; next = e + 1 }) ≡ next_line s at
   unfolding next_line
   next_more e l q m = rw (← q, lt-ltb at (length s) l, lt-ltb e (length s) m)
 
-  pub next_last : (e : ℕ) → at < length s → e ≡ piece_end newline s at → length s ≤ e → Line at e e ≡ next_line s at
+  pub next_last : (e : ℕ) → at < length s → e ≡ piece_end newline s at → length s ≤ e
+      → Some (record { from = at; to = e; next = e }) ≡ next_line s at
   unfolding next_line
   next_last e l q m = rw (← q, lt-ltb at (length s) l, le-ltb e (length s) m)
 
 -- what an answer says: a line of what remains, and what remains behind it
-pub record Step (s : List ℕ) (at from to next : ℕ) : Type 0 where
-  pub ordered : from ≤ to
-  pub inside : to ≤ length s
-  pub further : at < next
-  pub within : next ≤ length s
-  pub rest : lines_from s at ≡ line_bytes s from to ∷ lines_from s next
+pub record Step (s : List ℕ) (at : ℕ) (line : Line) : Type 0 where
+  pub ordered : line.from ≤ line.to
+  pub inside : line.to ≤ length s
+  pub further : at < line.next
+  pub within : line.next ≤ length s
+  pub rest : lines_from s at ≡ line_bytes s line.from line.to ∷ lines_from s line.next
 
 step_more : (s : List ℕ) (at : ℕ) → at < length s → piece_end newline s at < length s
-    → Step s at at (piece_end newline s at) (piece_end newline s at + 1)
+    → Step s at (record { from = at; to = piece_end newline s at; next = piece_end newline s at + 1 })
 unfolding line_bytes
 step_more s at l m =
     let b = end_between newline s at (piece_end newline s at) refl (omega arith) in
     record { ordered = b.0; inside = b.1; further = omega (arith, b.0); within = omega arith; rest = lines_more s at (omega arith) m }
 
 step_last : (s : List ℕ) (at : ℕ) → at < length s → length s ≤ piece_end newline s at
-    → Step s at at (piece_end newline s at) (piece_end newline s at)
+    → Step s at (record { from = at; to = piece_end newline s at; next = piece_end newline s at })
 unfolding line_bytes
 step_last s at l m =
     let b = end_between newline s at (piece_end newline s at) refl (omega arith) in
     record { ordered = b.0; inside = b.1; further = omega arith; within = b.1; rest = lines_last s at l m }
 
-same_step : (s : List ℕ) (at from to next from' to' next' : ℕ) → ◌≡◌ {A = NextLine} (Line from to next) (Line from' to' next')
-    → Step s at from to next → Step s at from' to' next'
-same_step s at from to next from' to' next' e p =
-    let a : from ≡ from' = cc in
-    let b : to ≡ to' = cc in
-    let c : next ≡ next' = cc in
-    rw (a, b, c) at p
+same_step : (s : List ℕ) (at : ℕ) (line line' : Line) → Some line ≡ Some line' → Step s at line → Step s at line'
+same_step s at line line' e p = let a : line ≡ line' = cc in rw a at p
 
-not_line : (from to next : ℕ) → End ≡ Line from to next → ⊥
-not_line from to next e = let z : ◌≡◌ {A = ℕ} 0 1 = cc in omega arith
+not_line : (line : Line) → None ≡ Some line → ⊥
+not_line line e = let z : ◌≡◌ {A = ℕ} 0 1 = cc in omega arith
 
-pub next_step : (s : List ℕ) (at from to next : ℕ) → next_line s at ≡ Line from to next → Step s at from to next
+pub next_step : (s : List ℕ) (at : ℕ) (line : Line) → next_line s at ≡ Some line → Step s at line
 unfolding next_line
-next_step s at from to next h = go (test (ltb at (length s))) (test (ltb (piece_end newline s at) (length s)))
+next_step s at line h = go (test (ltb at (length s))) (test (ltb (piece_end newline s at) (length s)))
   where
     go : (ltb at (length s) ≡ true) ⊎ (ltb at (length s) ≡ false)
-        → (ltb (piece_end newline s at) (length s) ≡ true) ⊎ (ltb (piece_end newline s at) (length s) ≡ false) → Step s at from to next
-    go (inl y) (inl m) = same_step s at _ _ _ from to next (rw (y, m) at h) (step_more s at (ltb-true _ _ y) (ltb-true _ _ m))
-    go (inl y) (inr m) = same_step s at _ _ _ from to next (rw (y, m) at h) (step_last s at (ltb-true _ _ y) (ltb-false _ _ m))
-    go (inr z) m = absurd (not_line from to next (rw z at h))
+        → (ltb (piece_end newline s at) (length s) ≡ true) ⊎ (ltb (piece_end newline s at) (length s) ≡ false) → Step s at line
+    go (inl y) (inl m) = same_step s at _ line (rw (y, m) at h) (step_more s at (ltb-true _ _ y) (ltb-true _ _ m))
+    go (inl y) (inr m) = same_step s at _ line (rw (y, m) at h) (step_last s at (ltb-true _ _ y) (ltb-false _ _ m))
+    go (inr z) m = absurd (not_line line (rw z at h))
 
-pub next_over : (s : List ℕ) (at : ℕ) → next_line s at ≡ End → lines_from s at ≡ []
+pub next_over : (s : List ℕ) (at : ℕ) → next_line s at ≡ None → lines_from s at ≡ []
 unfolding next_line
 next_over s at h = go (test (ltb at (length s)))
   where
     go : (ltb at (length s) ≡ true) ⊎ (ltb at (length s) ≡ false) → lines_from s at ≡ []
-    go (inl y) = absurd (not_line _ _ _ (sym (rw y at h)))
+    go (inl y) = absurd (not_line _ (sym (rw y at h)))
     go (inr z) = lines_end s at (ltb-false _ _ z)
 
 -- ---- a loop over lines: n are passed, at most `limit` are read
 
 module _ (limit n : ℕ) (s : List ℕ) (at : ℕ) where
-  pub left_round : (from to next : ℕ) → n < limit → next_line s at ≡ Line from to next
-      → take (limit - n) (lines_from s at) ≡ line_bytes s from to ∷ take (limit - (n + 1)) (lines_from s next)
-  left_round from to next l e =
+  pub left_round : (line : Line) → n < limit → next_line s at ≡ Some line
+      → take (limit - n) (lines_from s at) ≡ line_bytes s line.from line.to ∷ take (limit - (n + 1)) (lines_from s line.next)
+  left_round line l e =
       let d : limit - n ≡ suc (limit - (n + 1)) = omega arith in
-      rw (d, (next_step s at from to next e).rest)
+      rw (d, (next_step s at line e).rest)
 
-  pub left_none : next_line s at ≡ End → take (limit - n) (lines_from s at) ≡ []
+  pub left_none : next_line s at ≡ None → take (limit - n) (lines_from s at) ≡ []
   left_none e = rw (next_over s at e) (take-nil (limit - n))
 
   pub left_end : limit ≤ n → take (limit - n) (lines_from s at) ≡ []

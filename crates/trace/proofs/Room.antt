@@ -1,11 +1,11 @@
 -- How long a listing can be: a buffer of 20,000 bytes holds each. Calls keep tables sound, so in the end an occupied block has
 -- at most 512 cells, along its chain or by its marks, and a free cell's row at most 8 bytes; a refused line's row has at most 7. Every other number is taken to
 -- have twenty digits. Assumes nothing.
+use Rattle.std.specs.Prelude.{Option, Some, None}
 use mathlib.Core.Path.{◌≡◌, refl, sym, ap, ◌∙◌}
 use mathlib.Core.Logic.{◌≢◌, inl, inr, ⊎_elim}
 use mathlib.Core.Bool.{Bool, true, false, not, ◌&&◌}
 use mathlib.Core.List.{List, [], ◌∷◌, ◌++◌, map, flatten, flat_map}
-use mathlib.Core.Option.{Option, some, none}
 use Prim.Native.Nat.{ℕ, zero, suc, ◌+◌, ◌-◌, ◌*◌, ◌/◌, ◌%◌, ◌^◌, ◌≤◌, ◌<◌}
 use native.Mathlib.Nat.{pow-suc, suc-mul, div-mul-le_self, div-le_of_le-mul}
 use native.Mathlib.Omega.{arith}
@@ -23,7 +23,7 @@ use Rattle.model.specs.Classes.{classes_fit}
 use Rattle.model.specs.Block.{cell_count, is_cell, cells_down, keeps, sweep_chain, chain_from, free_chain}
 use Rattle.model.specs.Global.{phase_marking, fresh_words, fresh_tables}
 use Rattle.model.specs.Sound.{state_of, bin_named, size_ok, sound_on}
-use Rattle.model.specs.Calls.{refusal_number, Call, step, Result, tables_in, call, set_up}
+use Rattle.model.specs.Calls.{refusal_number, Call, step, Returned, tables_in, call, set_up}
 use Rattle.model.specs.Census.{digits, decimal, spaced, section, RefusedLine, refused_row, up_to, occupied, block_row, awaits_sweep, printed_chain, free_rows, free_section, census_params, lines_of, Ran, run_lines, line_result, line_of, pieces, newline, space, drop_blank_end, census_lent, listing, census}
 use Rattle.laws.proofs.Base.{if_cases, and_right, in_append, in_filter}
 use Rattle.laws.proofs.Below.{true_not_false, and_three}
@@ -153,11 +153,11 @@ step_says t h c = go (sound_on census_params t h) refl
 -- each line, a bad one too
 line_says : (l : Lent) (o : Option Call) → (line_result l o).reply.number ≤ 12
 unfolding line_result call
-line_says l (some c) =
-    if_cases (λ (r : Result). r.reply.number ≤ 12) (fits census_params l)
-    (λ e. if_cases (λ (r : Result). r.reply.number ≤ 12) (classes_fit census_params) (λ k. step_says (tables_in l) l.heap c) (λ k. refusal_few BadClasses))
+line_says l (Some c) =
+    if_cases (λ (r : Returned). r.reply.number ≤ 12) (fits census_params l)
+    (λ e. if_cases (λ (r : Returned). r.reply.number ≤ 12) (classes_fit census_params) (λ k. step_says (tables_in l) l.heap c) (λ k. refusal_few BadClasses))
     (λ e. refusal_few BadSetup)
-line_says l none = refusal_few BadLine
+line_says l None = refusal_few BadLine
 
 -- the rows of the lines from number i on, whose numbers have at most 3 digits
 refused_few : (i : ℕ) (xs : List (List ℕ)) (l : Lent) → i + length xs ≤ 1000
@@ -165,7 +165,7 @@ refused_few : (i : ℕ) (xs : List (List ℕ)) (l : Lent) → i + length xs ≤ 
 unfolding run_lines flatten refused_row
 refused_few i [] l h = omega arith
 refused_few i (x ∷ xs) l h =
-    let r : Result = line_result l (line_of (pieces space x)) in
+    let r : Returned = line_result l (line_of (pieces space x)) in
     let n : ℕ = r.reply.number in
     let next : List ℕ = flatten (map refused_row (run_lines (i + 1) xs r.lent).refusals) in
     let more : length next ≤ 7 * length xs = refused_few (i + 1) xs r.lent (omega arith) in
@@ -191,19 +191,19 @@ lent_sound t K = rw (view_flat census_params.blocks t.words K.sized) K
 set_up_sound : Sound (set_up census_params census_lent).lent
 unfolding set_up census_lent fresh_tables fresh_words heap_bytes census_params
 set_up_sound =
-    if_cases (λ (r : Result). Sound r.lent) (fits census_params census_lent)
-    (λ e. if_cases (λ (r : Result). Sound r.lent) (classes_fit census_params) (λ k. lent_sound _ (fresh_kept census_params B)) (λ k. fresh_kept census_params B))
+    if_cases (λ (r : Returned). Sound r.lent) (fits census_params census_lent)
+    (λ e. if_cases (λ (r : Returned). Sound r.lent) (classes_fit census_params) (λ k. lent_sound _ (fresh_kept census_params B)) (λ k. fresh_kept census_params B))
     (λ e. fresh_kept census_params B)
 
 -- after a line. Where the lengths do not fit, nothing is changed
 line_sound : (l : Lent) (o : Option Call) → Sound l → Sound (line_result l o).lent
 unfolding line_result call
-line_sound l (some c) K =
-    if_cases (λ (r : Result). Sound r.lent) (fits census_params l)
-    (λ e. if_cases (λ (r : Result). Sound r.lent) (classes_fit census_params)
+line_sound l (Some c) K =
+    if_cases (λ (r : Returned). Sound r.lent) (fits census_params l)
+    (λ e. if_cases (λ (r : Returned). Sound r.lent) (classes_fit census_params)
     (λ k. lent_sound _ (step_kept census_params B k (tables_in l) l.heap c (fits_parts census_params l e).1 K)) (λ k. K))
     (λ e. K)
-line_sound l none K = K
+line_sound l None K = K
 
 -- after all lines
 lines_sound : (i : ℕ) (xs : List (List ℕ)) (l : Lent) → Sound l → Sound (run_lines i xs l).lent

@@ -1,79 +1,78 @@
--- Where the words of a line begin. Assumes nothing.
-use mathlib.Core.Path.{◌≡◌, refl, sym, ap, ◌∙◌}
+-- The words of a line: pieces by what is left of the line. Assumes nothing.
+use mathlib.Core.Path.{◌≡◌, refl, sym}
+use mathlib.Core.Bool.{Bool, true, false}
 use mathlib.Core.List.{List, [], ◌∷◌}
 use Prim.Native.Nat.{ℕ, zero, suc, ◌+◌, ◌-◌, ◌≤◌, ◌<◌}
 use native.Mathlib.Nat.{not-suc-le-zero}
+use native.Mathlib.Numerals.{add-one}
 use native.Mathlib.Omega.{arith}
-use lib.ListN.{length, get_or, drop, drop_of_length-le}
-use lib.Seq.{take-nil}
-use Rattle.model.specs.Census.{pieces}
-use Rattle.model.specs.Text.{piece_end}
-use Rattle.laws.proofs.Text.{end_between, pieces_at, piece_more, piece_last, more_pieces, more_step, more_end}
-use Rattle.trace.specs.Words.{WordStart}
+use lib.Dec.{eqb, ltb}
+use lib.ListN.{length, get_or, take, drop}
+use borrow.Author.Tests.{lt-ltb, le-ltb, ltb-false}
+use Rattle.std.specs.Prelude.{if◌then◌else◌, ◌==◌, cond, unwrap_or, position, count_by}
+use Rattle.std.specs.List.{position_or_len}
+use Rattle.std.proofs.lemmas.List.Recursion.{is_position_or_len, is_count_by}
+use Rattle.model.specs.Census.{before, pieces}
+use Rattle.model.specs.Text.{until}
+use mathlib.Core.Logic.{◌⊎◌, inl, inr}
+use Rattle.laws.proofs.Below.{test}
+use Rattle.laws.proofs.Text.{behind, pieces_step, until_le}
 
--- the search: the words from a place on, of which `left` are passed over
-pub record Seeking (s : List ℕ) (k left at : ℕ) : Type 0 where
-  pub inside : at ≤ length s
-  pub same : get_or (pieces 32 (drop at s)) left [] ≡ get_or (pieces 32 s) k []
+-- how many bytes stand before the first separator, by the library's words
+first_or_end : (sep : ℕ) (xs : List ℕ) → until sep xs ≡ position_or_len (λ x. x == sep) xs
+unfolding until
+first_or_end sep xs = is_position_or_len (until sep) (λ x. x == sep) refl (λ x ys. go (eqb x sep) (until sep ys)) xs
+  where
+    go : (b : Bool) (n : ℕ) → (if b then 0 else suc n) ≡ cond b 0 (1 + n)
+    go true n = refl
+    go false n = omega arith
 
-pub seek_start : (s : List ℕ) (k : ℕ) → Seeking s k k 0
-seek_start s k = record { inside = omega arith; same = refl }
+pub until_first : (sep : ℕ) (xs : List ℕ) → unwrap_or (position (λ x. x == sep) xs) (length xs) ≡ until sep xs
+until_first sep xs = go (test (ltb (position_or_len (λ x. x == sep) xs) (length xs)))
+  where
+    go : (ltb (position_or_len (λ x. x == sep) xs) (length xs) ≡ true) ⊎ (ltb (position_or_len (λ x. x == sep) xs) (length xs) ≡ false)
+        → unwrap_or (position (λ x. x == sep) xs) (length xs) ≡ until sep xs
+    go (inl y) = rw y (sym (first_or_end sep xs))
+    go (inr z) = rw z (omega (arith, ltb-false _ _ z, first_or_end sep xs, until_le sep xs))
 
-past_one : (x : List ℕ) (k : ℕ) → 0 < k → get_or (x ∷ []) k [] ≡ []
-past_one x zero l = absurd (not-suc-le-zero l)
-past_one x (suc k) l = refl
+-- ---- the words of what is left
 
-past_first : (x : List ℕ) (xs : List (List ℕ)) (k : ℕ) → 0 < k → get_or xs (k - 1) [] ≡ get_or (x ∷ xs) k []
-past_first x xs zero l = absurd (not-suc-le-zero l)
-past_first x xs (suc k) l = let d : suc k - 1 ≡ k = omega arith in rw d
+module _ (rest : List ℕ) where
+  pub word_here : take (until 32 rest) rest ≡ get_or (pieces 32 rest) 0 []
+  word_here = rw pieces_step
 
-module _ (s : List ℕ) (k left at : ℕ) (i : Seeking s k left at) where
-  pub seek_none : (e : ℕ) → e ≡ piece_end 32 s at → 0 < left → length s ≤ e → WordStart s k (length s)
-  seek_none e q l m =
-      record {
-        inside = omega arith;
-        word = rw (drop_of_length-le s {i = length s} (omega arith), take-nil)
-            (sym (past_one _ left l) ∙ rw (piece_last 32 s at i.inside (omega arith)) at i.same);
-      }
+  pub word_none : (k : ℕ) → 0 < k → length rest ≤ until 32 rest → [] ≡ get_or (pieces 32 rest) k []
+  unfolding behind
+  word_none zero l m = absurd (not-suc-le-zero l)
+  word_none (suc k) l m = rw (pieces_step, le-ltb (until 32 rest) (length rest) m)
 
-  pub seek_round : (e : ℕ) → e ≡ piece_end 32 s at → 0 < left → e < length s → Seeking s k (left - 1) (e + 1)
-  seek_round e q l m =
-      record {
-        inside = omega arith;
-        same = rw q
-            (past_first _ (pieces 32 (drop (piece_end 32 s at + 1) s)) left l
-            ∙ rw (piece_more 32 s at i.inside (omega arith)) at i.same);
-      }
+  pub word_next : (k : ℕ) → 0 < k → until 32 rest < length rest
+      → get_or (pieces 32 (drop (until 32 rest + 1) rest)) (k - 1) [] ≡ get_or (pieces 32 rest) k []
+  unfolding behind
+  word_next zero l m = absurd (not-suc-le-zero l)
+  word_next (suc k) l m =
+      let d : suc k - 1 ≡ k = omega arith in
+      let e : pieces 32 rest ≡ take (until 32 rest) rest ∷ pieces 32 (drop (suc (until 32 rest)) rest) = rw (pieces_step 32 rest, lt-ltb (until 32 rest) (length rest) m) in
+      rw (d, e, add-one (until 32 rest))
 
-  pub seek_end : left ≤ 0 → WordStart s k at
-  seek_end l =
-      let z : left ≡ 0 = omega arith in
-      record { inside = i.inside; word = ap (λ (ws : List (List ℕ)). get_or ws 0 []) (sym (pieces_at 32 s at i.inside)) ∙ rw z at i.same }
+-- ---- how many there are
 
--- ---- counting: n words were counted, the last of which ends at a place
+some_pieces : (sep : ℕ) (xs : List ℕ) → 0 < length (pieces sep xs)
+some_pieces sep xs = rw pieces_step (omega arith)
 
-pub record Counting (s : List ℕ) (n at : ℕ) : Type 0 where
-  pub small : n ≤ at + 1
-  pub inside : at ≤ length s
-  pub whole : n + length (more_pieces 32 s at) ≡ length (pieces 32 s)
+length_before : (byte sep : ℕ) (bytes : List ℕ) → length (before byte (pieces sep bytes)) ≡ length (pieces sep bytes)
+unfolding before
+length_before byte sep bytes = rw pieces_step
 
-pub count_start : (s : List ℕ) (e : ℕ) → e ≡ piece_end 32 s 0 → Counting s 1 e
-count_start s e q =
-    record {
-      small = omega arith;
-      inside = (end_between 32 s 0 e q (omega arith)).1;
-      whole = rw q (omega (arith, ap length (pieces_at 32 s 0 (omega arith))));
-    }
+-- those behind the first
+behind_first : (sep : ℕ) (xs : List ℕ) → length (pieces sep xs) - 1 ≡ count_by (λ x. x == sep) xs
+unfolding pieces
+behind_first sep xs = is_count_by (λ ys. length (pieces sep ys) - 1) (λ x. x == sep) refl (λ x ys. go x ys (eqb x sep)) xs
+  where
+    go : (x : ℕ) (ys : List ℕ) (b : Bool) → length (if b then ([] ∷ pieces sep ys) else before x (pieces sep ys)) - 1
+        ≡ cond b (1 + (length (pieces sep ys) - 1)) (length (pieces sep ys) - 1)
+    go x ys true = omega (arith, some_pieces sep ys)
+    go x ys false = omega (arith, length_before x sep ys)
 
-module _ (s : List ℕ) (n at : ℕ) (i : Counting s n at) where
-  pub count_round : (e : ℕ) → e ≡ piece_end 32 s (at + 1) → at < length s → Counting s (n + 1) e
-  count_round e q l =
-      let b : (at + 1 ≤ e) × (e ≤ length s) = end_between 32 s (at + 1) e q (omega arith) in
-      record {
-        small = omega (arith, i.small);
-        inside = b.1;
-        whole = rw q (omega (arith, more_step 32 s at l, i.whole));
-      }
-
-  pub count_end : length s ≤ at → n ≡ length (pieces 32 s)
-  count_end l = omega (arith, more_end 32 s at l, i.whole)
+pub count_pieces : (sep : ℕ) (xs : List ℕ) → 1 + count_by (λ x. x == sep) xs ≡ length (pieces sep xs)
+count_pieces sep xs = omega (arith, behind_first sep xs, some_pieces sep xs)

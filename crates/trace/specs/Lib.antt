@@ -1,5 +1,4 @@
 pub mod Number
-pub mod Words
 pub mod Line
 pub mod Lines
 pub mod Run

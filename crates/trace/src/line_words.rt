@@ -1,65 +1,61 @@
 // The words of a line: what stands before, between and behind single spaces.
-ghost use Rattle.std.specs.Prelude.{◌≡◌, [], length, get_or};
+ghost use Rattle.std.specs.Prelude.{◌≡◌, ◌==◌, [], length, get_or, drop, position};
 ghost use Rattle.model.specs.Census.{pieces, space};
-ghost use Rattle.model.specs.Text.{piece_end};
-ghost use Rattle.trace.specs.Words.{WordStart};
+ghost use Rattle.model.specs.Text.{until, piece_end};
 ghost use Rattle.trace.specs.Line.{letter_of};
+
+fn first(s: &[u8], sep: u8) -> Option<usize>
+    ensures { result ≡ position (λ x. x == sep) s.now }
+{
+    s.iter().position(|b| *b == sep)
+}
+
+// How many bytes stand before the first separator, or before the end.
+fn until(s: &[u8], sep: u8) -> usize
+    ensures { result ≡ until sep s.now }
+{
+    first(s, sep).unwrap_or(s.len())
+}
+
+// What stands from a place on.
+fn from(s: &[u8], at: usize) -> &[u8]
+    ensures { result.now ≡ drop at s.now }
+{
+    &s[at.min(s.len())..]
+}
 
 // Where the piece that begins at `at` ends: at the next separator, or with the bytes.
 pub(crate) fn piece_end(s: &[u8], sep: u8, at: usize) -> usize
     ensures { result ≡ piece_end sep s.now at }
 {
-    let mut i = at;
-    while i < s.len() {
-        if s[i] == sep {
-            return i;
-        }
-        i = i + 1;
-    }
-    i
+    at + until(from(s, at), sep)
 }
 
 pub(crate) fn count(s: &[u8]) -> usize
     ensures { result ≡ length (pieces space s.now) }
 {
-    let mut n: usize = 1;
-    let mut at = piece_end(s, 32, 0);
-    while at < s.len() {
-        n = n + 1;
-        at = piece_end(s, 32, at + 1);
-    }
-    n
-}
-
-// Where the word k begins; past the last, the end.
-fn start(s: &[u8], k: usize) -> usize
-    ensures { WordStart s.now k result }
-{
-    let mut left = k;
-    let mut at: usize = 0;
-    while 0 < left {
-        let e = piece_end(s, 32, at);
-        if s.len() <= e {
-            return s.len();
-        }
-        at = e + 1;
-        left = left - 1;
-    }
-    at
+    1 + s.iter().filter(|b| **b == b' ').count()
 }
 
 // The word k; blank if there are fewer.
 pub(crate) fn word(s: &[u8], k: usize) -> &[u8]
     ensures { result.now ≡ get_or (pieces space s.now) k [] }
 {
-    let a = start(s, k);
-    let e = piece_end(s, 32, a);
-    &s[a..e]
+    let mut rest = s;
+    for _ in 0..k {
+        let e = until(rest, b' ');
+        if e == rest.len() {
+            return &[];
+        }
+        rest = from(rest, e + 1);
+    }
+    &rest[..until(rest, b' ')]
 }
 
-// The one letter of a word; 0 if it has another length.
-pub(crate) fn letter(w: &[u8]) -> u8
+// The letter that a word is; none if it has another length.
+#[tactic(auto, unfolding(crate::specs::Line::letter_of))]
+pub(crate) fn letter(w: &[u8]) -> Option<u8>
     ensures { result ≡ letter_of w.now }
 {
-    if w.len() == 1 { w[0] } else { 0 }
+    if w.len() == 1 { Some(w[0]) } else { None }
 }

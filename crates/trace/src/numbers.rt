@@ -2,57 +2,40 @@
 ghost use Rattle.std.specs.Prelude.{◌≡◌};
 ghost use Rattle.trace.specs.Number.{push_digit, read_from, number_of};
 
-use crate::Number;
-use words::bytes;
-
-// v with the digit c behind it. The tests come before the product and the sum, so that neither wraps.
-fn push_digit(v: usize, c: u8) -> Number
+// v with the digit c behind it.
+fn push_digit(v: usize, c: u8) -> Option<usize>
     ensures { result ≡ push_digit v c }
 {
-    if c < 48 {
-        return Number::None;
+    if !c.is_ascii_digit() {
+        return None;
     }
-    if 57 < c {
-        return Number::None;
-    }
-    if 1844674407370955161 < v {
-        return Number::None;
-    }
-    let d = bytes::wide(c) - 48;
-    let t = 10 * v;
-    if 18446744073709551615 - t < d {
-        return Number::None;
-    }
-    Number::Value(t + d)
+    let t = v.checked_mul(10)?;
+    t.checked_add(usize::from(c - b'0'))
 }
 
-fn read(s: &[u8]) -> Number
+fn read(s: &[u8]) -> Option<usize>
     ensures { result ≡ read_from 0 s.now }
 {
     let mut v: usize = 0;
-    let mut i: usize = 0;
-    while i < s.len() {
-        let Number::Value(n) = push_digit(v, s[i]) else {
-            return Number::None;
-        };
-        v = n;
-        i = i + 1;
+    for c in s {
+        v = push_digit(v, *c)?;
     }
-    Number::Value(v)
+    Some(v)
 }
 
-pub(crate) fn parse(s: &[u8]) -> Number
+#[tactic(auto, using(crate::proofs::NumberLaws::number_blank, crate::proofs::NumberLaws::number_zero, crate::proofs::NumberLaws::number_read))]
+pub(crate) fn parse(s: &[u8]) -> Option<usize>
     ensures { result ≡ number_of s.now }
 {
     let n = s.len();
     if n == 0 {
-        return Number::None;
+        return None;
     }
     if n == 1 {
         return read(s);
     }
-    if s[0] == 48 {
-        return Number::None;
+    if s[0] == b'0' {
+        return None;
     }
     read(s)
 }

@@ -1,56 +1,36 @@
-// Words of 8 bytes, low byte first, and zeros, in a slice of bytes.
+// Words of 8 bytes, low byte first, and zeros, in a slice of bytes: first at places that are known to be there, then at any place.
 ghost use Rattle.std.specs.Prelude.{◌≡◌, ◌+◌, ◌≤◌, length, replicate};
 ghost use Rattle.model.specs.Memory.{load_bytes, bytes_of, overwrite};
 
-pub fn wide(x: u8) -> usize
-    ensures { result ≡ x }
-{
-    x as usize
-}
-
 // The number that n bytes from i on make.
-fn read(h: &[u8], i: usize, n: usize) -> usize
+pub fn read(h: &[u8], i: usize, n: usize) -> usize
     requires { (i + n ≤ length h.now) × (n ≤ 8) }
     ensures { result ≡ load_bytes n h.now i }
 {
-    let mut more = n;
     let mut value: usize = 0;
-    while 0 < more {
-        more = more - 1;
-        value = value * 256 + wide(h[i + more]);
+    for more in (0..n).rev() {
+        value = value * 256 + usize::from(h[i + more]);
     }
     value
 }
 
 // The n low bytes of v, from i on.
-fn write(h: &mut [u8], i: usize, v: usize, n: usize)
-    requires { i + n ≤ length h.old }
+pub fn write(h: &mut [u8], i: usize, v: usize, n: usize)
+    requires { (i + n ≤ length h.old) × (n ≤ 8) }
     ensures { h.new ≡ overwrite i (bytes_of n v) h.old }
 {
-    let mut more = n;
-    let mut at = i;
-    let mut rest = v;
-    while 0 < more {
-        h[at] = (rest % 256) as u8;
-        rest = rest / 256;
-        at = at + 1;
-        more = more - 1;
-    }
+    h[i..i + n].copy_from_slice(&v.to_le_bytes()[..n]);
 }
 
-fn fill(h: &mut [u8], i: usize, n: usize)
+// Makes the n bytes from i on 0.
+pub fn fill(h: &mut [u8], i: usize, n: usize)
     requires { i + n ≤ length h.old }
     ensures { h.new ≡ overwrite i (replicate n 0) h.old }
 {
-    let mut more = n;
-    let mut at = i;
-    while 0 < more {
-        h[at] = 0;
-        at = at + 1;
-        more = more - 1;
-    }
+    h[i..i + n].fill(0);
 }
 
+// A whole word is read by a count that the compiler knows, so that it is one load.
 pub fn load_word(h: &[u8], i: usize) -> usize
     ensures { result ≡ load_bytes 8 h.now i }
 {
@@ -65,6 +45,7 @@ pub fn load_word(h: &[u8], i: usize) -> usize
     read(h, i, left)
 }
 
+// A whole word is written so too.
 pub fn store_word(h: &mut [u8], i: usize, v: usize)
     ensures { h.new ≡ overwrite i (bytes_of 8 v) h.old }
 {
@@ -84,13 +65,7 @@ pub fn zero(h: &mut [u8], i: usize, n: usize)
     ensures { h.new ≡ overwrite i (replicate n 0) h.old }
 {
     let len = h.len();
-    if len <= i {
-        return;
+    if i < len {
+        fill(h, i, n.min(len - i));
     }
-    let left = len - i;
-    if n <= left {
-        fill(h, i, n);
-        return;
-    }
-    fill(h, i, left);
 }

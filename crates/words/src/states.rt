@@ -4,7 +4,7 @@ ghost use Rattle.std.specs.Prelude.{◌≡◌, get_or, set};
 pub fn state(st: &[u8], i: usize) -> u8
     ensures { result ≡ get_or st.now i 0 }
 {
-    if i < st.len() { st[i] } else { 0 }
+    st.get(i).copied().unwrap_or(0)
 }
 
 pub fn set_state(st: &mut [u8], i: usize, v: u8)

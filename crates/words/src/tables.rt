@@ -1,5 +1,7 @@
 // The table words: all tables in one slice, in the order of `view`. Each access tests its index; past the end of a table
 // there is a 0, and nothing is written.
+#![tactic(auto, unfolding(model::specs::Tables::view, model::specs::Tables::put_first, model::specs::Tables::put_last, model::specs::Tables::put_phase, model::specs::Tables::put_bound, model::specs::Tables::put_released, model::specs::Tables::put_next, model::specs::Tables::put_prev, model::specs::Tables::put_free, model::specs::Tables::put_size, model::specs::Tables::put_list, model::specs::Tables::put_tls, model::specs::Tables::put_cells))]
+
 ghost use Rattle.std.specs.Prelude.{◌≡◌, ◌+◌, ◌*◌, ◌<◌, get_or};
 ghost use Rattle.model.specs.Params.{block_tables};
 ghost use Rattle.model.specs.Tables.{view, part, blocks_in, block_table, put_in, put_block_word, put_first, put_last, put_phase, put_bound, put_released, put_next, put_prev, put_free, put_size, put_list, put_tls, put_cells};
@@ -8,27 +10,34 @@ use model::{
     BLOCK_TABLES, BOUND_WORDS, HEAD_WORDS, HOLDERS, LISTS, PARTS, PHASE_WORD, RELEASED_WORDS,
 };
 
+// The numbers of the block tables, in the order of `view`.
+pub const NEXT: usize = 0;
+
+pub const PREV: usize = 1;
+
+pub const FREE: usize = 2;
+
+pub const SIZE: usize = 3;
+
+pub const LIST: usize = 4;
+
+pub const TLS: usize = 5;
+
+pub const CELLS: usize = 6;
+
 // How many blocks the words are for.
 pub fn blocks(w: &[usize]) -> usize
     ensures { result ≡ blocks_in w.now }
 {
-    if w.len() < HEAD_WORDS {
-        0
-    } else {
-        (w.len() - HEAD_WORDS) / BLOCK_TABLES
-    }
+    w.len().saturating_sub(HEAD_WORDS) / BLOCK_TABLES
 }
 
 // The word i of `count` words from the word `from` on.
 fn word(w: &[usize], from: usize, count: usize, i: usize) -> usize
     ensures { result ≡ get_or (part from count w.now) i 0 }
 {
-    if i < count {
-        if from < w.len() {
-            if i < w.len() - from {
-                return w[from + i];
-            }
-        }
+    if i < count && from < w.len() && i < w.len() - from {
+        return w[from + i];
     }
     0
 }
@@ -36,12 +45,8 @@ fn word(w: &[usize], from: usize, count: usize, i: usize) -> usize
 fn put(w: &mut [usize], from: usize, count: usize, i: usize, v: usize)
     ensures { w.new ≡ put_in from count i v w.old }
 {
-    if i < count {
-        if from < w.len() {
-            if i < w.len() - from {
-                w[from + i] = v;
-            }
-        }
+    if i < count && from < w.len() && i < w.len() - from {
+        w[from + i] = v;
     }
 }
 
@@ -62,6 +67,9 @@ fn put_block_word(w: &mut [usize], table: usize, i: usize, v: usize)
     put(w, HEAD_WORDS + table * blocks_in, blocks_in, i, v);
 }
 
+// A function for each table: a parameter that names the table would be no plainer, since each contract cites its table's own
+// definition (`tables::next(w, i)` beside `tables::word(w, Table::Next, i)`).
+//
 // 0 Running, 1 Marking, 2 Releasing.
 pub fn phase(w: &[usize]) -> usize
     ensures { result ≡ (view w.now).phase }
@@ -131,89 +139,89 @@ pub fn set_released(w: &mut [usize], i: usize, v: usize)
 pub fn next(w: &[usize], i: usize) -> usize
     ensures { result ≡ get_or (view w.now).next i 0 }
 {
-    block_word(w, 0, i)
+    block_word(w, NEXT, i)
 }
 
 pub fn set_next(w: &mut [usize], i: usize, v: usize)
     ensures { w.new ≡ put_next i v w.old }
 {
-    put_block_word(w, 0, i, v);
+    put_block_word(w, NEXT, i, v);
 }
 
 // The previous on its list.
 pub fn prev(w: &[usize], i: usize) -> usize
     ensures { result ≡ get_or (view w.now).prev i 0 }
 {
-    block_word(w, 1, i)
+    block_word(w, PREV, i)
 }
 
 pub fn set_prev(w: &mut [usize], i: usize, v: usize)
     ensures { w.new ≡ put_prev i v w.old }
 {
-    put_block_word(w, 1, i, v);
+    put_block_word(w, PREV, i, v);
 }
 
 // The head of its free chain.
 pub fn free(w: &[usize], i: usize) -> usize
     ensures { result ≡ get_or (view w.now).free i 0 }
 {
-    block_word(w, 2, i)
+    block_word(w, FREE, i)
 }
 
 pub fn set_free(w: &mut [usize], i: usize, v: usize)
     ensures { w.new ≡ put_free i v w.old }
 {
-    put_block_word(w, 2, i, v);
+    put_block_word(w, FREE, i, v);
 }
 
 // Its cell size.
 pub fn size(w: &[usize], i: usize) -> usize
     ensures { result ≡ get_or (view w.now).size i 0 }
 {
-    block_word(w, 3, i)
+    block_word(w, SIZE, i)
 }
 
 pub fn set_size(w: &mut [usize], i: usize, v: usize)
     ensures { w.new ≡ put_size i v w.old }
 {
-    put_block_word(w, 3, i, v);
+    put_block_word(w, SIZE, i, v);
 }
 
 // The word that names its list.
 pub fn list(w: &[usize], i: usize) -> usize
     ensures { result ≡ get_or (view w.now).list i 0 }
 {
-    block_word(w, 4, i)
+    block_word(w, LIST, i)
 }
 
 pub fn set_list(w: &mut [usize], i: usize, v: usize)
     ensures { w.new ≡ put_list i v w.old }
 {
-    put_block_word(w, 4, i, v);
+    put_block_word(w, LIST, i, v);
 }
 
 // Its holder.
 pub fn tls(w: &[usize], i: usize) -> usize
     ensures { result ≡ get_or (view w.now).tls i 0 }
 {
-    block_word(w, 5, i)
+    block_word(w, TLS, i)
 }
 
 pub fn set_tls(w: &mut [usize], i: usize, v: usize)
     ensures { w.new ≡ put_tls i v w.old }
 {
-    put_block_word(w, 5, i, v);
+    put_block_word(w, TLS, i, v);
 }
 
 // Its free count.
 pub fn cells(w: &[usize], i: usize) -> usize
     ensures { result ≡ get_or (view w.now).cells i 0 }
 {
-    block_word(w, 6, i)
+    block_word(w, CELLS, i)
 }
 
 pub fn set_cells(w: &mut [usize], i: usize, v: usize)
     ensures { w.new ≡ put_cells i v w.old }
 {
-    put_block_word(w, 6, i, v);
+    put_block_word(w, CELLS, i, v);
 }

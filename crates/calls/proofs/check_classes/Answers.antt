@@ -4,4 +4,4 @@ use Rattle.model.specs.Answers.{said_of}
 use Rattle.calls.proofs.check_classes.Goals as goal
 
 pub returns : goal.returns
-returns c = c.classes_said.ensures ∙ ap said_of c.check_classes.ensures
+returns c = c.from.ensures ∙ ap said_of c.check_classes.ensures

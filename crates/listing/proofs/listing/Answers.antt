@@ -1,8 +1,8 @@
--- src/lib.rt:29:9
-use Rattle.listing.proofs.SectionsLaws.{three_printed}
+-- `listing` meets its contract: the three sections, one behind the other, and the buffer handed back.
+use mathlib.Core.Path.{refl}
+use borrow.Author.Rules.{rules}
+use Rattle.listing.proofs.SectionsLaws.{three_put}
 use Rattle.listing.proofs.listing.Goals as goal
 
--- src/lib.rt:19:1
-
 pub returns : goal.returns
-returns c = three_printed _ _ _ _ _ _ c.refused_section-refused.ensures c.blocks_section-blocks.ensures c.free_section.ensures
+returns c = three_put _ _ _ _ _ refl c.refused_section.ensures c.blocks_section.ensures c.free_section.ensures (search rules)

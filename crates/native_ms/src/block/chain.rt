@@ -1,12 +1,15 @@
 // The loops that link a block's free cells, by heap offset: that the cells lie in the heap is known before.
-ghost use Rattle.std.specs.Prelude.{◌≡◌, Bool, false, ℕ, ◌+◌, ◌-◌, ◌*◌, ◌/◌, ◌%◌, ◌^◌, ◌≤◌, ◌<◌, length};
+ghost use Rattle.std.specs.Prelude.{◌≡◌, Bool, false, ℕ, ◌+◌, ◌-◌, ◌*◌, ◌/◌, ◌%◌, ◌^◌, ◌≤◌, ◌<◌, true, length, get_or};
 ghost use Rattle.model.specs.Block.{cells_down};
+ghost use Rattle.native_ms.specs.Bits.{any_bit, Run};
+ghost use Rattle.model.specs.Params.{good_params};
+ghost use Rattle.model.specs.Memory.{bit_of};
 ghost use Rattle.native_ms.specs.Block.{kept_by, Linked};
-ghost use Rattle.native_ms.specs.Places.{Places, Inside, ByBits, Extends, Reach};
+ghost use Rattle.native_ms.specs.Places.{Places, Inside, ByBits, Extends, Reach, Asked, Tells};
 
 use crate::block::marks;
-use crate::memory;
-use model::{Address, Params};
+use model::{Address, Block, Params};
+use words::{bytes, marks as bits};
 
 // Cells one behind the other, from the heap offset `at` on.
 #[derive(Clone, Copy)]
@@ -23,17 +26,65 @@ pub(crate) struct Chain {
     pub count: usize,
 }
 
-// The cells of the span behind its first ones.
-fn behind(span: Span, skipped: usize) -> Span
-    requires { (skipped ≤ span.count) × (span.at + skipped * span.size < 2 ^ 64) }
-    ensures { (result.at ≡ span.at + skipped * span.size) × (result.size ≡ span.size) × (result.count ≡ span.count - skipped) }
+impl Span {
+    // All whole cells of the block.
+    pub(crate) fn of_block(p: Params, b: Block, size: usize) -> Span
+        requires { (good_params p ≡ true) × (b.0 < p.blocks) × (0 < size) }
+        ensures { (result.at ≡ b.0 * p.bytes) × (result.size ≡ size) × (result.count ≡ p.bytes / size) }
+    {
+        Span {
+            at: b.0 * p.bytes,
+            size,
+            count: p.bytes / size,
+        }
+    }
+
+    // The cells behind the first ones.
+    fn behind(self, skipped: usize) -> Span
+        requires { (skipped ≤ self.count) × (self.at + skipped * self.size < 2 ^ 64) }
+        ensures { (result.at ≡ self.at + skipped * self.size) × (result.size ≡ self.size) × (result.count ≡ self.count - skipped) }
+    {
+        Span {
+            at: self.at + skipped * self.size,
+            count: self.count - skipped,
+            ..self
+        }
+    }
+}
+
+// Links those of the cells that `kept` doesn't keep, each to the one below it; it is asked by a cell's offset and by its first mark
+// bit: `first` for the first cell, and so on, a bit for each word. The chain goes on from `head`.
+// Both are counted up: reckoned from the cell's number, a turn takes up to a quarter more instructions.
+fn link_unkept<K: Fn(usize, usize) -> bool>(
+    p: Params,
+    heap: &mut [u8],
+    span: Span,
+    first: usize,
+    head: usize,
+    kept: K,
+) -> Chain
+    requires cells { Places p (length heap.old) span.at span.size span.count }
+    requires bits { 8 * first + span.count * span.size ≤ length heap.old }
+    requires asked { Asked (K.pre kept) span.size span.at span.count first }
+    ensures { (keeps : ℕ → Bool) → Tells p (K.post kept) keeps span.size span.at span.count first → Extends p keeps span.size span.at span.count head heap.old result.head result.count heap.new }
 {
-    let at = span.at + skipped * span.size;
-    let count = span.count - skipped;
-    Span {
-        at,
-        size: span.size,
-        count,
+    let words = span.size / 8;
+    let mut offset = span.at;
+    let mut bit = first;
+    let mut last = head;
+    let mut linked: usize = 0;
+    for _ in 0..span.count {
+        if !kept(offset, bit) {
+            bytes::write(heap, offset, last, 8);
+            last = p.base + offset;
+            linked += 1;
+        }
+        offset += span.size;
+        bit += words;
+    }
+    Chain {
+        head: last,
+        count: linked,
     }
 }
 
@@ -42,22 +93,20 @@ pub(crate) fn link_cells(p: Params, heap: &mut [u8], span: Span) -> usize
     requires { Places p (length heap.old) span.at span.size span.count }
     ensures { Linked p (cells_down (λ a. false) (p.base + span.at) span.size span.count) heap.old result heap.new }
 {
-    let size = span.size;
-    let count = span.count;
-    let mut seen: usize = 0;
-    let mut offset = span.at;
-    let mut last: usize = 0;
-    while seen < count {
-        memory::put_word(heap, offset, last);
-        last = p.base + offset;
-        offset = offset + size;
-        seen = seen + 1;
-    }
-    last
+    let chain = link_unkept(
+        p,
+        heap,
+        span,
+        0,
+        0,
+        |_, _|
+            ensures { result ≡ false }
+        { false },
+    );
+    chain.head
 }
 
-// Links those of the cells whose mark bit is clear: the bit `first` for the first cell, and so on, a bit for each word. The chain
-// goes on from `head`. The mark is tested last in a turn, so that the turn's two ends never meet.
+// Links those of the cells whose first mark bit is clear.
 pub(crate) fn link_by_bit(
     p: Params,
     marks: &[u8],
@@ -69,35 +118,22 @@ pub(crate) fn link_by_bit(
     requires { Inside p (length marks.now) (length heap.old) span.at span.size span.count first }
     ensures { (kept : ℕ → Bool) → ByBits p marks.now kept span.size span.at (span.at + span.count * span.size) first 1 → Extends p kept span.size span.at span.count head heap.old result.head result.count heap.new }
 {
-    let size = span.size;
-    let count = span.count;
-    let words = size / 8;
-    let mut seen: usize = 0;
-    let mut linked: usize = 0;
-    let mut next = span.at;
-    let mut bit = first;
-    let mut last = head;
-    while seen < count {
-        let offset = next;
-        let here = bit;
-        next = next + size;
-        bit = bit + words;
-        seen = seen + 1;
-        let kept = memory::bit(marks, here);
-        if !kept {
-            memory::put_word(heap, offset, last);
-            last = p.base + offset;
-            linked = linked + 1;
-        }
-    }
-    Chain {
-        head: last,
-        count: linked,
-    }
+    link_unkept(
+        p,
+        heap,
+        span,
+        first,
+        head,
+        |_, bit|
+            requires { bit / 8 < length marks.now }
+            ensures { result ≡ bit_of (get_or marks.entry.now (bit / 8) 0) (bit % 8) }
+        { bits::bit(marks, bit) },
+    )
 }
 
-// The same where each word of a cell has a bit, and one that is set keeps it; of cells of at most eight words.
-pub(crate) fn link_few(
+// The same where each word of a cell has a bit, and one that is set keeps it; of cells of eight words, whose bits are those of one
+// byte or lie across two, each time in the same way: what is shifted out is known before the loop.
+fn link_eight(
     p: Params,
     marks: &[u8],
     heap: &mut [u8],
@@ -105,150 +141,34 @@ pub(crate) fn link_few(
     first: usize,
     head: usize,
 ) -> Chain
-    requires { (Inside p (length marks.now) (length heap.old) span.at span.size span.count first) × (span.size ≤ 64) }
+    requires { (Inside p (length marks.now) (length heap.old) span.at span.size span.count first) × (span.size ≡ 64) }
     ensures { (kept : ℕ → Bool) → ByBits p marks.now kept span.size span.at (span.at + span.count * span.size) first (span.size / 8) → Extends p kept span.size span.at span.count head heap.old result.head result.count heap.new }
 {
-    let size = span.size;
-    let count = span.count;
-    let words = size / 8;
-    let mut seen: usize = 0;
-    let mut linked: usize = 0;
-    let mut next = span.at;
-    let mut bit = first;
-    let mut last = head;
-    while seen < count {
-        let offset = next;
-        let here = bit;
-        next = next + size;
-        bit = bit + words;
-        seen = seen + 1;
-        let kept = marks::any_few(marks, here, words);
-        if !kept {
-            memory::put_word(heap, offset, last);
-            last = p.base + offset;
-            linked = linked + 1;
-        }
+    if first % 8 == 0 {
+        return link_unkept(
+            p,
+            heap,
+            span,
+            first,
+            head,
+            |_, bit|
+                requires { (bit / 8 < length marks.now) × (bit % 8 ≡ 0) }
+                ensures { result ≡ any_bit marks.entry.now bit 8 }
+            { marks::any_whole(marks, bit) },
+        );
     }
-    Chain {
-        head: last,
-        count: linked,
-    }
-}
-
-// The same of cells of eight words, where the bits of a cell are those of one byte.
-pub(crate) fn link_bytes(
-    p: Params,
-    marks: &[u8],
-    heap: &mut [u8],
-    span: Span,
-    first: usize,
-    head: usize,
-) -> Chain
-    requires { (Inside p (length marks.now) (length heap.old) span.at span.size span.count first) × (span.size ≡ 64) × (first % 8 ≡ 0) }
-    ensures { (kept : ℕ → Bool) → ByBits p marks.now kept span.size span.at (span.at + span.count * span.size) first (span.size / 8) → Extends p kept span.size span.at span.count head heap.old result.head result.count heap.new }
-{
-    let size = span.size;
-    let count = span.count;
-    let mut seen: usize = 0;
-    let mut linked: usize = 0;
-    let mut next = span.at;
-    let mut bit = first;
-    let mut last = head;
-    while seen < count {
-        let offset = next;
-        let here = bit;
-        next = next + size;
-        bit = bit + 8;
-        seen = seen + 1;
-        let kept = marks::any_whole(marks, here);
-        if !kept {
-            memory::put_word(heap, offset, last);
-            last = p.base + offset;
-            linked = linked + 1;
-        }
-    }
-    Chain {
-        head: last,
-        count: linked,
-    }
-}
-
-// The same where they lie across two bytes, each time in the same way: what is shifted out is known before the loop.
-pub(crate) fn link_windows(
-    p: Params,
-    marks: &[u8],
-    heap: &mut [u8],
-    span: Span,
-    first: usize,
-    head: usize,
-) -> Chain
-    requires { (Inside p (length marks.now) (length heap.old) span.at span.size span.count first) × (span.size ≡ 64) × (0 < first % 8) }
-    ensures { (kept : ℕ → Bool) → ByBits p marks.now kept span.size span.at (span.at + span.count * span.size) first (span.size / 8) → Extends p kept span.size span.at span.count head heap.old result.head result.count heap.new }
-{
-    let size = span.size;
-    let count = span.count;
     let shift = first % 8;
-    let mut seen: usize = 0;
-    let mut linked: usize = 0;
-    let mut next = span.at;
-    let mut bit = first;
-    let mut last = head;
-    while seen < count {
-        let offset = next;
-        let here = bit;
-        next = next + size;
-        bit = bit + 8;
-        seen = seen + 1;
-        let kept = marks::any_window(marks, here, shift);
-        if !kept {
-            memory::put_word(heap, offset, last);
-            last = p.base + offset;
-            linked = linked + 1;
-        }
-    }
-    Chain {
-        head: last,
-        count: linked,
-    }
-}
-
-// The same of larger cells.
-pub(crate) fn link_many(
-    p: Params,
-    marks: &[u8],
-    heap: &mut [u8],
-    span: Span,
-    first: usize,
-    head: usize,
-) -> Chain
-    requires { (Inside p (length marks.now) (length heap.old) span.at span.size span.count first) × (64 < span.size) }
-    ensures { (kept : ℕ → Bool) → ByBits p marks.now kept span.size span.at (span.at + span.count * span.size) first (span.size / 8) → Extends p kept span.size span.at span.count head heap.old result.head result.count heap.new }
-{
-    let size = span.size;
-    let count = span.count;
-    let words = size / 8;
-    let mut seen: usize = 0;
-    let mut linked: usize = 0;
-    let mut next = span.at;
-    let mut bit = first;
-    let mut last = head;
-    while seen < count {
-        let offset = next;
-        let here = bit;
-        next = next + size;
-        bit = bit + words;
-        seen = seen + 1;
-        let kept = marks::any_many(marks, here, words);
-        if !kept {
-            memory::put_word(heap, offset, last);
-            last = p.base + offset;
-            linked = linked + 1;
-        }
-    }
-    Chain {
-        head: last,
-        count: linked,
-    }
+    link_unkept(
+        p,
+        heap,
+        span,
+        first,
+        head,
+        |_, bit|
+            requires { (bit / 8 + 1 < length marks.now) × (bit % 8 ≡ shift) }
+            ensures { result ≡ any_bit marks.entry.now bit 8 }
+        { marks::any_window(marks, bit, shift) },
+    )
 }
 
 // The same of cells of any size.
@@ -267,44 +187,53 @@ pub(crate) fn link_inner(
         return link_by_bit(p, marks, heap, span, first, head);
     }
     if span.size == 64 {
-        if first % 8 == 0 {
-            return link_bytes(p, marks, heap, span, first, head);
-        }
-        return link_windows(p, marks, heap, span, first, head);
+        return link_eight(p, marks, heap, span, first, head);
     }
+    let words = span.size / 8;
     if span.size <= 64 {
-        return link_few(p, marks, heap, span, first, head);
+        return link_unkept(
+            p,
+            heap,
+            span,
+            first,
+            head,
+            |_, bit|
+                requires { (Run (length marks.now) bit words) × (words ≤ 8) }
+                ensures { result ≡ any_bit marks.entry.now bit words }
+            { marks::any_few(marks, bit, words) },
+        );
     }
-    link_many(p, marks, heap, span, first, head)
+    link_unkept(
+        p,
+        heap,
+        span,
+        first,
+        head,
+        |_, bit|
+            requires { (Run (length marks.now) bit words) × (8 < words) }
+            ensures { result ≡ any_bit marks.entry.now bit words }
+        { marks::any_many(marks, bit, words) },
+    )
 }
 
 // Links those of the cells that have no mark at any of their places, some of which may lie outside the heap.
+#[tactic(auto, unfolding(crate::specs::Block::kept_by))]
 pub(crate) fn link_edge(p: Params, marks: &[u8], heap: &mut [u8], span: Span, head: usize) -> Chain
     requires { (Places p (length heap.old) span.at span.size span.count) × (span.size ≤ 65536) }
     ensures { Extends p (kept_by false p marks.now span.size) span.size span.at span.count head heap.old result.head result.count heap.new }
 {
     let size = span.size;
-    let count = span.count;
-    let mut seen: usize = 0;
-    let mut linked: usize = 0;
-    let mut next = span.at;
-    let mut last = head;
-    while seen < count {
-        let offset = next;
-        next = next + size;
-        seen = seen + 1;
-        let cell = p.base + offset;
-        let kept = marks::any_marked(p, marks, Address(cell), size);
-        if !kept {
-            memory::put_word(heap, offset, last);
-            last = cell;
-            linked = linked + 1;
-        }
-    }
-    Chain {
-        head: last,
-        count: linked,
-    }
+    link_unkept(
+        p,
+        heap,
+        span,
+        0,
+        head,
+        |offset, _|
+            requires { (good_params p ≡ true) × (p.base + offset ≤ 2 ^ 50) × (size ≤ 65536) }
+            ensures { result ≡ kept_by false p marks.entry.now size (p.base + offset) }
+        { marks::any_marked(p, marks, Address(p.base + offset), size) },
+    )
 }
 
 // Links those of the cells that have no mark at any of their places, none of which lies below the heap. `up` is L + 64.
@@ -331,12 +260,11 @@ pub(crate) fn link_from(
     }
     let inner = (end - (at + up)) / size;
     let before = Span {
-        at,
-        size,
         count: inner,
+        ..span
     };
     let linked = link_inner(p, marks, heap, before, first, head);
-    let rest = link_edge(p, marks, heap, behind(span, inner), linked.head);
+    let rest = link_edge(p, marks, heap, span.behind(inner), linked.head);
     let count = linked.count + rest.count;
     Chain {
         head: rest.head,
@@ -359,12 +287,11 @@ pub(crate) fn link_brute(p: Params, marks: &[u8], heap: &mut [u8], span: Span, u
         return link_edge(p, marks, heap, span, 0);
     }
     let under = Span {
-        at,
-        size,
         count: below,
+        ..span
     };
     let edge = link_edge(p, marks, heap, under, 0);
-    let rest = link_from(p, marks, heap, behind(span, below), up, edge.head);
+    let rest = link_from(p, marks, heap, span.behind(below), up, edge.head);
     let count = edge.count + rest.count;
     Chain {
         head: rest.head,

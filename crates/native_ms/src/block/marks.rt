@@ -9,12 +9,6 @@ ghost use Rattle.native_ms.specs.Bits.{any_bit, Run};
 use crate::block;
 use model::{Address, Params};
 
-fn wide(x: u8) -> usize
-    ensures { result ≡ x }
-{
-    x as usize
-}
-
 // A byte and the one behind it, low byte first.
 fn pair(marks: &[u8], byte: usize) -> usize
     requires { byte < length marks.now }
@@ -22,9 +16,9 @@ fn pair(marks: &[u8], byte: usize) -> usize
 {
     let behind = byte + 1;
     if behind < marks.len() {
-        return wide(marks[byte]) + wide(marks[behind]) * 256;
+        return usize::from(marks[byte]) + usize::from(marks[behind]) * 256;
     }
-    wide(marks[byte])
+    usize::from(marks[byte])
 }
 
 // Whether one of the `count` bits from `first` on is set, of at most eight: a window of two bytes, and a mask.
@@ -35,10 +29,7 @@ pub(crate) fn any_few(marks: &[u8], first: usize, count: usize) -> bool
     let window = pair(marks, first / 8);
     let mask = (1 << count) - 1;
     let seen = (window >> (first % 8)) & mask;
-    if seen == 0 {
-        return false;
-    }
-    true
+    seen != 0
 }
 
 // Whether one of the eight bits from `first` on is set, which are those of a byte.
@@ -47,10 +38,7 @@ pub(crate) fn any_whole(marks: &[u8], first: usize) -> bool
     ensures { result ≡ any_bit marks.now first 8 }
 {
     let byte = first / 8;
-    if marks[byte] == 0 {
-        return false;
-    }
-    true
+    marks[byte] != 0
 }
 
 // Whether one of the eight bits from `first` on is set, which lie in two bytes, `shift` bits up.
@@ -59,12 +47,9 @@ pub(crate) fn any_window(marks: &[u8], first: usize, shift: usize) -> bool
     ensures { result ≡ any_bit marks.now first 8 }
 {
     let byte = first / 8;
-    let pair = wide(marks[byte]) + wide(marks[byte + 1]) * 256;
+    let pair = usize::from(marks[byte]) + usize::from(marks[byte + 1]) * 256;
     let seen = (pair >> shift) & 255;
-    if seen == 0 {
-        return false;
-    }
-    true
+    seen != 0
 }
 
 // Whether one of the bits from `first` on is set, up to the next byte.
@@ -74,10 +59,7 @@ fn any_head(marks: &[u8], first: usize) -> bool
 {
     let byte = first / 8;
     let seen = marks[byte] >> (first % 8);
-    if seen == 0 {
-        return false;
-    }
-    true
+    seen != 0
 }
 
 // Whether one of the bits of the bytes from `from` up to `to` is set: each byte is tested once.
@@ -85,17 +67,16 @@ fn any_byte(marks: &[u8], from: usize, to: usize) -> bool
     requires { (from ≤ to) × (to ≤ length marks.now) }
     ensures { result ≡ any_bit marks.now (8 * from) (8 * (to - from)) }
 {
-    let mut byte = from;
-    while byte < to {
-        if marks[byte] != 0 {
+    for byte in &marks[from..to] {
+        if *byte != 0 {
             return true;
         }
-        byte = byte + 1;
     }
     false
 }
 
 // Whether one of the `count` bits from `first` on is set, of more than eight: those of the first byte, whole bytes, the rest.
+// Two tests with returns of their own: joined by `||`, each return has two cases to prove.
 pub(crate) fn any_many(marks: &[u8], first: usize, count: usize) -> bool
     requires { (Run (length marks.now) first count) × (8 < count) }
     ensures { result ≡ any_bit marks.now first count }
@@ -109,10 +90,7 @@ pub(crate) fn any_many(marks: &[u8], first: usize, count: usize) -> bool
     if any_byte(marks, next, end) {
         return true;
     }
-    if rest == 0 {
-        return false;
-    }
-    any_few(marks, 8 * end, rest)
+    rest != 0 && any_few(marks, 8 * end, rest)
 }
 
 // Whether one of the `count` bits from `first` on is set.
@@ -129,22 +107,6 @@ fn any_set(marks: &[u8], first: usize, count: usize) -> bool
     any_many(marks, first, count)
 }
 
-// a − b, or 0.
-fn minus(a: usize, b: usize) -> usize
-    ensures { result ≡ a - b }
-{
-    if a < b {
-        return 0;
-    }
-    a - b
-}
-
-fn smaller(a: usize, b: usize) -> usize
-    ensures { result ≡ min a b }
-{
-    if a < b { a } else { b }
-}
-
 // The brute-force reading of one cell: whether one of its places is marked. Those below the heap are skipped; those past its end,
 // and bits that aren't lent, end the run.
 pub(crate) fn any_marked(p: Params, marks: &[u8], cell: Address, size: usize) -> bool
@@ -154,9 +116,9 @@ pub(crate) fn any_marked(p: Params, marks: &[u8], cell: Address, size: usize) ->
     let places = (size + 7) / 8;
     let first = cell.0 + block::up_by(p);
     let low = p.base + 64;
-    let skip = smaller(places, (minus(low, first) + 7) / 8);
-    let from = minus(first + 8 * skip, low) / 8;
-    let lines = smaller(marks.len(), p.blocks * p.bytes / 64);
-    let left = minus(8 * lines, from);
-    any_set(marks, from, smaller(places - skip, left))
+    let skip = places.min((low.saturating_sub(first) + 7) / 8);
+    let from = (first + 8 * skip).saturating_sub(low) / 8;
+    let lines = marks.len().min(p.blocks * p.bytes / 64);
+    let left = (8 * lines).saturating_sub(from);
+    any_set(marks, from, (places - skip).min(left))
 }

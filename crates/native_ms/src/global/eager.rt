@@ -2,12 +2,13 @@
 // those of abandoned and in-gc that are consumed but have a free cell now. In the Rust `generate_sweep_tasks` and `recycle_blocks` of
 // global.rs.
 ghost use Rattle.std.specs.Prelude.{◌≡◌, true, not, ◌||◌, ◌<◌, ◌≤◌, length, get_or};
-ghost use Rattle.model.specs.Params.{good_params, bins, lists, parts, head_words, in_gc};
+ghost use Rattle.model.specs.Params.{good_params, bins, parts, head_words, in_gc};
 ghost use Rattle.model.specs.Tables.{view};
 ghost use Rattle.model.specs.Global.{freed, is_bound, has_released, is_last, sweep_block, sweep_all, recycle_from, recycle_bin, recycle_blocks, eagerly};
 ghost use Rattle.native_ms.specs.Eager.{done, swept_in, recycle_block, after_part};
 ghost use Rattle.native_ms.specs.Places.{Known};
 
+use crate::address::Lists;
 use crate::{address, block, block_list, global};
 use model::{ABANDONED, Address, BINS, Block, HOLDERS, IN_GC, Params};
 use words::{states, tables};
@@ -19,10 +20,7 @@ fn released_with(w: &[usize], last: usize, part: usize) -> bool
     requires { (head_words ≤ length w.now) × (last < parts) }
     ensures { result ≡ has_released (after_part last (view w.now)) part }
 {
-    if part == last {
-        return true;
-    }
-    global::has_released(w, part)
+    part == last || global::has_released(w, part)
 }
 
 // The holder is not bound, or has released once `last` has.
@@ -30,10 +28,7 @@ fn not_due_with(w: &[usize], last: usize, holder: usize) -> bool
     requires { (head_words ≤ length w.now) × (last < parts) }
     ensures { result ≡ (not (is_bound (after_part last (view w.now)) holder) || has_released (after_part last (view w.now)) holder) }
 {
-    if !global::is_bound(w, holder) {
-        return true;
-    }
-    released_with(w, last, holder)
+    !global::is_bound(w, holder) || released_with(w, last, holder)
 }
 
 // With this part nothing is due any more.
@@ -41,25 +36,22 @@ fn is_last(w: &[usize], part: usize) -> bool
     requires { (head_words ≤ length w.now) × (part < parts) }
     ensures { result ≡ is_last part (view w.now) }
 {
-    let mut left = HOLDERS;
-    while 0 < left {
-        if !not_due_with(w, part, left) {
+    for holder in 1..=HOLDERS {
+        if !not_due_with(w, part, holder) {
             return false;
         }
-        left = left - 1;
     }
     released_with(w, part, 0)
 }
 
 // ---- the sweep of all blocks
 
-// Sweeps the block, if it is in use. The answer is how many were swept: 1 or 0.
+// Sweeps the block, if it is in use. The answer is how many were swept: 1 or 0, as in `attempt_release`.
 fn sweep_block(p: Params, w: &mut [usize], st: &[u8], m: &[u8], heap: &mut [u8], b: Block) -> usize
     requires { Known p (length w.old) (length m.now) (length heap.old) }
     ensures { done result (view w.new) heap.new ≡ swept_in p heap.old (sweep_block p m.now b.0 (freed (view w.old) st.now)) }
 {
-    let number = b.0;
-    let state = states::state(st, number);
+    let state = states::state(st, b.0);
     if state == block::UNALLOCATED {
         return 0;
     }
@@ -72,46 +64,41 @@ fn sweep_all(p: Params, w: &mut [usize], st: &[u8], m: &[u8], heap: &mut [u8]) -
     requires { Known p (length w.old) (length m.now) (length heap.old) }
     ensures { done result (view w.new) heap.new ≡ swept_in p heap.old (sweep_all p m.now (freed (view w.old) st.now)) }
 {
-    let mut number: usize = 0;
     let mut swept: usize = 0;
-    while number < p.blocks {
-        swept = swept + sweep_block(p, w, st, m, heap, Block(number));
-        number = number + 1;
+    for number in 0..p.blocks {
+        swept += sweep_block(p, w, st, m, heap, Block(number));
     }
     swept
 }
 
 // ---- filing anew
 
-// A consumed block that has a free cell goes to the list `avail`.
-fn recycle_block(p: Params, w: &mut [usize], avail: usize, full: usize, b: Block)
-    requires { (good_params p ≡ true) × (avail < lists) × (full < lists) }
-    ensures { view w.new ≡ recycle_block p avail full b.0 (view w.old) }
+// A consumed block that has a free cell becomes available.
+fn recycle_block(p: Params, w: &mut [usize], own: Lists, b: Block)
+    requires { good_params p ≡ true }
+    ensures { view w.new ≡ recycle_block p own.available own.consumed b.0 (view w.old) }
 {
-    let number = b.0;
-    let cell = tables::free(w, number);
+    let cell = tables::free(w, b.0);
     if cell == 0 {
         return;
     }
-    block_list::remove(p, w, full, b);
-    block_list::push(p, w, avail, b);
+    block_list::remove(p, w, own.consumed, b);
+    block_list::push(p, w, own.available, b);
 }
 
 // Those of a whole list. The next link is read before its block is removed.
-fn recycle_list(p: Params, w: &mut [usize], avail: usize, full: usize)
-    requires { (good_params p ≡ true) × (avail < lists) × (full < lists) }
-    ensures { view w.new ≡ recycle_from p.blocks p avail full (get_or (view w.old).first full 0) (view w.old) }
+fn recycle_list(p: Params, w: &mut [usize], own: Lists)
+    requires { good_params p ≡ true }
+    ensures { view w.new ≡ recycle_from p.blocks p own.available own.consumed (get_or (view w.old).first own.consumed 0) (view w.old) }
 {
-    let mut more = p.blocks;
-    let mut link = tables::first(w, full);
-    while 0 < more {
+    let mut link = tables::first(w, own.consumed);
+    for _ in 0..p.blocks {
         if link == 0 {
             return;
         }
         let b = address::block_at(p, Address(link));
         link = tables::next(w, b.0);
-        recycle_block(p, w, avail, full, b);
-        more = more - 1;
+        recycle_block(p, w, own, b);
     }
 }
 
@@ -119,9 +106,7 @@ fn recycle_bin(p: Params, w: &mut [usize], owner: usize, bin: usize)
     requires { (good_params p ≡ true) × (owner ≤ in_gc) × (bin < bins) }
     ensures { view w.new ≡ recycle_bin p owner bin (view w.old) }
 {
-    let avail = address::available(owner, bin);
-    let full = address::consumed(owner, bin);
-    recycle_list(p, w, avail, full);
+    recycle_list(p, w, address::lists_of(owner, bin));
 }
 
 // Those of an owner, by its first set.
@@ -129,10 +114,8 @@ fn recycle_blocks(p: Params, w: &mut [usize], owner: usize)
     requires { (good_params p ≡ true) × (owner ≤ in_gc) }
     ensures { view w.new ≡ recycle_blocks p owner (view w.old) }
 {
-    let mut bin: usize = 0;
-    while bin < BINS {
+    for bin in 0..BINS {
         recycle_bin(p, w, owner, bin);
-        bin = bin + 1;
     }
 }
 

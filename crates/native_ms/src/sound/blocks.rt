@@ -7,134 +7,130 @@ ghost use Rattle.native_ms.specs.SoundWalk.{in_use, names_list, block_fits, unus
 ghost use Rattle.native_ms.specs.SoundLent.{Lengths};
 ghost use Rattle.native_ms.specs.Borders.{Sizes};
 
-use crate::sound::{Walked, known};
+use crate::sound::known;
 use crate::{block, global};
 use model::{ABANDONED, BINS, Block, LISTS, Params};
-
-fn block_clear(words: &[usize], blocks: usize, b: Block) -> bool
-    requires { (length words.now ≡ head_words + block_tables * blocks) × (b.0 < blocks) }
-    ensures { result ≡ block_clear (view words.now) b.0 }
-{
-    let next = known::next(words, blocks, b);
-    let prev = known::prev(words, blocks, b);
-    let free = known::free(words, blocks, b);
-    let size = known::size(words, blocks, b);
-    let list = known::list(words, blocks, b);
-    let tls = known::tls(words, blocks, b);
-    let cells = known::cells(words, blocks, b);
-    next.0 | prev.0 | free.0 | size | list | tls | cells == 0
-}
 
 fn in_use(state: u8) -> bool
     ensures { result ≡ in_use state }
 {
-    if state == block::UNMARKED {
-        return true;
-    }
-    state == block::MARKED
-}
-
-fn names_list(words: &[usize], blocks: usize, b: Block) -> bool
-    requires { (length words.now ≡ head_words + block_tables * blocks) × (b.0 < blocks) }
-    ensures { result ≡ names_list (view words.now) b.0 }
-{
-    let word = known::list(words, blocks, b);
-    if word < 1 {
-        return false;
-    }
-    word <= LISTS
+    state == block::UNMARKED || state == block::MARKED
 }
 
 // The list that the block names; 0 if it names none.
+#[tactic(auto, unfolding(model::specs::Sound::list_named))]
 pub(crate) fn list_named(words: &[usize], blocks: usize, b: Block) -> usize
     requires { (length words.now ≡ head_words + block_tables * blocks) × (b.0 < blocks) }
     ensures { result ≡ list_named (view words.now) b.0 }
 {
-    let word = known::list(words, blocks, b);
-    if word == 0 {
-        return 0;
-    }
-    word - 1
+    known::list(words, blocks, b).saturating_sub(1)
 }
 
-// The class sizes are lent: a constant array would be built anew for each block.
-fn size_ok(p: Params, words: &[usize], b: Block, classes: &[usize; BINS]) -> bool
-    requires { (length words.now ≡ head_words + block_tables * p.blocks) × (b.0 < p.blocks) × (Sizes p classes.now) }
-    ensures { result ≡ size_ok p (view words.now) b.0 }
-{
-    let blocks = p.blocks;
-    let list = list_named(words, blocks, b);
-    let bin = list % BINS;
-    if bin < 1 {
-        return false;
-    }
-    let size = known::size(words, blocks, b);
-    if size == 0 {
-        return false;
-    }
-    size == classes[bin] * 8
+// What the tests of blocks read: words and state bytes of the lengths that the parameters give, and the class sizes, which are
+// lent: a constant array would be built anew for each block.
+#[derive(Clone, Copy)]
+pub(crate) struct Blocks<'a> {
+    p: &'a Params,
+    words: &'a [usize],
+    states: &'a [u8],
+    classes: &'a [usize; BINS],
+    ghost lent: { Lengths p.now words.now states.now },
+    ghost sizes: { Sizes p.now classes.now },
 }
 
-fn tls_ok(words: &[usize], blocks: usize, b: Block) -> bool
-    requires { (length words.now ≡ head_words + block_tables * blocks) × (b.0 < blocks) }
-    ensures { result ≡ tls_ok (view words.now) b.0 }
-{
-    let holder = known::tls(words, blocks, b);
-    if !global::is_holder(holder) {
-        return false;
-    }
-    let list = list_named(words, blocks, b);
-    let set = list / BINS;
-    if ABANDONED <= set {
-        return true;
-    }
-    holder == set / 3 + 1
-}
-
-// The block by itself.
-fn block_fits(p: Params, words: &[usize], states: &[u8], b: Block, classes: &[usize; BINS]) -> bool
-    requires { (Lengths p words.now states.now) × (b.0 < p.blocks) × (Sizes p classes.now) }
-    ensures { result ≡ block_fits p (view words.now) states.now b.0 }
-{
-    let blocks = p.blocks;
-    let state = known::state(states, b);
-    if state == block::UNALLOCATED {
-        return block_clear(words, blocks, b);
-    }
-    if !in_use(state) {
-        return false;
-    }
-    if !names_list(words, blocks, b) {
-        return false;
-    }
-    if !size_ok(p, words, b, classes) {
-        return false;
-    }
-    let free = known::free(words, blocks, b);
-    let size = known::size(words, blocks, b);
-    if !block::link_ok(p, b, size, free) {
-        return false;
-    }
-    tls_ok(words, blocks, b)
-}
-
-// How many blocks are Unallocated, if each fits.
-pub(crate) fn unused(p: Params, words: &[usize], states: &[u8], classes: &[usize; BINS]) -> Walked
-    requires { (Lengths p words.now states.now) × (Sizes p classes.now) }
-    ensures { result ≡ unused_if_fit p (view words.now) states.now }
-{
-    let mut unused: usize = 0;
-    let mut left = p.blocks;
-    while 0 < left {
-        left = left - 1;
-        let b = Block(left);
-        if !block_fits(p, words, states, b, classes) {
-            return Walked::Bad;
+impl<'a> Blocks<'a> {
+    pub(crate) fn new(
+        p: &'a Params,
+        words: &'a [usize],
+        states: &'a [u8],
+        classes: &'a [usize; BINS],
+    ) -> Self
+        requires { (Lengths p.now words.now states.now) × (Sizes p.now classes.now) }
+        ensures { (result.p.now ≡ p.now) × (result.words.now ≡ words.now) × (result.states.now ≡ states.now) }
+    {
+        Blocks {
+            p,
+            words,
+            states,
+            classes,
         }
-        let state = known::state(states, b);
+    }
+
+    #[tactic(auto, using(crate::proofs::SoundLent::clear_words))]
+    fn block_clear(&self, b: Block) -> bool
+        requires { b.0 < self.now.p.now.blocks }
+        ensures { result ≡ block_clear (view self.now.words.now) b.0 }
+    {
+        let blocks = self.p.blocks;
+        let next = known::next(self.words, blocks, b);
+        let prev = known::prev(self.words, blocks, b);
+        let free = known::free(self.words, blocks, b);
+        let size = known::size(self.words, blocks, b);
+        let list = known::list(self.words, blocks, b);
+        let tls = known::tls(self.words, blocks, b);
+        let cells = known::cells(self.words, blocks, b);
+        next.0 | prev.0 | free.0 | size | list | tls | cells == 0
+    }
+
+    fn names_list(&self, b: Block) -> bool
+        requires { b.0 < self.now.p.now.blocks }
+        ensures { result ≡ names_list (view self.now.words.now) b.0 }
+    {
+        let word = known::list(self.words, self.p.blocks, b);
+        1 <= word && word <= LISTS
+    }
+
+    #[tactic(auto, unfolding(model::specs::Sound::size_ok, model::specs::Sound::bin_named))]
+    fn size_ok(&self, b: Block) -> bool
+        requires { b.0 < self.now.p.now.blocks }
+        ensures { result ≡ size_ok self.now.p.now (view self.now.words.now) b.0 }
+    {
+        let bin = list_named(self.words, self.p.blocks, b) % BINS;
+        let size = known::size(self.words, self.p.blocks, b);
+        1 <= bin && size != 0 && size == self.classes[bin] * 8
+    }
+
+    #[tactic(auto, unfolding(model::specs::Sound::tls_ok, model::specs::Sound::set_named))]
+    fn tls_ok(&self, b: Block) -> bool
+        requires { b.0 < self.now.p.now.blocks }
+        ensures { result ≡ tls_ok (view self.now.words.now) b.0 }
+    {
+        let holder = known::tls(self.words, self.p.blocks, b);
+        let set = list_named(self.words, self.p.blocks, b) / BINS;
+        global::is_holder(holder) && (ABANDONED <= set || holder == set / 3 + 1)
+    }
+
+    // The block by itself.
+    #[tactic(auto, unfolding(crate::specs::SoundWalk::block_fits, model::specs::Sound::link_ok))]
+    fn block_fits(&self, b: Block) -> bool
+        requires { b.0 < self.now.p.now.blocks }
+        ensures { result ≡ block_fits self.now.p.now (view self.now.words.now) self.now.states.now b.0 }
+    {
+        let state = known::state(self.states, b);
         if state == block::UNALLOCATED {
-            unused = unused + 1;
+            return self.block_clear(b);
         }
+        let size = known::size(self.words, self.p.blocks, b);
+        let free = known::free(self.words, self.p.blocks, b);
+        in_use(state)
+            && self.names_list(b)
+            && self.size_ok(b)
+            && block::link_ok(*self.p, b, size, free)
+            && self.tls_ok(b)
     }
-    Walked::Left(unused)
+
+    // How many blocks are Unallocated, if each fits.
+    #[tactic(auto, using(laws::proofs::Below::sum_start, laws::proofs::Below::sum_up, laws::proofs::Below::all_below_from), unfolding(model::specs::Base::flag, crate::specs::SoundWalk::unused_if_fit, crate::specs::SoundWalk::unused))]
+    pub(crate) fn unused(&self) -> Option<usize>
+        ensures { result ≡ unused_if_fit self.now.p.now (view self.now.words.now) self.now.states.now }
+    {
+        let mut unused: usize = 0;
+        for b in 0..self.p.blocks {
+            if !self.block_fits(Block(b)) {
+                return None;
+            }
+            unused += usize::from(known::state(self.states, Block(b)) == block::UNALLOCATED);
+        }
+        Some(unused)
+    }
 }

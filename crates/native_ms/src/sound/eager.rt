@@ -12,22 +12,16 @@ use crate::{block, global};
 use model::{ABANDONED, BINS, Block, IN_GC, Params};
 
 // The blocks of this set were released before: in-gc, and abandoned once the shared part is done.
+#[tactic(auto, unfolding(crate::specs::Eager::passed))]
 fn released_before(words: &[usize], set: usize) -> bool
     requires { head_words ≤ length words.now }
     ensures { result ≡ passed (view words.now) set }
 {
-    if known::phase(words) != global::RELEASING {
-        return false;
-    }
-    if IN_GC <= set {
-        return true;
-    }
-    if set < ABANDONED {
-        return false;
-    }
-    global::has_released(words, 0)
+    known::phase(words) == global::RELEASING
+        && (IN_GC <= set || ABANDONED <= set && global::has_released(words, 0))
 }
 
+#[tactic(auto, unfolding(model::specs::Sound::eager_block, model::specs::Sound::on_unswept, model::specs::Sound::set_named, model::specs::Sound::released_before, model::specs::Sound::state_of, crate::specs::Eager::passed))]
 fn eager_block(p: Params, words: &[usize], states: &[u8], b: Block) -> bool
     requires { (Lengths p words.now states.now) × (b.0 < p.blocks) }
     ensures { (m : List ℕ) → result ≡ eager_block (tables_of (view words.now) states.now m) b.0 }
@@ -36,18 +30,12 @@ fn eager_block(p: Params, words: &[usize], states: &[u8], b: Block) -> bool
     if state == block::UNALLOCATED {
         return true;
     }
-    let list = blocks::list_named(words, p.blocks, b);
-    let set = list / BINS;
-    if set % 3 == 1 {
-        return false;
-    }
-    if state != block::UNMARKED {
-        return true;
-    }
-    !released_before(words, set)
+    let set = blocks::list_named(words, p.blocks, b) / BINS;
+    set % 3 != 1 && (state != block::UNMARKED || !released_before(words, set))
 }
 
 // Each block. Nothing is asked with the choice off.
+#[tactic(auto, using(laws::proofs::Below::all_below_from), unfolding(model::specs::Sound::eager_ok))]
 pub(crate) fn eager_ok(p: Params, words: &[usize], states: &[u8]) -> bool
     requires { Lengths p words.now states.now }
     ensures { (m : List ℕ) → result ≡ eager_ok p (tables_of (view words.now) states.now m) }
@@ -55,10 +43,8 @@ pub(crate) fn eager_ok(p: Params, words: &[usize], states: &[u8]) -> bool
     if !p.eager {
         return true;
     }
-    let mut left = p.blocks;
-    while 0 < left {
-        left = left - 1;
-        if !eager_block(p, words, states, Block(left)) {
+    for b in 0..p.blocks {
+        if !eager_block(p, words, states, Block(b)) {
             return false;
         }
     }

@@ -5,7 +5,7 @@ ghost use Rattle.model.specs.Params.{in_gc, holders, parts};
 ghost use Rattle.model.specs.Tables.{view};
 ghost use Rattle.model.specs.Global.{has_released};
 ghost use Rattle.model.specs.Sound.{owner_empty, in_gc_empty, phase_known, released_some};
-ghost use Rattle.native_ms.specs.SoundWalk.{holder_fits, part_fits};
+ghost use Rattle.native_ms.specs.SoundWalk.{holder_fits, part_fits, parts_sound};
 ghost use Rattle.native_ms.specs.SoundLent.{Firsts};
 
 use crate::global;
@@ -13,6 +13,7 @@ use model::{HOLDERS, IN_GC, PARTS, SETS};
 use words::tables;
 
 // The three sets of an owner are empty.
+#[tactic(auto, using(crate::proofs::SoundLent::owner_words))]
 fn owner_empty(words: &[usize], firsts: &[usize; SETS], owner: usize) -> bool
     requires { (Firsts words.now firsts.now) × (owner ≤ in_gc) }
     ensures { result ≡ owner_empty (view words.now) owner }
@@ -21,32 +22,24 @@ fn owner_empty(words: &[usize], firsts: &[usize; SETS], owner: usize) -> bool
 }
 
 // The holder i + 1: its bound word, and its lists if it is not bound or has released.
+#[tactic(auto, unfolding(crate::specs::SoundWalk::holder_fits, model::specs::Params::local_sets))]
 fn holder_fits(words: &[usize], firsts: &[usize; SETS], i: usize) -> bool
     requires { (i < holders) × (Firsts words.now firsts.now) }
     ensures { result ≡ holder_fits (view words.now) i }
 {
-    let bound = tables::bound(words, i);
-    if 1 < bound {
-        return false;
-    }
     let holder = i + 1;
-    if !global::is_bound(words, holder) {
-        return owner_empty(words, firsts, 3 * i);
-    }
-    if !global::has_released(words, holder) {
-        return true;
-    }
-    owner_empty(words, firsts, 3 * i)
+    tables::bound(words, i) <= 1
+        && (global::is_bound(words, holder) && !global::has_released(words, holder)
+            || owner_empty(words, firsts, 3 * i))
 }
 
-pub(crate) fn holders_fit(words: &[usize], firsts: &[usize; SETS]) -> bool
+#[tactic(auto, using(laws::proofs::Below::all_below_from))]
+fn holders_fit(words: &[usize], firsts: &[usize; SETS]) -> bool
     requires { Firsts words.now firsts.now }
     ensures { result ≡ all_below holders (holder_fits (view words.now)) }
 {
-    let mut left = HOLDERS;
-    while 0 < left {
-        left = left - 1;
-        if !holder_fits(words, firsts, left) {
+    for i in 0..HOLDERS {
+        if !holder_fits(words, firsts, i) {
             return false;
         }
     }
@@ -54,85 +47,73 @@ pub(crate) fn holders_fit(words: &[usize], firsts: &[usize; SETS]) -> bool
 }
 
 // A part's released mark: set only in Releasing, only for bound holders and the shared part.
+#[tactic(auto, unfolding(crate::specs::SoundWalk::part_fits))]
 fn part_fits(words: &[usize], part: usize) -> bool
     ensures { result ≡ part_fits (view words.now) part }
 {
-    let released = tables::released(words, part);
-    if 1 < released {
-        return false;
-    }
-    if released != 1 {
-        return true;
-    }
-    let phase = tables::phase(words);
-    if phase != global::RELEASING {
-        return false;
-    }
-    if part == 0 {
-        return true;
-    }
-    global::is_bound(words, part)
+    tables::released(words, part) <= 1
+        && (!global::has_released(words, part)
+            || tables::phase(words) == global::RELEASING
+                && (part == 0 || global::is_bound(words, part)))
 }
 
-pub(crate) fn parts_fit(words: &[usize]) -> bool
+#[tactic(auto, using(laws::proofs::Below::all_below_from))]
+fn parts_fit(words: &[usize]) -> bool
     ensures { result ≡ all_below parts (part_fits (view words.now)) }
 {
-    let mut left = PARTS;
-    while 0 < left {
-        left = left - 1;
-        if !part_fits(words, left) {
+    for part in 0..PARTS {
+        if !part_fits(words, part) {
             return false;
         }
     }
     true
 }
 
+#[tactic(auto, using(laws::proofs::Below::any_below_none))]
 fn any_released(words: &[usize]) -> bool
     ensures { result ≡ any_below parts (has_released (view words.now)) }
 {
-    let mut left = PARTS;
-    while 0 < left {
-        left = left - 1;
-        if global::has_released(words, left) {
+    for part in 0..PARTS {
+        if global::has_released(words, part) {
             return true;
         }
     }
     false
 }
 
-pub(crate) fn released_some(words: &[usize]) -> bool
+#[tactic(auto, unfolding(model::specs::Sound::released_some))]
+fn released_some(words: &[usize]) -> bool
     ensures { result ≡ released_some (view words.now) }
 {
     let phase = tables::phase(words);
-    if phase != global::RELEASING {
-        return true;
-    }
-    if !any_released(words) {
-        return false;
-    }
-    !global::all_released(words)
+    phase != global::RELEASING || any_released(words) && !global::all_released(words)
 }
 
-pub(crate) fn in_gc_empty(words: &[usize], firsts: &[usize; SETS]) -> bool
+#[tactic(auto, unfolding(model::specs::Sound::in_gc_empty))]
+fn in_gc_empty(words: &[usize], firsts: &[usize; SETS]) -> bool
     requires { Firsts words.now firsts.now }
     ensures { result ≡ in_gc_empty (view words.now) }
 {
-    let phase = tables::phase(words);
-    if phase == global::RELEASING {
-        return true;
-    }
-    owner_empty(words, firsts, IN_GC)
+    tables::phase(words) == global::RELEASING || owner_empty(words, firsts, IN_GC)
 }
 
-pub(crate) fn phase_known(words: &[usize]) -> bool
+#[tactic(auto, unfolding(model::specs::Sound::phase_known))]
+fn phase_known(words: &[usize]) -> bool
     ensures { result ≡ phase_known (view words.now) }
 {
     let phase = tables::phase(words);
-    if phase == global::RUNNING {
-        return true;
-    }
-    if phase == global::MARKING {
-        return true;
-    }
-    phase == global::RELEASING
+    phase == global::RUNNING || phase == global::MARKING || phase == global::RELEASING
+}
+
+// The phase, every part and every holder, and in-gc.
+#[tactic(auto, unfolding(crate::specs::SoundWalk::parts_sound))]
+pub(crate) fn all_fit(words: &[usize], firsts: &[usize; SETS]) -> bool
+    requires { Firsts words.now firsts.now }
+    ensures { result ≡ parts_sound (view words.now) }
+{
+    phase_known(words)
+        && parts_fit(words)
+        && released_some(words)
+        && holders_fit(words, firsts)
+        && in_gc_empty(words, firsts)
 }

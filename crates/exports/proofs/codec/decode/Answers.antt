@@ -11,17 +11,8 @@ use Rattle.exports.proofs.codec.decode.Goals as goal
 pub loop-i-init : goal.loop-i-init
 loop-i-init c = (refl, omega arith, below_none _)
 
-pub overflow_mul-i : goal.overflow_mul-i
-overflow_mul-i c = omega (arith, c.requires, c.loop-i.invariant.0)
-
-pub loop-i-smaller : goal.loop-i-smaller
-loop-i-smaller c = simp length-set (falls _ _ c.loop-i-test.true)
-
 pub loop-i-preserved : goal.loop-i-preserved
-loop-i-preserved c = (simp length-set c.loop-i.invariant.0, omega (arith, c.loop-i.invariant.0, c.loop-i-test.true), decode_round c.args.b.now c.loop-i.w c.loop-i.i c.loop-i-test.true c.loop-i.invariant.2 c.load_word.ensures)
-
-pub shape_of-w : goal.shape_of-w
-shape_of-w c = c.loop-i.invariant.0
+loop-i-preserved c = (simp length-set c.loop-i.invariant.0, omega (arith, c.loop-i.invariant.0, c.loop-i-test.true), decode_round c.args.b.now c.loop-i.w c.loop-i.i (omega (arith, c.loop-i.invariant.0, c.loop-i-test.true)) c.loop-i.invariant.2 c.load_word.ensures)
 
 pub returns : goal.returns
 returns c = decode_end _ _ _ c.loop-i.invariant.0 (λ k l. c.loop-i.invariant.2 k (omega (arith, l, c.loop-i.invariant.0, c.loop-i-test.false)))

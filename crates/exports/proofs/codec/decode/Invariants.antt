@@ -11,6 +11,3 @@ use Rattle.exports.proofs.codec.decode.Given as goal
 
 abbrev pub invariant-loop-i : goal.invariant-loop-i
 invariant-loop-i l = (length l.w ≡ length l.initial.w) × (l.i ≤ length l.initial.w) × ((k : ℕ) → k < l.i → get_or l.w k 0 ≡ load_bytes 8 l.b (8 * k))
-
-abbrev pub decreases-loop-i : goal.decreases-loop-i
-decreases-loop-i l = length l.w - l.i

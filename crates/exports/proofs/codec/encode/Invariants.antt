@@ -11,7 +11,4 @@ use Rattle.exports.proofs.Coding.{store_words, store_round, store_end, store_all
 use Rattle.exports.proofs.codec.encode.Given as goal
 
 abbrev pub invariant-loop-k : goal.invariant-loop-k
-invariant-loop-k l = (length l.b ≡ length l.initial.b) × (l.k ≤ length l.w) × (l.at ≡ 8 * l.k) × (store_words l.at (drop l.k l.w) l.b ≡ store_words 0 l.w l.initial.b)
-
-abbrev pub decreases-loop-k : goal.decreases-loop-k
-decreases-loop-k l = length l.w - l.k
+invariant-loop-k l = (length l.b ≡ length l.initial.b) × (store_words (8 * l.k) (drop l.k l.w) l.b ≡ store_words 0 l.w l.initial.b)

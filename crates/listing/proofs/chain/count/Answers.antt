@@ -1,12 +1,8 @@
-use native.Mathlib.Omega.{arith}
-use Rattle.listing.proofs.SectionsLaws.{first_here, more_here, next_here, cells_fall, count_start, count_room, count_round, count_end}
+use Rattle.listing.proofs.SectionsLaws.{first_here, more_here, next_here, cells_fall, count_start, count_round, count_end}
 use Rattle.listing.proofs.chain.count.Goals as goal
 
 pub loop-p-init : goal.loop-p-init
 loop-p-init c = count_start _ _ _ (first_here _ _ c.params-p.ensures c.first-w.ensures)
-
-pub overflow_add-n : goal.overflow_add-n
-overflow_add-n c = omega (arith, count_room _ _ _ _ c.loop-p.invariant (more_here _ c.params-p.ensures c.more.ensures c.loop-p-test.true))
 
 pub loop-p-smaller : goal.loop-p-smaller
 loop-p-smaller c = cells_fall _ _ (more_here _ c.params-p.ensures c.more.ensures c.loop-p-test.true) (next_here _ c.params-p.ensures _ c.next-w.ensures)

@@ -4,7 +4,7 @@ use Rattle.listing.proofs.SectionsLaws.{CellsLeft}
 use Rattle.listing.proofs.chain.rows.Given as goal
 
 abbrev pub invariant-loop-b : goal.invariant-loop-b
-invariant-loop-b l = CellsLeft l.words l.heap l.b.0 l.w l.initial.out l.out l.at l.place
+invariant-loop-b l = CellsLeft l.words l.heap l.b.0 l.w l.initial.page l.page
 
 abbrev pub decreases-loop-b : goal.decreases-loop-b
 decreases-loop-b l = l.w.left

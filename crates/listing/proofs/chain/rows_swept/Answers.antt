@@ -1,24 +1,11 @@
-use native.Mathlib.Omega.{arith}
-use Rattle.listing.proofs.SectionsLaws.{first_here, walk_count, left_start, left_yes, left_no, left_end}
+use Rattle.listing.proofs.SectionsLaws.{first_here, walk_count, swept_put, swept_over, swept_end}
 use Rattle.listing.proofs.chain.rows_swept.Goals as goal
 
-pub loop-left-init : goal.loop-left-init
-loop-left-init c = left_start _ _ _ _ _ _
+pub loop-cell-preserved-then-is_free : goal.loop-cell-preserved-then-is_free
+loop-cell-preserved-then-is_free c = swept_put _ _ _ _ _ c.loop-cell.invariant (walk_count _ _ (first_here _ _ c.params-p.ensures c.first-w.ensures)) c.loop-cell-test.true c.params-p.ensures c.frees_cell-is_free.ensures c.if-is_free.true c.cell_at-free.ensures c.pair_row.ensures
 
-pub loop-left-smaller-then-is_free : goal.loop-left-smaller-then-is_free
-loop-left-smaller-then-is_free c = omega (arith, c.loop-left-test.true)
-
-pub loop-left-preserved-then-is_free : goal.loop-left-preserved-then-is_free
-loop-left-preserved-then-is_free c = left_yes _ _ _ _ _ c.loop-left.invariant (walk_count _ _ (first_here _ _ c.params-p.ensures c.first-w.ensures)) c.loop-left-test.true c.params-p.ensures c.frees_cell-is_free.ensures c.if-is_free.true c.cell_at-free.ensures c.pair_row-place.ensures
-
-pub loop-left-smaller : goal.loop-left-smaller
-loop-left-smaller c = omega (arith, c.loop-left-test.true)
-
-pub loop-left-preserved : goal.loop-left-preserved
-loop-left-preserved c = left_no _ _ _ _ _ c.loop-left.invariant (walk_count _ _ (first_here _ _ c.params-p.ensures c.first-w.ensures)) c.loop-left-test.true c.params-p.ensures c.frees_cell-is_free.ensures c.if-is_free.false
-
-pub shape_of-out : goal.shape_of-out
-shape_of-out c = c.loop-left.invariant.rows.same
+pub loop-cell-preserved : goal.loop-cell-preserved
+loop-cell-preserved c = swept_over _ _ _ _ _ c.loop-cell.invariant (walk_count _ _ (first_here _ _ c.params-p.ensures c.first-w.ensures)) c.loop-cell-test.true c.params-p.ensures c.frees_cell-is_free.ensures c.if-is_free.false
 
 pub returns : goal.returns
-returns c = left_end _ _ _ _ (first_here _ _ c.params-p.ensures c.first-w.ensures) c.loop-left.invariant c.loop-left-test.false
+returns c = swept_end _ _ _ _ (first_here _ _ c.params-p.ensures c.first-w.ensures) c.loop-cell.invariant c.loop-cell-test.false

@@ -3,8 +3,5 @@
 use Rattle.listing.proofs.SectionsLaws.{SweptLeft}
 use Rattle.listing.proofs.chain.rows_swept.Given as goal
 
-abbrev pub invariant-loop-left : goal.invariant-loop-left
-invariant-loop-left l = SweptLeft l.marks l.b.0 l.size l.initial.left l.left l.initial.out l.out l.at l.place
-
-abbrev pub decreases-loop-left : goal.decreases-loop-left
-decreases-loop-left l = l.left
+abbrev pub invariant-loop-cell : goal.invariant-loop-cell
+invariant-loop-cell l = SweptLeft l.marks l.b.0 l.w.size l.w.left l.cell l.initial.page l.page

@@ -3,14 +3,8 @@ use Rattle.laws.proofs.Requests.{request_size, request_offset, request_far, requ
 use Rattle.native_ms.proofs.RaisedLaws.{divides_no, divides_yes}
 use Rattle.native_ms.proofs.allocator.good_request.Goals as goal
 
-pub min_divides-requires : goal.min_divides-requires
-min_divides-requires c = c.requires
-
 pub returns-then-not-min_divides : goal.returns-then-not-min_divides
 returns-then-not-min_divides c = request_size c.args.p c.args.size c.args.align c.args.offset (divides_no c.min_divides.ensures c.if-not-min_divides.true)
-
-pub min_divides-requires-2 : goal.min_divides-requires-2
-min_divides-requires-2 c = c.requires
 
 pub returns-then-not-min_divides-2 : goal.returns-then-not-min_divides-2
 returns-then-not-min_divides-2 c = request_offset c.args.p c.args.size c.args.align c.args.offset (divides_yes c.min_divides.ensures c.if-not-min_divides.false) (divides_no c.min_divides-2.ensures c.if-not-min_divides-2.true)

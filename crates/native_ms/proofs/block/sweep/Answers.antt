@@ -7,12 +7,6 @@ use Rattle.native_ms.proofs.Chains.{swept}
 use Rattle.native_ms.proofs.Offsets.{words_known, sweepable}
 use Rattle.native_ms.proofs.block.sweep.Goals as goal
 
-pub size-size-requires : goal.size-size-requires
-size-size-requires c = words_known _ c.requires.count
-
-pub sweep_by-requires : goal.sweep_by-requires
-sweep_by-requires c = c.requires.good
-
 pub returns-then-not-is_whole_words : goal.returns-then-not-is_whole_words
 returns-then-not-is_whole_words c = swept _ _ _ _ c.is_simple-simple.ensures c.sweep_by.ensures
 

@@ -1,13 +1,11 @@
--- `block_list::count_bins` counts the bins from 48 down. The invariant: what is counted and what remains is the whole,
--- and each bin adds at most 1,024. The measure is the count of bins left.
-use Prim.Native.Nat.{◌+◌, ◌*◌, ◌≤◌}
-use mathlib.Core.Path.{◌≡◌}
+-- `block_list::count_bins` counts the bins from 1 up. The invariant: what is counted is the bins passed, and each adds at most 1,024.
+use Rattle.std.proofs.Common.{◌≡◌, ◌≤◌, ◌*◌, ◌-◌, map, Some}
 use Rattle.model.specs.Tables.{view}
 use Rattle.native_ms.specs.Counted.{counted_bins}
 use Rattle.native_ms.proofs.block_list.count_bins.Given as goal
 
 abbrev pub invariant-loop-bin : goal.invariant-loop-bin
-invariant-loop-bin l = (l.bin ≤ 48) × (l.met + l.bin * 1024 ≤ 49152) × (counted_bins l.bin l.p (view l.w).next l.firsts l.met ≡ counted_bins 48 l.p (view l.w).next l.firsts 0)
-
-abbrev pub decreases-loop-bin : goal.decreases-loop-bin
-decreases-loop-bin l = l.bin
+invariant-loop-bin g l = record {
+  few : l.met ≤ 1024 * l.bin;
+  same : Some l.met ≡ counted_bins (l.bin - 1) l.p (view l.w).next (map g.L.Starts.first_of l.lists) 0;
+}

@@ -15,7 +15,7 @@ pub overflow_add-p : goal.overflow_add-p
 overflow_add-p c = omega (arith, (good_bounds c.args.p (sym c.good_params.ensures ∙ c.if-not-good_params.false)).blocks_high)
 
 pub returns-then-words-p : goal.returns-then-words-p
-returns-then-words-p c = fits_words _ _ _ (sym c.good_params.ensures ∙ c.if-not-good_params.false) c.if-words-p.true
+returns-then-words-p c = fits_records _ _ _ (sym c.good_params.ensures ∙ c.if-not-good_params.false) c.if-words-p.true
 
-pub returns : goal.returns
-returns c = fits_records _ _ _ (sym c.good_params.ensures ∙ c.if-not-good_params.false) c.if-words-p.false
+pub returns-else-words-p : goal.returns-else-words-p
+returns-else-words-p c = fits_words _ _ _ (sym c.good_params.ensures ∙ c.if-not-good_params.false) c.if-words-p.false

@@ -5,9 +5,6 @@ use Rattle.native_ms.proofs.checks.check_bound.Goals as goal
 pub returns-then-phase-ne-RUNNING : goal.returns-then-phase-ne-RUNNING
 returns-then-phase-ne-RUNNING c = bound_phase _ _ c.phase.ensures c.if-phase-ne-RUNNING.true
 
-pub is_holder-requires : goal.is_holder-requires
-is_holder-requires c = tt
-
 pub returns-then-not-is_holder : goal.returns-then-not-is_holder
 returns-then-not-is_holder c = bound_number _ _ c.phase.ensures c.if-phase-ne-RUNNING.false c.is_holder.ensures c.if-not-is_holder.true
 

@@ -5,15 +5,9 @@ use Rattle.model.specs.Calls.{leave_tests}
 use Rattle.native_ms.proofs.Tests.{test_no, test_yes, then_refused, then_passed}
 use Rattle.native_ms.proofs.checks.check_leave.Goals as goal
 
-pub may_leave-requires : goal.may_leave-requires
-may_leave-requires c = tt
-
 pub returns-then-not-may_leave : goal.returns-then-not-may_leave
 unfolding leave_tests
 returns-then-not-may_leave c = then_refused _ (test_no WrongPhase c.may_leave.ensures c.if-not-may_leave.true) refl
-
-pub is_bound-requires : goal.is_bound-requires
-is_bound-requires c = tt
 
 pub returns-then-not-is_bound : goal.returns-then-not-is_bound
 unfolding leave_tests

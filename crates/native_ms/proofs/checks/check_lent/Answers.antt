@@ -5,9 +5,6 @@ use Rattle.native_ms.specs.Checked.{lent_tests}
 use Rattle.native_ms.proofs.Tests.{fit_parts, test_no, test_yes, then_refused, then_passed}
 use Rattle.native_ms.proofs.checks.check_lent.Goals as goal
 
-pub lent_fits-requires : goal.lent_fits-requires
-lent_fits-requires c = tt
-
 pub returns-then-not-lent_fits : goal.returns-then-not-lent_fits
 unfolding lent_tests
 returns-then-not-lent_fits c = then_refused _ (test_no BadSetup c.lent_fits.ensures c.if-not-lent_fits.true) refl

@@ -2,9 +2,6 @@
 use Rattle.native_ms.proofs.Tests.{phase_other, phase_this}
 use Rattle.native_ms.proofs.checks.check_phase.Goals as goal
 
-pub phase-requires : goal.phase-requires
-phase-requires c = tt
-
 pub returns-then-phase : goal.returns-then-phase
 returns-then-phase c = phase_this _ _ c.phase.ensures c.if-phase.true
 

@@ -5,22 +5,13 @@ use Rattle.model.specs.Calls.{release_tests}
 use Rattle.native_ms.proofs.Tests.{test_no, test_yes, either_no, either_yes, neither, then_refused, then_passed}
 use Rattle.native_ms.proofs.checks.check_release.Goals as goal
 
-pub may_release-requires : goal.may_release-requires
-may_release-requires c = tt
-
 pub returns-then-not-may_release : goal.returns-then-not-may_release
 unfolding release_tests
 returns-then-not-may_release c = then_refused _ (either_no WrongPhase _ c.may_release.ensures c.if-not-may_release.true) refl
 
-pub released_already-requires : goal.released_already-requires
-released_already-requires c = tt
-
 pub returns-then-released_already : goal.returns-then-released_already
 unfolding release_tests
 returns-then-released_already c = then_refused _ (either_yes WrongPhase c.may_release.ensures c.released_already.ensures c.if-released_already.true) refl
-
-pub is_bound-requires : goal.is_bound-requires
-is_bound-requires c = tt
 
 pub returns-then-not-is_bound : goal.returns-then-not-is_bound
 unfolding release_tests

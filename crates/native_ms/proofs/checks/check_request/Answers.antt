@@ -1,27 +1,16 @@
 -- `checks::check_request` makes the tests of `request_tests`, in order, and picks the bin. One law for each way out.
-use Rattle.native_ms.proofs.AllocCall.{check_request, check_size, check_offer, check_bin}
+use Rattle.std.proofs.lemmas.Result.{err_from_is_err_and}
+use Rattle.native_ms.proofs.AllocCall.{raised_some, raised_none, check_request, check_size, check_offer, check_bin}
 use Rattle.native_ms.proofs.checks.check_request.Goals as goal
-
-pub good_request-requires : goal.good_request-requires
-good_request-requires c = c.requires.0
 
 pub returns-then-not-good_request : goal.returns-then-not-good_request
 returns-then-not-good_request c = λ w m. check_request _ w _ m _ _ _ _ c.good_request.ensures c.if-not-good_request.true
 
-pub get_maximum_aligned_size-requires : goal.get_maximum_aligned_size-requires
-get_maximum_aligned_size-requires c = tt
-
-pub good_offer-requires : goal.good_offer-requires
-good_offer-requires c = c.requires.1
-
 pub returns-then-not-good_offer : goal.returns-then-not-good_offer
-returns-then-not-good_offer c = λ w m. check_offer _ w _ m _ _ _ _ c.good_request.ensures c.if-not-good_request.false c.get_maximum_aligned_size.ensures c.in-Fits.is c.good_offer.ensures c.if-not-good_offer.true
+returns-then-not-good_offer c = λ w m. check_offer _ w _ m _ _ _ _ c.good_request.ensures c.if-not-good_request.false c.get_maximum_aligned_size.ensures (raised_some _ _ c.ok_or.ensures.value c.in_ok-size.was) c.good_offer.ensures c.if-not-good_offer.true
 
-pub bin_of-requires : goal.bin_of-requires
-bin_of-requires c = tt
+pub returns-in_err-size : goal.returns-in_err-size
+returns-in_err-size c = let p = err_from_is_err_and c.from_residual.result c.from_residual.ensures.1 in let n = raised_none _ _ c.ok_or.ensures.value c.in_err-size.was in rw (p.1, p.2, n.1) (λ w m. check_size _ w _ m _ _ _ _ c.good_request.ensures c.if-not-good_request.false c.get_maximum_aligned_size.ensures n.0)
 
-pub returns-in-TooBig : goal.returns-in-TooBig
-returns-in-TooBig c = λ w m. check_size _ w _ m _ _ _ _ c.good_request.ensures c.if-not-good_request.false c.get_maximum_aligned_size.ensures c.in-TooBig.is
-
-pub returns-else-not-good_offer : goal.returns-else-not-good_offer
-returns-else-not-good_offer c = λ w m. check_bin _ w _ m _ _ _ _ c.good_request.ensures c.if-not-good_request.false c.get_maximum_aligned_size.ensures c.in-Fits.is c.good_offer.ensures c.if-not-good_offer.false c.bin_of.ensures
+pub returns : goal.returns
+returns c = λ w m. check_bin _ w _ m _ _ _ _ c.good_request.ensures c.if-not-good_request.false c.get_maximum_aligned_size.ensures (raised_some _ _ c.ok_or.ensures.value c.in_ok-size.was) c.good_offer.ensures c.if-not-good_offer.false c.bin_of.ensures

@@ -4,15 +4,9 @@ use Rattle.model.specs.Calls.{shared_tests}
 use Rattle.native_ms.proofs.Tests.{either_no, either_yes, neither}
 use Rattle.native_ms.proofs.checks.check_shared_release.Goals as goal
 
-pub may_release-requires : goal.may_release-requires
-may_release-requires c = tt
-
 pub returns-then-not-may_release : goal.returns-then-not-may_release
 unfolding shared_tests
 returns-then-not-may_release c = either_no WrongPhase _ c.may_release.ensures c.if-not-may_release.true
-
-pub has_released-requires : goal.has_released-requires
-has_released-requires c = tt
 
 pub returns-then-has_released : goal.returns-then-has_released
 unfolding shared_tests

@@ -14,17 +14,11 @@ returns-then-place-ne0 c = λ w m. object_odd _ _ _ _ c.in_heap-inside.ensures w
 pub returns-then-p-i : goal.returns-then-p-i
 returns-then-p-i c = λ w m. object_past _ _ _ _ c.in_heap-inside.ensures w m c.if-not-inside.false c.if-place-ne0.false c.if-p-i.true
 
-pub state-s-requires : goal.state-s-requires
-state-s-requires c = tt
-
 pub returns-then-s-eq-UNALLOCATED : goal.returns-then-s-eq-UNALLOCATED
 returns-then-s-eq-UNALLOCATED c = λ w m. object_none _ _ _ _ c.in_heap-inside.ensures w m c.if-not-inside.false c.if-place-ne0.false c.if-p-i.false c.state-s.ensures c.if-s-eq-UNALLOCATED.true
 
 pub minus_lower-a-requires : goal.minus_lower-a-requires
 minus_lower-a-requires c = let b = good_bounds c.args.p (c.requires) in let y = sym c.in_heap-inside.ensures ∙ c.if-not-inside.false in (c.requires, omega (arith, b.base_low, in_heap_low c.args.p _ y), omega (arith, b.end_high, in_heap_high c.args.p _ y))
-
-pub in_block-requires : goal.in_block-requires
-in_block-requires c = (c.requires, c.if-p-i.false)
 
 pub returns : goal.returns
 returns c = λ w m. object_at _ _ _ _ c.in_heap-inside.ensures w m c.if-not-inside.false c.if-place-ne0.false c.if-p-i.false c.state-s.ensures c.if-s-eq-UNALLOCATED.false c.minus_lower-a.ensures c.in_block.ensures

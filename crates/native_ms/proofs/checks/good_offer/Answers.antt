@@ -3,14 +3,11 @@ use Rattle.native_ms.proofs.AllocCall.{offer_none, offer_out, offer_in}
 use native.Mathlib.Omega.{arith}
 use Rattle.native_ms.proofs.checks.good_offer.Goals as goal
 
-pub state-state-requires : goal.state-state-requires
-state-state-requires c = omega (arith, c.requires, c.if-b-p.true)
-
 pub returns-then-b-p : goal.returns-then-b-p
-returns-then-b-p c = offer_in _ _ c.in-Fresh.is c.if-b-p.true c.state-state.ensures
+returns-then-b-p c = offer_in _ _ c.in-Some.is c.if-b-p.true c.state-state.ensures
 
-pub returns-in-Nothing : goal.returns-in-Nothing
-returns-in-Nothing c = offer_none _ _ c.in-Nothing.is
+pub returns-in-None : goal.returns-in-None
+returns-in-None c = offer_none _ _ c.in-None.is
 
 pub returns-else-b-p : goal.returns-else-b-p
-returns-else-b-p c = offer_out _ _ c.in-Fresh.is c.if-b-p.false
+returns-else-b-p c = offer_out _ _ c.in-Some.is c.if-b-p.false

@@ -3,14 +3,8 @@ use mathlib.Core.Path.{sym, ◌∙◌}
 use Rattle.native_ms.proofs.Tests.{fits_bad, fits_good}
 use Rattle.native_ms.proofs.checks.lent_fits.Goals as goal
 
-pub good_params-requires : goal.good_params-requires
-good_params-requires c = tt
-
 pub returns-then-not-good_params : goal.returns-then-not-good_params
 returns-then-not-good_params c = fits_bad _ _ _ _ _ c.good_params.ensures c.if-not-good_params.true
-
-pub lengths_fit-requires : goal.lengths_fit-requires
-lengths_fit-requires c = sym c.good_params.ensures ∙ c.if-not-good_params.false
 
 pub returns : goal.returns
 returns c = fits_good _ _ _ _ _ c.good_params.ensures c.if-not-good_params.false c.lengths_fit.ensures

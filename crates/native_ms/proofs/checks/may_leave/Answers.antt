@@ -2,9 +2,6 @@
 use Rattle.native_ms.proofs.SpaceCalls.{leave_running, leave_else}
 use Rattle.native_ms.proofs.checks.may_leave.Goals as goal
 
-pub phase-f-requires : goal.phase-f-requires
-phase-f-requires c = tt
-
 pub returns-then-f-eq-RUNNING : goal.returns-then-f-eq-RUNNING
 returns-then-f-eq-RUNNING c = leave_running _ c.phase-f.ensures c.if-f-eq-RUNNING.true
 

@@ -2,9 +2,6 @@
 use Rattle.native_ms.proofs.SpaceCalls.{may_marking, may_else}
 use Rattle.native_ms.proofs.checks.may_release.Goals as goal
 
-pub phase-f-requires : goal.phase-f-requires
-phase-f-requires c = tt
-
 pub returns-then-f-eq-MARKING : goal.returns-then-f-eq-MARKING
 returns-then-f-eq-MARKING c = may_marking _ c.phase-f.ensures c.if-f-eq-MARKING.true
 

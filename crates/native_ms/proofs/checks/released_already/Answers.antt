@@ -2,14 +2,8 @@
 use Rattle.native_ms.proofs.SpaceCalls.{already_none, already_holder}
 use Rattle.native_ms.proofs.checks.released_already.Goals as goal
 
-pub is_holder-requires : goal.is_holder-requires
-is_holder-requires c = tt
-
 pub returns-then-not-is_holder : goal.returns-then-not-is_holder
 returns-then-not-is_holder c = already_none _ _ c.is_holder.ensures c.if-not-is_holder.true
-
-pub has_released-requires : goal.has_released-requires
-has_released-requires c = tt
 
 pub returns : goal.returns
 returns c = already_holder _ _ c.is_holder.ensures c.if-not-is_holder.false c.has_released.ensures

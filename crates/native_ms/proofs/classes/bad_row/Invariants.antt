@@ -1,12 +1,8 @@
--- `classes::bad_row` meets its contract. The invariant: what remains from row n + 1 on is the whole. Leans on the laws of such walks.
-use mathlib.Core.Path.{◌≡◌}
-use Prim.Native.Nat.{◌+◌, ◌-◌, ◌≤◌}
-use Rattle.model.specs.Base.{least_from}
-use Rattle.model.specs.Classes.{is_bad_row}
+-- `classes::bad_row` meets its contract: the rows passed are fit.
+use Rattle.std.proofs.Common.{◌≡◌, true, ℕ, ◌<◌, get_or}
+use Rattle.model.specs.SizeClasses.{no_row}
+use Rattle.model.specs.Classes.{row_fits}
 use Rattle.native_ms.proofs.classes.bad_row.Given as goal
 
 abbrev pub invariant-loop-n : goal.invariant-loop-n
-invariant-loop-n l = (l.n ≤ l.count) × (least_from (l.count - l.n) (l.n + 1) (is_bad_row l.p) ≡ least_from l.count 1 (is_bad_row l.p))
-
-abbrev pub decreases-loop-n : goal.decreases-loop-n
-decreases-loop-n l = l.count - l.n
+invariant-loop-n l = (k : ℕ) → k < l.n → row_fits l.p (get_or l.p.rows k no_row) ≡ true

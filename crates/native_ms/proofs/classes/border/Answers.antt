@@ -2,21 +2,26 @@
 use native.Mathlib.Omega.{arith}
 use Rattle.native_ms.proofs.Borders.{level_later, level_ended, level_none, level_in}
 use Rattle.native_ms.proofs.classes.border.Goals as goal
+use Rattle.native_ms.proofs.classes.border.Goals.{then-row-eq0-via-then-row-eq0, then-row-eq0-via-else-row-eq0+then-row-at}
 
-pub returns-then-from-eq0 : goal.returns-then-from-eq0
-returns-then-from-eq0 c = record { past = c.requires; low = omega arith; level = level_none _ _ _ c.if-from-eq0.true }
+pub returns-then-at-row : goal.returns-then-at-row
+returns-then-at-row c = record { past = omega (arith, c.min.ensures); low = omega (arith, c.min.ensures); level = level_later _ _ _ (omega (arith, c.min.ensures)) c.if-at-row.true }
 
-pub returns-then-from-next : goal.returns-then-from-next
-returns-then-from-next c = record { past = c.if-at-from.true; low = omega arith; level = level_later _ _ _ (omega arith) c.if-at-from.true }
-
-pub returns-then-at-from : goal.returns-then-at-from
-returns-then-at-from c = record { past = c.requires; low = omega arith; level = level_later _ _ _ c.if-from-next.false c.if-at-from.true }
-
-pub returns-then-to-at : goal.returns-then-to-at
-returns-then-to-at c = record { past = c.requires; low = omega arith; level = level_ended _ _ _ c.if-to-at.true }
-
-pub returns-then-to-next : goal.returns-then-to-next
-returns-then-to-next c = record { past = omega (arith, c.if-to-at.false); low = omega (arith, c.if-to-next.true); level = level_in _ _ _ (omega (arith, c.if-from-eq0.false)) c.if-at-from.false c.if-to-at.false (omega arith) }
+pub returns-then-row-eq0 : goal.returns-then-row-eq0
+returns-then-row-eq0 c =
+    record {
+      past = c.requires;
+      low = omega arith;
+      level = elim c.then-row-eq0.branch [
+        | then-row-eq0-via-then-row-eq0 w ↦ level_none _ _ _ w.if-row-eq0.true
+        | then-row-eq0-via-else-row-eq0+then-row-at w ↦ level_ended _ _ _ w.if-row-at.true
+      ];
+    }
 
 pub returns : goal.returns
-returns c = record { past = c.requires; low = omega arith; level = level_in _ _ _ (omega (arith, c.if-from-eq0.false)) c.if-at-from.false c.if-to-at.false (omega (arith, c.if-to-next.false)) }
+returns c =
+    record {
+      past = omega (arith, c.min-2.ensures);
+      low = omega (arith, c.min-2.ensures);
+      level = level_in _ _ _ (omega (arith, c.if-row-eq0.false)) c.if-at-row.false c.if-row-at.false (omega (arith, c.min-2.ensures));
+    }

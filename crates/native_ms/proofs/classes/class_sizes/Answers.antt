@@ -6,9 +6,3 @@ use Rattle.native_ms.proofs.classes.class_sizes.Goals as goal
 pub returns-then-p-eq0 : goal.returns-then-p-eq0
 unfolding class_words fours
 returns-then-p-eq0 c = plain_sizes _ c.if-p-eq0.true
-
-pub row_sizes-requires : goal.row_sizes-requires
-row_sizes-requires c = (c.requires.0, c.requires.1, c.if-p-eq0.false)
-
-pub returns : goal.returns
-returns c = c.row_sizes.ensures

@@ -1,17 +1,10 @@
--- `free_chain::cell` is where a whole cell stands, which fits a word. Leans on `cell_fits`.
+-- `free_chain::cell` says where a whole cell stands, which fits a word. Leans on `cell_far`.
 use native.Mathlib.Omega.{arith}
-use Rattle.laws.proofs.Below.{and_left}
-use Rattle.native_ms.proofs.Chains.{cell_fits}
+use Rattle.native_ms.proofs.Chains.{cell_far}
 use Rattle.native_ms.proofs.free_chain.cell.Goals as goal
 
-pub start-from-requires : goal.start-from-requires
-start-from-requires c = and_left _ _ c.requires
+pub overflow_mul-result : goal.overflow_mul-result
+overflow_mul-result c = let a = c.args in omega (arith, cell_far a.p a.b.0 a.size a.i c.good_params.ensures c.if-good_params.true c.cell_count.ensures c.if-i-cell_count.true)
 
-pub overflow_mul-up : goal.overflow_mul-up
-overflow_mul-up c = let a = c.args in omega (arith, (cell_fits a.p a.b.0 a.size a.i (c.requires)).0)
-
-pub overflow_add-at : goal.overflow_add-at
-overflow_add-at c = let a = c.args in omega (arith, (cell_fits a.p a.b.0 a.size a.i (c.requires)).0, c.start-from.ensures)
-
-pub returns : goal.returns
-returns c = rw c.start-from.ensures
+pub overflow_add-result : goal.overflow_add-result
+overflow_add-result c = let a = c.args in omega (arith, cell_far a.p a.b.0 a.size a.i c.good_params.ensures c.if-good_params.true c.cell_count.ensures c.if-i-cell_count.true, c.start.ensures)

@@ -1,10 +1,9 @@
--- `free_counts::cells_of` meets its contract: the sum so far and that of the blocks to come are the whole. Assumes nothing.
+-- `free_counts::cells_of` meets its contract: the sum of the blocks passed. Assumes nothing.
+use Rattle.std.proofs.Common.{◌≡◌, ◌*◌, ◌≤◌}
+use Rattle.model.specs.Base.{sum_below}
 use Rattle.model.specs.Tables.{view}
-use Rattle.native_ms.proofs.FreeCountLaws.{Summed}
+use Rattle.native_ms.specs.FewCells.{cells_in}
 use Rattle.native_ms.proofs.free_counts.cells_of.Given as goal
 
-abbrev pub invariant-loop-left : goal.invariant-loop-left
-invariant-loop-left l = Summed (view l.words) l.bin l.initial.left l.left l.total
-
-abbrev pub decreases-loop-left : goal.decreases-loop-left
-decreases-loop-left l = l.left
+abbrev pub invariant-loop-b : goal.invariant-loop-b
+invariant-loop-b l = record { few : l.total ≤ l.b * 65536; sum : l.total ≡ sum_below l.b (cells_in (view l.words) l.bin) }

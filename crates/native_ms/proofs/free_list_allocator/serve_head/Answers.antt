@@ -5,9 +5,6 @@ use Rattle.native_ms.proofs.Ending.{head_cell, cell_at}
 use Rattle.native_ms.proofs.ShortWay.{taken_low}
 use Rattle.native_ms.proofs.free_list_allocator.serve_head.Goals as goal
 
-pub take_head-taken-requires : goal.take_head-taken-requires
-take_head-taken-requires c = c.requires.0
-
 pub align_allocation-address-requires : goal.align_allocation-address-requires
 align_allocation-address-requires c = (c.requires.1.align_from, c.requires.1.align_to, taken_low c.args.p (view c.args.words.now) c.requires.0 (cell_at c.args.p c.args.b.0 (view c.args.words.now) c.args.heap.now c.take_head-taken.ensures), c.requires.1.offset_low)
 

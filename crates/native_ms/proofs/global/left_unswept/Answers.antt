@@ -6,8 +6,5 @@ use Rattle.native_ms.proofs.global.left_unswept.Goals as goal
 pub returns-then-p : goal.returns-then-p
 returns-then-p c = waits_none _ _ _ _ c.if-p.true
 
-pub append-requires : goal.append-requires
-append-requires c = c.requires
-
 pub returns : goal.returns
 returns c = waits_append _ _ _ _ c.if-p.false (moves_words _ _ _ _ c.append.ensures)

@@ -1,18 +1,16 @@
 -- `global::mark` promises `call`: refused by its first tests, or its step on sound tables. Assumes nothing.
+use Rattle.std.proofs.lemmas.Result.{err_from_is_err_and}
 use Rattle.model.specs.Answers.{mark_reply}
 use Rattle.native_ms.proofs.Tests.{lent_refused, lent_passed, open_good}
 use mathlib.Core.Path.{refl, sym, ◌∙◌}
 use Rattle.native_ms.proofs.global.mark.Goals as goal
 
-pub check_lent-requires : goal.check_lent-requires
-check_lent-requires c = tt
-
 pub do_mark-requires : goal.do_mark-requires
-do_mark-requires c = open_good c.args.p _ _ _ _ (sym c.check_lent.ensures ∙ c.in-Passed.is)
+do_mark-requires c = open_good c.args.p _ _ _ _ (sym c.check_lent.ensures ∙ c.in_ok-check_lent.was)
 
-pub returns-in-Refused : goal.returns-in-Refused
+pub returns-in_err-check_lent : goal.returns-in_err-check_lent
 unfolding mark_reply
-returns-in-Refused c = lent_refused c.args.p _ _ _ _ _ c.check_lent.ensures c.in-Refused.is
+returns-in_err-check_lent c = let p = err_from_is_err_and c.from_residual.result c.from_residual.ensures.1 in rw (p.1, p.2) (lent_refused c.args.p _ _ _ _ _ c.check_lent.ensures c.in_err-check_lent.was)
 
-pub returns-in-Passed : goal.returns-in-Passed
-returns-in-Passed c = lent_passed c.args.p _ _ _ _ _ c.check_lent.ensures c.in-Passed.is refl (c.do_mark.ensures _)
+pub returns : goal.returns
+returns c = lent_passed c.args.p _ _ _ _ _ c.check_lent.ensures c.in_ok-check_lent.was refl (c.do_mark.ensures _)

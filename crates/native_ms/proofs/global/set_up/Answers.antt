@@ -4,9 +4,6 @@ use Rattle.native_ms.proofs.SpaceCalls.{bad_set_up, bad_rows, set_up_done}
 use Rattle.native_ms.proofs.Tests.{fit_parts}
 use Rattle.native_ms.proofs.global.set_up.Goals as goal
 
-pub lent_fits-requires : goal.lent_fits-requires
-lent_fits-requires c = tt
-
 pub returns-then-not-lent_fits : goal.returns-then-not-lent_fits
 unfolding reply_of
 returns-then-not-lent_fits c = bad_set_up _ _ _ _ _ c.lent_fits.ensures c.if-not-lent_fits.true
@@ -17,15 +14,6 @@ classes_fit-requires c = (fit_parts _ _ _ _ _ c.lent_fits.ensures c.if-not-lent_
 pub returns-then-not-classes_fit : goal.returns-then-not-classes_fit
 unfolding reply_of
 returns-then-not-classes_fit c = bad_rows _ _ _ _ _ c.lent_fits.ensures c.if-not-lent_fits.false c.classes_fit.ensures c.if-not-classes_fit.true
-
-pub clear_words-requires : goal.clear_words-requires
-clear_words-requires c = tt
-
-pub clear_all-requires : goal.clear_all-requires
-clear_all-requires c = tt
-
-pub clear_all-requires-2 : goal.clear_all-requires-2
-clear_all-requires-2 c = tt
 
 pub returns : goal.returns
 unfolding reply_of

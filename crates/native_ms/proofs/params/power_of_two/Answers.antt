@@ -1,22 +1,17 @@
-use mathlib.Core.Path.{refl, sym, ◌∙◌}
+use mathlib.Core.Path.{sym, ◌∙◌}
+use Prim.Native.Nat.{◌^◌}
+use lib.Dec.{eqb}
+use borrow.Author.Count.{below_more}
+use borrow.Author.Tests.{eq-eqb, ne_eqb}
 use native.Mathlib.Omega.{arith}
+use Rattle.std.proofs.lemmas.Nat.{one_shl}
 use Rattle.model.specs.Params.{power_of_two}
-use Rattle.laws.proofs.Good.{half_power, power_hit, power_miss}
-use Rattle.laws.proofs.Below.{any_none}
+use Rattle.laws.proofs.Below.{any_below_from}
 use Rattle.native_ms.proofs.params.power_of_two.Goals as goal
 
-pub loop-more-init : goal.loop-more-init
+pub loop-shift-preserved : goal.loop-shift-preserved
+loop-shift-preserved c = below_more _ _ c.loop-shift.invariant (ne_eqb _ _ (λ q. c.if-number-shift.false (q ∙ sym (one_shl c.loop-shift.shift 64 (omega arith)))))
+
+pub returns-then-number-shift : goal.returns-then-number-shift
 unfolding power_of_two
-loop-more-init c = (refl, refl)
-
-pub overflow_sub-more : goal.overflow_sub-more
-overflow_sub-more c = omega arith
-
-pub returns-then-number-power : goal.returns-then-number-power
-returns-then-number-power c = sym (sym c.loop-more.invariant.1 ∙ power_hit _ _ _ c.loop-more-test.true c.loop-more.invariant.0 c.if-number-power.true)
-
-pub loop-more-preserved : goal.loop-more-preserved
-loop-more-preserved c = (half_power _ _ c.loop-more-test.true c.loop-more.invariant.0, power_miss _ _ _ c.loop-more-test.true c.loop-more.invariant.0 c.if-number-power.false ∙ c.loop-more.invariant.1)
-
-pub returns : goal.returns
-returns c = sym (any_none _ _ c.loop-more-test.false) ∙ c.loop-more.invariant.1
+returns-then-number-shift c = sym (any_below_from 17 (λ j. eqb c.args.number (2 ^ j)) c.loop-shift.shift c.loop-shift-test.true (eq-eqb _ _ (c.if-number-shift.true ∙ one_shl c.loop-shift.shift 64 (omega arith))))

@@ -1,9 +1,9 @@
 -- `run::entry_at` reads what six words ask: a law for each kind. Assumes nothing.
+use Rattle.std.specs.Prelude.{Some, Option}
 use mathlib.Core.Path.{refl, ap, ◌∙◌}
-use mathlib.Core.Option.{some}
 use Prim.Native.Nat.{◌+◌}
 use lib.ListN.{get_or}
-use Rattle.model.specs.declared.Offer.{Offer}
+use Rattle.model.specs.declared.Block.{Block}
 use Rattle.model.specs.Calls.{alloc}
 use Rattle.model.specs.Answers.{call_of}
 use Rattle.native_ms.specs.RunLoop.{entry_call}
@@ -20,7 +20,7 @@ returns-in-2 c = kind_is c.args.calls.now c.args.i 2 c.in-2.is
 
 pub returns-in-3 : goal.returns-in-3
 unfolding entry_call call_of
-returns-in-3 c = ap (λ (offer : Offer). some (alloc (get_or c.args.calls.now (c.args.i + 1) 0) (get_or c.args.calls.now (c.args.i + 2) 0) (get_or c.args.calls.now (c.args.i + 3) 0) (get_or c.args.calls.now (c.args.i + 4) 0) offer)) c.offered.ensures ∙ kind_is c.args.calls.now c.args.i 3 c.in-3.is
+returns-in-3 c = ap (λ (offer : Option Block). Some (alloc (get_or c.args.calls.now (c.args.i + 1) 0) (get_or c.args.calls.now (c.args.i + 2) 0) (get_or c.args.calls.now (c.args.i + 3) 0) (get_or c.args.calls.now (c.args.i + 4) 0) offer)) c.offered.ensures ∙ kind_is c.args.calls.now c.args.i 3 c.in-3.is
 
 pub returns-in-4 : goal.returns-in-4
 unfolding entry_call call_of

@@ -29,32 +29,32 @@ do_shared_release-requires c = open_known c.args.p _ _ _ _ c.requires
 
 pub returns-in-Bind : goal.returns-in-Bind
 unfolding call_of
-returns-in-Bind c = call_made c.args.p _ _ _ _ c.requires c.in-Bind.is c.do_bind.auto.w (c.do_bind.ensures _ _ _ _) c.simple_said.ensures
+returns-in-Bind c = call_made c.args.p _ _ _ _ c.requires c.in-Bind.is c.do_bind.auto.w (c.do_bind.ensures _ _ _ _) c.from.ensures
 
 pub returns-in-Destroy : goal.returns-in-Destroy
 unfolding call_of
-returns-in-Destroy c = call_made c.args.p _ _ _ _ c.requires c.in-Destroy.is c.do_destroy.auto.w (c.do_destroy.ensures _ _ _) c.destroy_said.ensures
+returns-in-Destroy c = call_made c.args.p _ _ _ _ c.requires c.in-Destroy.is c.do_destroy.auto.w (c.do_destroy.ensures _ _ _) c.from-in-Destroy.ensures
 
 pub returns-in-Ends : goal.returns-in-Ends
 unfolding call_of
-returns-in-Ends c = call_made c.args.p _ _ _ _ c.requires c.in-Alloc.is c.alloc_short.auto.words (c.alloc_short.ensures.ends _ c.in-Ends.is _) c.alloc_said.ensures
+returns-in-Ends c = call_made c.args.p _ _ _ _ c.requires c.in-Alloc.is c.alloc_short.auto.words (c.alloc_short.ensures.ends _ c.in-Ends.is _) c.from-in-Ends.ensures
 
 pub returns-in-Searches : goal.returns-in-Searches
 unfolding call_of
-returns-in-Searches c = call_made c.args.p _ _ _ _ c.requires c.in-Alloc.is (c.alloc_searched.auto.words ∙ c.alloc_short.auto.words) (short_then c.args.p c.args.states.now c.args.marks.now _ (c.alloc_short.ensures.words _ c.in-Searches.is) (c.alloc_short.ensures.heap _ c.in-Searches.is) c.alloc_searched.ensures) c.alloc_said-in-Searches.ensures
+returns-in-Searches c = call_made c.args.p _ _ _ _ c.requires c.in-Alloc.is (c.alloc_searched.auto.words ∙ c.alloc_short.auto.words) (short_then c.args.p c.args.states.now c.args.marks.now _ (c.alloc_short.ensures.words _ c.in-Searches.is) (c.alloc_short.ensures.heap _ c.in-Searches.is) c.alloc_searched.ensures) c.from-in-Searches.ensures
 
 pub returns-in-Prepare : goal.returns-in-Prepare
 unfolding call_of
-returns-in-Prepare c = call_made c.args.p _ _ _ _ c.requires c.in-Prepare.is c.do_prepare.auto.w (c.do_prepare.ensures _ _) c.simple_said-in-Prepare.ensures
+returns-in-Prepare c = call_made c.args.p _ _ _ _ c.requires c.in-Prepare.is c.do_prepare.auto.w (c.do_prepare.ensures _ _) c.from-in-Prepare.ensures
 
 pub returns-in-Mark : goal.returns-in-Mark
 unfolding call_of
-returns-in-Mark c = call_made c.args.p _ _ _ _ c.requires c.in-Mark.is refl (c.do_mark.ensures _) c.mark_said.ensures
+returns-in-Mark c = call_made c.args.p _ _ _ _ c.requires c.in-Mark.is refl (c.do_mark.ensures _) c.from-in-Mark.ensures
 
 pub returns-in-Release : goal.returns-in-Release
 unfolding call_of
-returns-in-Release c = call_made c.args.p _ _ _ _ c.requires c.in-Release.is c.do_release.auto.w c.do_release.ensures c.release_said.ensures
+returns-in-Release c = call_made c.args.p _ _ _ _ c.requires c.in-Release.is c.do_release.auto.w c.do_release.ensures c.from-in-Release.ensures
 
 pub returns-in-SharedRelease : goal.returns-in-SharedRelease
 unfolding call_of
-returns-in-SharedRelease c = call_made c.args.p _ _ _ _ c.requires c.in-SharedRelease.is c.do_shared_release.auto.w c.do_shared_release.ensures c.release_said-in-SharedRelease.ensures
+returns-in-SharedRelease c = call_made c.args.p _ _ _ _ c.requires c.in-SharedRelease.is c.do_shared_release.auto.w c.do_shared_release.ensures c.from-in-SharedRelease.ensures

@@ -2,8 +2,8 @@
 use Rattle.native_ms.proofs.RunLaws.{refuse_asks, refuse_none}
 use Rattle.native_ms.proofs.run.refuse_entry.Goals as goal
 
-pub returns-in-Asks : goal.returns-in-Asks
-returns-in-Asks c = refuse_asks c.args.refusal c.in-Asks.is c.refusal_said.ensures
+pub returns-in-Some : goal.returns-in-Some
+returns-in-Some c = refuse_asks c.args.refusal c.in-Some.is c.from.ensures
 
-pub returns-in-Bad : goal.returns-in-Bad
-returns-in-Bad c = refuse_none c.args.refusal c.in-Bad.is c.refusal_said-in-Bad.ensures
+pub returns-in-None : goal.returns-in-None
+returns-in-None c = refuse_none c.args.refusal c.in-None.is c.from-in-None.ensures

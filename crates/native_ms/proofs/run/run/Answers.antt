@@ -14,13 +14,10 @@ pub returns-then-room-count : goal.returns-then-room-count
 unfolding reply_of
 returns-then-room-count c = run_room c.args.p (lend c.args.words.now c.args.states.now c.args.marks.now c.args.heap.now) c.args.calls.now c.args.answers.now c.if-length-ne0.false c.if-room-count.true
 
-pub run_passed-requires : goal.run_passed-requires
-run_passed-requires c = (sym c.check_lent.ensures ∙ c.in-Passed.is, omega arith, omega (arith, c.if-room-count.false))
-
-pub returns-in-Refused : goal.returns-in-Refused
+pub returns-in-Err : goal.returns-in-Err
 unfolding reply_of
-returns-in-Refused c = run_refused c.args.p c.args.words.now c.args.states.now c.args.marks.now c.args.heap.now c.args.calls.now c.args.answers.now _ c.if-length-ne0.false c.if-room-count.false c.check_lent.ensures c.in-Refused.is c.run_refused.ensures
+returns-in-Err c = run_refused c.args.p c.args.words.now c.args.states.now c.args.marks.now c.args.heap.now c.args.calls.now c.args.answers.now _ c.if-length-ne0.false c.if-room-count.false c.check_lent.ensures c.in-Err.is c.run_refused.ensures
 
-pub returns-in-Passed : goal.returns-in-Passed
+pub returns-in-Ok : goal.returns-in-Ok
 unfolding reply_of
-returns-in-Passed c = run_done c.args.p (lend c.args.words.now c.args.states.now c.args.marks.now c.args.heap.now) c.args.calls.now c.args.answers.now c.if-length-ne0.false c.if-room-count.false c.run_passed.ensures
+returns-in-Ok c = run_done c.args.p (lend c.args.words.now c.args.states.now c.args.marks.now c.args.heap.now) c.args.calls.now c.args.answers.now c.if-length-ne0.false c.if-room-count.false c.run_passed.ensures

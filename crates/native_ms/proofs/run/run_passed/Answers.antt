@@ -1,5 +1,5 @@
+use Rattle.std.specs.Prelude.{◌≡◌, ◌-◌, ◌*◌, Option}
 use mathlib.Core.Path.{refl, sym, ap, ◌∙◌}
-use mathlib.Core.Option.{Option}
 use native.Mathlib.Omega.{arith}
 use Rattle.model.specs.Calls.{Call}
 use Rattle.model.specs.Answers.{outcome_of}
@@ -8,47 +8,19 @@ use Rattle.model.specs.RunCalls.{call_at, made}
 use Rattle.native_ms.proofs.RunLaws.{passed_kept, round, round_end}
 use Rattle.native_ms.proofs.run.run_passed.Goals as goal
 
-pub loop-left-init : goal.loop-left-init
-loop-left-init c = (refl, refl, refl, refl, refl, c.requires.0, omega (arith, c.requires.1), omega (arith, c.requires.2), omega arith, refl)
+pub loop-i-init : goal.loop-i-init
+loop-i-init c = let z : c.args.count - 0 ≡ c.args.count = omega arith in record { answers = refl; words = refl; states = refl; marks = refl; heap = refl; passes = c.requires.0; whole = rw z refl }
 
-pub entry_at-requires : goal.entry_at-requires
-entry_at-requires c = omega (arith, c.loop-left.invariant.6, c.loop-left-test.true)
-
-pub make_entry-said-requires : goal.make_entry-said-requires
-make_entry-said-requires c = c.loop-left.invariant.5
-
-pub put_said-requires : goal.put_said-requires
-put_said-requires c = omega (arith, c.loop-left.invariant.0, c.loop-left.invariant.7, c.loop-left-test.true)
-
-pub overflow_add-from : goal.overflow_add-from
-overflow_add-from c = omega (arith, c.loop-left.invariant.6, c.loop-left-test.true)
-
-pub overflow_add-to : goal.overflow_add-to
-overflow_add-to c = omega (arith, c.loop-left.invariant.6, c.loop-left.invariant.8, c.loop-left-test.true)
-
-pub overflow_sub-left : goal.overflow_sub-left
-overflow_sub-left c = omega (arith, c.loop-left-test.true)
-
-pub loop-left-smaller : goal.loop-left-smaller
-loop-left-smaller c = omega (arith, c.loop-left-test.true)
-
-pub loop-left-preserved : goal.loop-left-preserved
-loop-left-preserved c = (c.put_said.auto.answers ∙ c.loop-left.invariant.0, c.make_entry-said.auto.words ∙ c.loop-left.invariant.1, c.make_entry-said.auto.states ∙ c.loop-left.invariant.2, c.make_entry-said.auto.marks ∙ c.loop-left.invariant.3, c.make_entry-said.auto.heap ∙ c.loop-left.invariant.4, passed_kept c.args.p c.loop-left.words c.loop-left.states c.loop-left.marks c.loop-left.heap c.loop-left.invariant.5 (call_at c.args.calls.now c.loop-left.from) c.make_entry-said.auto.words c.make_entry-said.auto.states c.make_entry-said.auto.marks c.make_entry-said.auto.heap (c.make_entry-said.ensures ∙ ap (λ (e : Option Call). outcome_of (made c.args.p (lend c.loop-left.words c.loop-left.states c.loop-left.marks c.loop-left.heap) e)) c.entry_at.ensures), omega (arith, c.loop-left.invariant.6, c.loop-left-test.true), omega (arith, c.loop-left.invariant.7, c.loop-left-test.true), omega (arith, c.loop-left.invariant.8), round c.args.p c.args.calls.now c.loop-left.left c.loop-left.from c.loop-left.to c.loop-left.answers (lend c.loop-left.words c.loop-left.states c.loop-left.marks c.loop-left.heap) c.loop-left-test.true (c.make_entry-said.ensures ∙ ap (λ (e : Option Call). outcome_of (made c.args.p (lend c.loop-left.words c.loop-left.states c.loop-left.marks c.loop-left.heap) e)) c.entry_at.ensures) c.put_said.ensures ∙ c.loop-left.invariant.9)
-
-pub shape_of-answers : goal.shape_of-answers
-shape_of-answers c = c.loop-left.invariant.0
-
-pub shape_of-words : goal.shape_of-words
-shape_of-words c = c.loop-left.invariant.1
-
-pub shape_of-states : goal.shape_of-states
-shape_of-states c = c.loop-left.invariant.2
-
-pub shape_of-marks : goal.shape_of-marks
-shape_of-marks c = c.loop-left.invariant.3
-
-pub shape_of-heap : goal.shape_of-heap
-shape_of-heap c = c.loop-left.invariant.4
+pub loop-i-preserved : goal.loop-i-preserved
+loop-i-preserved c = record {
+  answers = c.put_said.auto.answers ∙ c.loop-i.invariant.answers;
+  words = c.make_entry-said.auto.words ∙ c.loop-i.invariant.words;
+  states = c.make_entry-said.auto.states ∙ c.loop-i.invariant.states;
+  marks = c.make_entry-said.auto.marks ∙ c.loop-i.invariant.marks;
+  heap = c.make_entry-said.auto.heap ∙ c.loop-i.invariant.heap;
+  passes = passed_kept c.args.p c.loop-i.words c.loop-i.states c.loop-i.marks c.loop-i.heap c.loop-i.invariant.passes (call_at c.args.calls.now (6 * c.loop-i.i)) c.make_entry-said.auto.words c.make_entry-said.auto.states c.make_entry-said.auto.marks c.make_entry-said.auto.heap (c.make_entry-said.ensures ∙ ap (λ (e : Option Call). outcome_of (made c.args.p (lend c.loop-i.words c.loop-i.states c.loop-i.marks c.loop-i.heap) e)) c.entry_at-entry.ensures);
+  whole = round c.args.p c.args.calls.now c.args.count c.loop-i.i c.loop-i.answers (lend c.loop-i.words c.loop-i.states c.loop-i.marks c.loop-i.heap) c.loop-i-test.true (c.make_entry-said.ensures ∙ ap (λ (e : Option Call). outcome_of (made c.args.p (lend c.loop-i.words c.loop-i.states c.loop-i.marks c.loop-i.heap) e)) c.entry_at-entry.ensures) c.put_said.ensures ∙ c.loop-i.invariant.whole;
+}
 
 pub returns : goal.returns
-returns c = sym (round_end c.args.p c.args.calls.now c.loop-left.left c.loop-left.from c.loop-left.to c.loop-left.answers (lend c.loop-left.words c.loop-left.states c.loop-left.marks c.loop-left.heap) c.loop-left-test.false) ∙ c.loop-left.invariant.9
+returns c = sym (round_end c.args.p c.args.calls.now c.args.count c.loop-i.i (6 * c.loop-i.i) (5 * c.loop-i.i) c.loop-i.answers (lend c.loop-i.words c.loop-i.states c.loop-i.marks c.loop-i.heap) c.loop-i-test.false) ∙ c.loop-i.invariant.whole

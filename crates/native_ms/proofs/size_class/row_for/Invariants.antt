@@ -1,12 +1,7 @@
--- `size_class::row_for` meets its contract. The invariant: what remains from row n + 1 on is the whole. Leans on the laws of such walks.
-use mathlib.Core.Path.{◌≡◌}
-use Prim.Native.Nat.{◌+◌, ◌-◌, ◌≤◌}
-use Rattle.model.specs.Base.{least_from}
-use Rattle.native_ms.proofs.Borders.{in_row}
+-- `size_class::row_for` meets its contract: the words fall in none of the rows passed.
+use Rattle.std.proofs.Common.{◌≡◌, false, ℕ, ◌<◌, get_or}
+use Rattle.model.specs.SizeClasses.{no_row, covers}
 use Rattle.native_ms.proofs.size_class.row_for.Given as goal
 
 abbrev pub invariant-loop-n : goal.invariant-loop-n
-invariant-loop-n l = (l.n ≤ l.count) × (least_from (l.count - l.n) (l.n + 1) (in_row l.rows l.words) ≡ least_from l.count 1 (in_row l.rows l.words))
-
-abbrev pub decreases-loop-n : goal.decreases-loop-n
-decreases-loop-n l = l.count - l.n
+invariant-loop-n l = (k : ℕ) → k < l.n → covers (get_or l.p.rows k no_row) l.words ≡ false

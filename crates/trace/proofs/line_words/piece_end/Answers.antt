@@ -1,15 +1,15 @@
-use mathlib.Core.Path.{refl, ◌∙◌}
-use Rattle.laws.proofs.Text.{end_here, end_later, end_out}
+-- `piece_end` meets its contract. Leans on the laws of pieces.
+use native.Mathlib.Omega.{arith}
+use lib.ListN.{drop, length-drop}
+use Rattle.model.specs.Text.{piece_end}
+use Rattle.laws.proofs.Text.{until_le}
 use Rattle.trace.proofs.line_words.piece_end.Goals as goal
 
-pub loop-i-init : goal.loop-i-init
-loop-i-init c = refl
-
-pub returns-then-s-i : goal.returns-then-s-i
-returns-then-s-i c = end_here _ _ _ c.loop-i-test.true c.if-s-i.true ∙ c.loop-i.invariant
-
-pub loop-i-preserved : goal.loop-i-preserved
-loop-i-preserved c = end_later _ _ _ c.loop-i-test.true c.if-s-i.false ∙ c.loop-i.invariant
+pub overflow_add-result : goal.overflow_add-result
+overflow_add-result c =
+    let e = rw c.from.ensures at c.until.ensures in
+    omega (arith, e, until_le c.args.sep (drop c.args.at c.args.s.now), length-drop c.args.at c.args.s.now)
 
 pub returns : goal.returns
-returns c = end_out _ _ _ c.loop-i-test.false ∙ c.loop-i.invariant
+unfolding piece_end
+returns c = rw (c.until.ensures, c.from.ensures)

@@ -1,13 +1,13 @@
 -- `offer` meets its contract. Leans on the laws of offers.
-use mathlib.Core.Path.{sym, ◌∙◌}
-use Rattle.trace.proofs.LineLaws.{offer_dash, offer_block, offer_bad}
+use mathlib.Core.Path.{◌∙◌}
+use Rattle.trace.proofs.LineLaws.{word_tested, offer_dash, offer_block, offer_bad}
 use Rattle.trace.proofs.lines.offer.Goals as goal
 
-pub returns-then-letter-eq45 : goal.returns-then-letter-eq45
-returns-then-letter-eq45 c = offer_dash _ (sym c.letter.ensures ∙ c.if-letter-eq45.true)
+pub returns-then-eq : goal.returns-then-eq
+returns-then-eq c = offer_dash _ (word_tested 45 _ c.letter.ensures c.eq.ensures c.if-eq.true)
 
-pub returns-in_default : goal.returns-in_default
-returns-in_default c = offer_bad _ _ (λ e. c.if-letter-eq45.false (c.letter.ensures ∙ e)) c.parse.ensures c.in_default.is
+pub returns-in_err-block : goal.returns-in_err-block
+returns-in_err-block c = c.from_residual.ensures ∙ offer_bad _ _ (word_tested 45 _ c.letter.ensures c.eq.ensures c.if-eq.false) c.parse.ensures c.in_err-block.was
 
 pub returns : goal.returns
-returns c = offer_block _ _ _ (λ e. c.if-letter-eq45.false (c.letter.ensures ∙ e)) c.parse.ensures c.in-Value.is
+returns c = offer_block _ _ _ (word_tested 45 _ c.letter.ensures c.eq.ensures c.if-eq.false) c.parse.ensures c.in_ok-block.was

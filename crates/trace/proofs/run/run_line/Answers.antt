@@ -4,7 +4,7 @@ use Rattle.trace.proofs.RunLaws.{ran_call, ran_bad}
 use Rattle.trace.proofs.run.run_line.Goals as goal
 
 pub returns-in_default : goal.returns-in_default
-returns-in_default c = ran_bad _ c.in_default.is c.refusal_number.ensures
+returns-in_default c = ran_bad _ c.in_default.is c.from.ensures
 
 pub returns : goal.returns
-returns c = ran_call c.params-p.ensures c.in-Asks.is c.perform-s.ensures refl
+returns c = ran_call c.params.ensures c.in-Some.is c.perform.ensures refl

@@ -1,17 +1,8 @@
-use mathlib.Core.Path.{refl, ◌∙◌}
-use native.Mathlib.Omega.{arith}
-use lib.ListN.{length-set}
-use Rattle.laws.proofs.Memory.{zeros_round, zeros_end}
+-- `fill` meets its contract: zeros in the slice of the places. Assumes nothing.
+use mathlib.Core.Path.{◌∙◌}
+use lib.ListN.{length-replicate}
+use Rattle.words.proofs.Written.{part_over, zeros_in_part}
 use Rattle.words.proofs.bytes.fill.Goals as goal
 
-pub loop-more-init : goal.loop-more-init
-loop-more-init c = (refl, c.requires, refl)
-
-pub loop-more-preserved : goal.loop-more-preserved
-loop-more-preserved c = (simp length-set c.loop-more.invariant.0, omega (arith, c.loop-more.invariant.1, c.loop-more-test.true), zeros_round _ _ _ c.loop-more-test.true ∙ c.loop-more.invariant.2)
-
-pub shape_of-h : goal.shape_of-h
-shape_of-h c = c.loop-more.invariant.0
-
 pub returns : goal.returns
-returns c = zeros_end _ _ _ c.loop-more-test.false ∙ c.loop-more.invariant.2
+returns c = let a = c.args in part_over a.i a.n a.h.now c.requires (c.fill.ensures.after (λ y e. e) ∙ zeros_in_part a.i a.n a.h.now c.requires) (length-replicate a.n 0)

@@ -1,6 +1,6 @@
 use Prim.Native.Nat.{◌+◌, ◌-◌}
 use native.Mathlib.Omega.{arith}
-use Rattle.laws.proofs.Memory.{read_start, read_round, read_end, read_room}
+use Rattle.laws.proofs.Memory.{read_start, read_round, read_room}
 use Rattle.words.proofs.bytes.read.Goals as goal
 
 pub loop-more-init : goal.loop-more-init
@@ -9,17 +9,8 @@ loop-more-init c = read_start _ _ _
 pub overflow_mul-value : goal.overflow_mul-value
 overflow_mul-value c = omega (arith, read_room _ _ _ _ _ c.loop-more.invariant c.loop-more-test.true c.requires.1)
 
-pub overflow_add-i : goal.overflow_add-i
-overflow_add-i c = omega (arith, c.loop-more.invariant.left, c.requires.0)
-
-pub bounds-h-i : goal.bounds-h-i
-bounds-h-i c = omega (arith, c.loop-more.invariant.left, c.requires.0)
-
 pub overflow_add-value : goal.overflow_add-value
-overflow_add-value c = omega (arith, read_room _ _ _ _ _ c.loop-more.invariant c.loop-more-test.true c.requires.1, c.wide.ensures, c.type_inv.h (c.args.i + (c.loop-more.more - 1)))
+overflow_add-value c = omega (arith, read_room _ _ _ _ _ c.loop-more.invariant c.loop-more-test.true c.requires.1, c.from.ensures, c.type_inv.h (c.args.i + (c.loop-more.more - 1)))
 
 pub loop-more-preserved : goal.loop-more-preserved
-loop-more-preserved c = read_round _ _ _ _ _ c.loop-more.invariant _ c.loop-more-test.true c.wide.ensures (omega (arith, c.wide.ensures, c.type_inv.h (c.args.i + (c.loop-more.more - 1))))
-
-pub returns : goal.returns
-returns c = read_end _ _ _ _ _ c.loop-more.invariant c.loop-more-test.false
+loop-more-preserved c = read_round _ _ _ _ _ c.loop-more.invariant _ c.loop-more-test.true c.from.ensures (omega (arith, c.from.ensures, c.type_inv.h (c.args.i + (c.loop-more.more - 1))))

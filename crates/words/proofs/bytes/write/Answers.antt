@@ -1,17 +1,9 @@
-use mathlib.Core.Path.{refl, ◌∙◌}
-use native.Mathlib.Omega.{arith}
-use lib.ListN.{length-set}
-use Rattle.laws.proofs.Memory.{bytes_of_round, bytes_of_end}
+-- `write` meets its contract: the low bytes of the word, in the slice of the places. Leans on the laws of bytes; assumes nothing.
+use mathlib.Core.Path.{ap, ◌∙◌}
+use lib.ListN.{take}
+use Rattle.laws.proofs.Memory.{length_bytes_of}
+use Rattle.words.proofs.Written.{part_over, word_bytes}
 use Rattle.words.proofs.bytes.write.Goals as goal
 
-pub loop-more-init : goal.loop-more-init
-loop-more-init c = (refl, c.requires, refl)
-
-pub loop-more-preserved : goal.loop-more-preserved
-loop-more-preserved c = (simp length-set c.loop-more.invariant.0, omega (arith, c.loop-more.invariant.1, c.loop-more-test.true), bytes_of_round _ _ _ _ c.loop-more-test.true ∙ c.loop-more.invariant.2)
-
-pub shape_of-h : goal.shape_of-h
-shape_of-h c = c.loop-more.invariant.0
-
 pub returns : goal.returns
-returns c = bytes_of_end _ _ _ _ c.loop-more-test.false ∙ c.loop-more.invariant.2
+returns c = let a = c.args in part_over a.i a.n a.h.now c.requires.0 (c.copy_from_slice.ensures.after ∙ ap (take a.n) c.to_le_bytes.ensures ∙ word_bytes a.n a.v c.requires.1) (length_bytes_of a.n a.v)

@@ -1,10 +1,9 @@
--- `test` meets its contract. Leans on the laws of shift and mask; assumes nothing.
+-- `test` meets its contract: past the end a byte reads as 0. Assumes nothing.
 use Prim.Native.Nat.{◌/◌, ◌%◌}
-use Rattle.words.proofs.Shift.{test_by_mask, test_out}
+use mathlib.Core.Path.{◌∙◌}
+use borrow.Author.Tests.{le-ltb}
+use Rattle.words.proofs.Shift.{test_out}
 use Rattle.words.proofs.marks.test.Goals as goal
 
-pub returns-then-i-m : goal.returns-then-i-m
-returns-then-i-m c = test_by_mask _ _
-
-pub returns : goal.returns
-returns c = test_out c.args.m.now (c.args.g / 8) (c.args.g % 8) c.if-i-m.false
+pub returns-else-g-m : goal.returns-else-g-m
+returns-else-g-m c = le-ltb _ _ c.if-g-m.false ∙ test_out c.args.m.now (c.args.g / 8) (c.args.g % 8) c.if-g-m.false

@@ -1,9 +1,8 @@
--- `known::set_size` writes its block's word, and nothing where there is no such block. Assumes nothing.
-use Rattle.native_ms.proofs.BlockWords.{size_put, size_left}
+-- `known::set_size` writes its block's word. Leans on the laws of tables; assumes nothing.
+use Rattle.model.specs.Tables.{put_size}
+use Rattle.laws.proofs.Tables.{put_size_lem}
 use Rattle.native_ms.proofs.block.known.set_size.Goals as goal
 
-pub returns-then-i-blocks : goal.returns-then-i-blocks
-returns-then-i-blocks c = size_put _ c.requires _ c.if-i-blocks.true _
-
-pub returns-else-i-blocks : goal.returns-else-i-blocks
-returns-else-i-blocks c = size_left _ c.requires _ _ c.if-i-blocks.false
+pub returns : goal.returns
+unfolding put_size
+returns c = put_size_lem _ _ _ c.set_word.ensures

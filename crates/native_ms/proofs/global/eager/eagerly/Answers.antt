@@ -1,6 +1,5 @@
 -- `eager::eagerly` is `eagerly`, its sweeps counted and made: nothing with the choice off, nothing before the last part. Assumes nothing.
 use native.Mathlib.Omega.{arith}
-use mathlib.Core.Path.{◌∙◌}
 use borrow.Author.Tests.{not-true, not-false}
 use Rattle.native_ms.proofs.Offsets.{words_known}
 use Rattle.native_ms.proofs.EagerLaws.{eager_off, eager_early, eager_last}
@@ -14,21 +13,6 @@ is_last-requires c = (omega (arith, words_known _ c.requires.0.count), c.require
 
 pub returns-then-not-is_last : goal.returns-then-not-is_last
 returns-then-not-is_last c = eager_early _ _ _ _ _ _ (not-false _ c.if-not-p.false) c.is_last.ensures c.if-not-is_last.true
-
-pub sweep_all-swept-requires : goal.sweep_all-swept-requires
-sweep_all-swept-requires c = c.requires.0
-
-pub recycle_blocks-requires : goal.recycle_blocks-requires
-recycle_blocks-requires c = (c.requires.0.good, omega arith)
-
-pub recycle_blocks-requires-2 : goal.recycle_blocks-requires-2
-recycle_blocks-requires-2 c = (c.requires.0.good, omega arith)
-
-pub shape_of-w : goal.shape_of-w
-shape_of-w c = c.recycle_blocks-2.auto.w ∙ c.recycle_blocks.auto.w ∙ c.sweep_all-swept.auto.w
-
-pub shape_of-heap : goal.shape_of-heap
-shape_of-heap c = c.sweep_all-swept.auto.heap
 
 pub returns : goal.returns
 returns c = eager_last _ _ _ _ _ _ (not-false _ c.if-not-p.false) c.is_last.ensures c.if-not-is_last.false c.sweep_all-swept.ensures c.recycle_blocks.ensures c.recycle_blocks-2.ensures

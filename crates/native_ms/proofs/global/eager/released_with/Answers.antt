@@ -5,8 +5,5 @@ use Rattle.native_ms.proofs.global.eager.released_with.Goals as goal
 pub returns-then-part-last : goal.returns-then-part-last
 returns-then-part-last c = with_last _ _ _ c.requires.0 c.requires.1 c.if-part-last.true
 
-pub has_released-requires : goal.has_released-requires
-has_released-requires c = tt
-
-pub returns : goal.returns
-returns c = with_other _ _ _ c.if-part-last.false c.has_released.ensures
+pub returns-else-part-last : goal.returns-else-part-last
+returns-else-part-last c = with_other _ _ _ c.if-part-last.false c.has_released.ensures

@@ -1,7 +1,6 @@
 -- `eager::sweep_all` is `sweep_all`. The invariant: the blocks passed are swept and counted. Assumes nothing.
-use Prim.Native.Nat.{◌-◌, ◌≤◌}
+use Prim.Native.Nat.{◌≤◌}
 use mathlib.Core.Path.{◌≡◌}
-use lib.ListN.{length}
 use Rattle.model.specs.Base.{each_below}
 use Rattle.model.specs.Tables.{view}
 use Rattle.model.specs.Global.{freed, sweep_block}
@@ -9,7 +8,7 @@ use Rattle.native_ms.specs.Eager.{done, swept_in}
 use Rattle.native_ms.proofs.global.eager.sweep_all.Given as goal
 
 abbrev pub invariant-loop-number : goal.invariant-loop-number
-invariant-loop-number l = (length l.w ≡ length l.initial.w) × (length l.heap ≡ length l.initial.heap) × (l.number ≤ l.p.blocks) × (l.swept ≤ l.number) × (done l.swept (view l.w) l.heap ≡ swept_in l.p l.initial.heap (each_below l.number (sweep_block l.p l.m) (freed (view l.initial.w) l.st)))
-
-abbrev pub decreases-loop-number : goal.decreases-loop-number
-decreases-loop-number l = l.p.blocks - l.number
+invariant-loop-number l = record {
+  few : l.swept ≤ l.number;
+  same : done l.swept (view l.w) l.heap ≡ swept_in l.p l.initial.heap (each_below l.number (sweep_block l.p l.m) (freed (view l.initial.w) l.st));
+}

@@ -1,14 +1,8 @@
--- `eager::eager_ok` meets its contract: the blocks passed are as the choice asks, and those to come decide. Assumes nothing.
-use Prim.Native.Nat.{ℕ, ◌≤◌}
-use mathlib.Core.Path.{◌≡◌}
-use mathlib.Core.List.{List}
-use Rattle.model.specs.Base.{all_below}
+-- `eager::eager_ok` meets its contract: each block passed is as the choice asks. Assumes nothing.
+use Rattle.std.proofs.Common.{◌≡◌, true, List, ℕ, ◌<◌}
 use Rattle.model.specs.Tables.{view, tables_of}
 use Rattle.model.specs.Sound.{eager_block}
 use Rattle.native_ms.proofs.sound.eager.eager_ok.Given as goal
 
-abbrev pub invariant-loop-left : goal.invariant-loop-left
-invariant-loop-left l = (l.left ≤ l.p.blocks) × ((m : List ℕ) → all_below l.left (eager_block (tables_of (view l.words) l.states m)) ≡ all_below l.p.blocks (eager_block (tables_of (view l.words) l.states m)))
-
-abbrev pub decreases-loop-left : goal.decreases-loop-left
-decreases-loop-left l = l.left
+abbrev pub invariant-loop-b : goal.invariant-loop-b
+invariant-loop-b l = (m : List ℕ) (k : ℕ) → k < l.b → eager_block (tables_of (view l.words) l.states m) k ≡ true

@@ -1,13 +1,10 @@
 -- `known::firsts` meets its contract: what is said of each set passed.
 use mathlib.Core.Path.{◌≡◌}
-use Prim.Native.Nat.{ℕ, ◌<◌, ◌≤◌, ◌-◌}
+use Prim.Native.Nat.{ℕ, ◌<◌}
 use lib.ListN.{length}
 use Rattle.native_ms.proofs.SoundLent.{set_is}
 use Rattle.model.specs.Params.{sets}
 use Rattle.native_ms.proofs.sound.known.firsts.Given as goal
 
 abbrev pub invariant-loop-set : goal.invariant-loop-set
-invariant-loop-set l = (l.set ≤ sets) × (length l.unions ≡ sets) × ((k : ℕ) → k < l.set → set_is l.words l.unions k)
-
-abbrev pub decreases-loop-set : goal.decreases-loop-set
-decreases-loop-set l = sets - l.set
+invariant-loop-set l = (length l.unions ≡ sets) × ((k : ℕ) → k < l.set → set_is l.words l.unions k)

@@ -1,12 +1,24 @@
-use Rattle.native_ms.proofs.SoundLent.{words_none, words_step, words_all}
+use Prim.Native.Nat.{ℕ}
+use mathlib.Core.Path.{ap, ◌∙◌}
 use native.Mathlib.Omega.{arith}
+use lib.Bits.{bit_or}
+use lib.Dec.{eqb}
+use Rattle.words.proofs.Written.{part_length, part_item}
+use Rattle.native_ms.proofs.SoundLent.{words_none, words_step, words_all}
 use Rattle.native_ms.proofs.sound.known.union_of.Goals as goal
 
-pub loop-i-init : goal.loop-i-init
-loop-i-init c = (omega arith, words_none c.args.words.now c.args.from)
+pub loop-word-init : goal.loop-word-init
+loop-word-init c = words_none c.args.words.now c.args.from
 
-pub loop-i-preserved : goal.loop-i-preserved
-loop-i-preserved c = (omega arith, words_step c.args.words.now c.args.from c.loop-i.union c.loop-i.i c.loop-i.invariant.1)
+pub loop-word-preserved : goal.loop-word-preserved
+loop-word-preserved c =
+    let a = c.args in
+    let i = c.loop-word.word-index in
+    let item = part_item a.from a.count a.words.now i (omega (arith, part_length a.from a.count a.words.now c.requires, c.loop-word-test.true)) in
+    ap (λ (x : ℕ). eqb (bit_or c.loop-word.union x) 0) item ∙ words_step a.words.now a.from c.loop-word.union i c.loop-word.invariant
 
 pub returns : goal.returns
-returns c = words_all c.args.words.now c.args.from c.loop-i.union c.loop-i.i _ c.loop-i.invariant.0 c.loop-i-test.false c.loop-i.invariant.1
+returns c =
+    let a = c.args in
+    let e = part_length a.from a.count a.words.now c.requires in
+    words_all a.words.now a.from c.loop-word.union c.loop-word.word-index a.count (omega (arith, e, c.loop-word.auto.word-index-end)) (omega (arith, e, c.loop-word-test.false)) c.loop-word.invariant

@@ -1,13 +1,8 @@
--- `parts::holders_fit` meets its contract: from the last down, as the definition does.
-use mathlib.Core.Path.{◌≡◌}
+-- `parts::holders_fit` meets its contract: each one passed fits.
+use Rattle.std.proofs.Common.{◌≡◌, true, ℕ, ◌<◌}
 use Rattle.model.specs.Tables.{view}
-use Rattle.model.specs.Base.{all_below}
-use Prim.Native.Nat.{◌≤◌}
 use Rattle.native_ms.specs.SoundWalk.{holder_fits}
 use Rattle.native_ms.proofs.sound.parts.holders_fit.Given as goal
 
-abbrev pub invariant-loop-left : goal.invariant-loop-left
-invariant-loop-left l = (l.left ≤ 8) × (all_below l.left (holder_fits (view l.words)) ≡ all_below l.initial.left (holder_fits (view l.words)))
-
-abbrev pub decreases-loop-left : goal.decreases-loop-left
-decreases-loop-left l = l.left
+abbrev pub invariant-loop-i : goal.invariant-loop-i
+invariant-loop-i l = (k : ℕ) → k < l.i → holder_fits (view l.words) k ≡ true

@@ -1,0 +1,11 @@
+-- `tells` meets its contract.
+use Rattle.model.specs.Calls.{refusal_number}
+use borrow.Author.Tests.{eq-eqb, ne_eqb}
+use Rattle.exports.proofs.call.tells.Goals as goal
+
+pub returns-then-number-eq0 : goal.returns-then-number-eq0
+returns-then-number-eq0 c = rw (eq-eqb _ _ c.if-number-eq0.true)
+
+pub returns-else-number-eq0 : goal.returns-else-number-eq0
+unfolding refusal_number
+returns-else-number-eq0 c = rw (ne_eqb _ _ c.if-number-eq0.false)

@@ -1,9 +1,0 @@
--- `known::size` reads its block's word, which is there; 0 where there is no such block. Assumes nothing.
-use Rattle.native_ms.proofs.BlockWords.{size_at, size_none}
-use Rattle.native_ms.proofs.block.known.size.Goals as goal
-
-pub returns-then-i-blocks : goal.returns-then-i-blocks
-returns-then-i-blocks c = size_at _ c.requires _ c.if-i-blocks.true
-
-pub returns : goal.returns
-returns c = size_none _ c.requires _ c.if-i-blocks.false

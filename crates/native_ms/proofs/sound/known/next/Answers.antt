@@ -1,7 +1,0 @@
--- `known::next` reads its block table.
-use Rattle.model.specs.Tables.{view}
-use Rattle.native_ms.proofs.sound.known.next.Goals as goal
-
-pub returns : goal.returns
-unfolding view
-returns c = c.block_word.ensures

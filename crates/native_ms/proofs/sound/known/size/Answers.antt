@@ -1,7 +1,0 @@
--- `known::size` reads its block table.
-use Rattle.model.specs.Tables.{view}
-use Rattle.native_ms.proofs.sound.known.size.Goals as goal
-
-pub returns : goal.returns
-unfolding view
-returns c = c.block_word.ensures

@@ -1,5 +1,0 @@
--- The values are counted down.
-use Rattle.script.proofs.run_lines.answer_line.Given as goal
-
-abbrev pub decreases-loop-left : goal.decreases-loop-left
-decreases-loop-left l = l.left

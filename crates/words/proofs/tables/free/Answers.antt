@@ -1,7 +1,0 @@
--- `tables::free` reads its block table.
-use Rattle.model.specs.Tables.{view}
-use Rattle.words.proofs.tables.free.Goals as goal
-
-pub returns : goal.returns
-unfolding view
-returns c = c.block_word.ensures

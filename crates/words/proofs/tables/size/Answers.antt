@@ -1,7 +1,0 @@
--- `tables::size` reads its block table.
-use Rattle.model.specs.Tables.{view}
-use Rattle.words.proofs.tables.size.Goals as goal
-
-pub returns : goal.returns
-unfolding view
-returns c = c.block_word.ensures
