@@ -1,5 +1,5 @@
 // The one place that performs a call, and the check of a class table: what is asked by value, and what is said as numbers. The
-// exports, the census and every later program that makes calls go through here.
+// exports and the programs that make calls go through here.
 #![tactic(auto)]
 
 ghost use Rattle.std.specs.Prelude.{◌≡◌};

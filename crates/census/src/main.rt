@@ -37,6 +37,7 @@ fn list(
     print(rt, &input[..n], out);
 }
 
+// Arrays of fixed room and no Vec: nothing of the census comes from the heap.
 fn main(rt: HostRuntime) {
     let mut input = [0u8; INPUT_BYTES];
     let mut out = [0u8; trace::LISTING_BYTES];

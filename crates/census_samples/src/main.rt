@@ -5,6 +5,7 @@
 // its name, then the trace and the listing.
 ghost use Rattle.std.specs.Prelude.{◌+◌, ◌<◌, ◌≤◌, length};
 
+use std::fmt;
 use std::io::{self, Stdin};
 
 const HEAD: usize = 47;
@@ -21,13 +22,13 @@ enum Stop {
     Unwritten,
 }
 
-impl Stop {
-    fn text(self) -> &'static str {
-        match self {
-            Stop::Unread => "census_samples: standard input can't be read\n",
-            Stop::Cut => "census_samples: a sample is cut off or too long\n",
-            Stop::Unwritten => "census_samples: standard output can't be written\n",
-        }
+impl fmt::Display for Stop {
+    fn fmt<W: fmt::Write>(&self, f: &mut fmt::Formatter<W>) -> fmt::Result {
+        f.write_str(match self {
+            Stop::Unread => "standard input can't be read",
+            Stop::Cut => "a sample is cut off or too long",
+            Stop::Unwritten => "standard output can't be written",
+        })
     }
 }
 
@@ -158,6 +159,6 @@ fn main(rt: HostRuntime) {
         &mut out,
     );
     if let Err(stop) = ran {
-        let _ = rt.eprint(stop.text());
+        let _ = eprintln!(rt; "census_samples: {stop}");
     }
 }

@@ -1,6 +1,6 @@
-// The exports for C: each of them calls the function of the crate exports that makes every call, with the parameters that it was given as
-// numbers and with what it asks. They are alike, since C asks for a function and its parameters for each call. docs/HOST.md says how a host
-// uses them, c/native_ms.h how it declares them.
+// The exports for C: eight hand on to the function of the crate exports that makes every call, with the parameters that they were given as
+// numbers and with what they ask, one to the check of a class table and one to `run`. They are alike, since C asks for a function and its
+// parameters for each call. docs/HOST.md says how a host uses them, c/native_ms.h how it declares them.
 #![tactic(auto, unfolding(exports::specs::Entry::inner_of, model::specs::Answers::call_of))]
 
 ghost use Rattle.std.specs.Prelude.{◌≡◌};

@@ -31,7 +31,7 @@ impl<'a> Standing<'a> {
             .count()
     }
 
-    // The set of the list that the block names; 0 if it names none.
+    // The set of the list that the block names; 0 if it names none, as the definition that it equals has it.
     #[tactic(auto, unfolding(model::specs::Sound::list_named, model::specs::Sound::set_named))]
     fn set_named(&self, b: Block) -> usize
         ensures { result ≡ set_named (view self.now.words.now) b.0 }

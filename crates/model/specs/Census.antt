@@ -88,7 +88,7 @@ unfoldable pub offer_of : List ℕ → Option Block
 offer_of word = if is_word 45 word then None else Some (record { 0 = value_of word })
 
 -- "Lines, decimal, one space: `b h`, `d h`, `a h size align offset block` (`-` for none), `p`, `m place block`, `r h`, `s`
--- (shared)." none of them: none
+-- (shared)." None of them: none
 unfoldable pub line_of : List (List ℕ) → Option Call
 line_of words =
     if is_line 98 2 words then Some (bind (arg words 1))

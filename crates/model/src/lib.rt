@@ -168,7 +168,8 @@ pub enum Verdict {
     BadRow(usize),
 }
 
-// What any call says, as numbers: 0 or its refusal's number, and the answer's numbers in order, zeros after.
+// What any call says, as numbers: 0 or its refusal's number, and the answer's numbers in order, zeros after. C is told these, so it is no
+// Result.
 #[derive(Clone, Copy, Debug, Default, PartialEq, Eq)]
 pub struct Said {
     pub number: usize,

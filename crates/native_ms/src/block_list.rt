@@ -171,7 +171,8 @@ pub(crate) fn append(p: Params, w: &mut [usize], list: usize, other: usize) -> u
     count
 }
 
-// A list as a caller lends it: its first and last block by address, 0 for none, and its cell size.
+// A list as a caller lends it: its first and last block by address, 0 for none as in the
+// table words, and its cell size.
 #[derive(Clone, Copy)]
 pub struct BlockList {
     pub first: Address,

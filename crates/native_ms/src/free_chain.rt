@@ -58,7 +58,7 @@ fn cell(p: Params, b: Block, size: usize, i: usize) -> Option<Address>
     }
 }
 
-// The same, and 0 if there is none.
+// The same, and 0 if there is none, as the definition that it equals has it.
 #[tactic(auto, unfolding(model::specs::Block::cell_at))]
 pub fn cell_at(p: Params, b: Block, size: usize, i: usize) -> Address
     ensures { result.0 ≡ cell_at p b.0 size i }

@@ -375,7 +375,7 @@ pub(crate) enum Short {
 }
 
 // The tests of an alloc, and a cell of the block at the head of the holder's available list, where it has one: most allocs end
-// here. It stands apart from the search, so that it hands the parameters on to nothing that is called, and copies none of them.
+// here. It stands apart from the search, so that an alloc that ends here copies the parameters for none of what a search calls.
 pub(crate) fn alloc_short(
     p: Params,
     words: &mut [usize],

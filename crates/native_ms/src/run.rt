@@ -14,13 +14,13 @@ use crate::free_list_allocator::Short;
 use crate::{checks, free_list_allocator, global};
 use model::{Address, Ask, Block, Params, Refusal, Request, Said};
 
-// A call's words: its kind, and its arguments in document 01's order.
+// A call's words: its kind, which is a number of 02 since rows come from C, and its arguments in document 01's order.
 const CALL_WORDS: usize = 6;
 
 // An answer's words: 0 or the refusal's number, and its values.
 const ANSWER_WORDS: usize = 5;
 
-// 2^64 − 1 offers none.
+// 2^64 − 1 offers none: a row of `run` is words, and C has numbers alone.
 pub const NO_OFFER: usize = 18446744073709551615;
 
 // ---- reading

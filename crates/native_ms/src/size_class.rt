@@ -94,7 +94,8 @@ fn row_for(p: Params, words: usize) -> usize
     0
 }
 
-// The bin of a size in bytes, 0 for none: the row that its words fall in, or without rows `mi_bin_from_size`.
+// The bin of a size in bytes: the row that its words fall in, or without rows `mi_bin_from_size`. 0 for none, as 01 numbers bins and
+// the definition that it equals has it.
 #[tactic(auto, unfolding(model::specs::SizeClasses::bin_of))]
 pub fn bin_of(p: Params, size: usize) -> usize
     ensures { result ≡ bin_of p size }

@@ -3,7 +3,8 @@ use crate::numbers::Words;
 use crate::reply::Reply;
 use crate::space::Lent;
 use crate::{asks, leaves, loads, records, rows, through};
-use model::{Ask, Params};
+use exports::Entry;
+use model::Params;
 use native_ms::free_counts;
 
 // `u set`: the 49 records of the set are those of its lists. It is given no rows.
@@ -20,17 +21,17 @@ fn free_cells(p: &Params, lent: &Lent, words: Words) -> Option<Reply> {
     Some(answer.into())
 }
 
-// A call, or set-up where none is named, through its export where these are in force.
-pub(crate) fn call(p: &Params, via: Option<usize>, lent: &mut Lent, ask: Option<Ask>) -> Reply {
+// Set-up or a call, through its export where these are in force.
+pub(crate) fn call(p: &Params, via: Option<usize>, lent: &mut Lent, entry: Entry) -> Reply {
     if let Some(length) = via {
-        return through::answer(p, length, lent, ask);
+        return through::answer(p, length, lent, entry);
     }
     let heap = &mut *lent.heap;
-    let said = match ask {
-        None => calls::set_up(*p, lent.words, lent.states, lent.marks, heap),
-        Some(ask) => calls::perform(*p, lent.words, lent.states, lent.marks, heap, ask),
+    let said = match entry {
+        Entry::SetUp => calls::set_up(*p, lent.words, lent.states, lent.marks, heap),
+        Entry::Call(ask) => calls::perform(*p, lent.words, lent.states, lent.marks, heap, ask),
     };
-    Reply::of_call(ask, said)
+    Reply::of_call(entry, said)
 }
 
 // The answer to a line of one letter.
@@ -58,7 +59,7 @@ pub(crate) fn answer(
         'v' => free_cells(p, lent, words),
         _ => {
             let ask = asks::ask(letter, words)?;
-            Some(call(p, via, lent, Some(ask)))
+            Some(call(p, via, lent, Entry::Call(ask)))
         }
     }
 }

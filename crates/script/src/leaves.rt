@@ -5,7 +5,7 @@ use crate::rows;
 use model::{Address, Params, ROWS};
 use native_ms::{allocator, size_class};
 
-// A bin; 0 for none.
+// A bin, of which the functions asked give 0 for none, as 01 does.
 fn bin_reply(bin: usize) -> Reply {
     if bin == 0 {
         Reply::Nothing

@@ -1,5 +1,6 @@
 // Answers, and what the library gives made into them.
 use arrayvec::ArrayVec;
+use exports::Entry;
 use model::{Ask, Refusal, Said, Verdict};
 use std::fmt;
 
@@ -33,21 +34,21 @@ impl Reply {
         matches!(self, Reply::Done | Reply::Export(Sent { number: 0, .. }))
     }
 
-    // The answer to a call, or to set-up where none is named: so many values as its kind has.
-    pub(crate) fn of_call(ask: Option<Ask>, said: Said) -> Reply {
+    // The answer to set-up or a call: so many values as its kind has.
+    pub(crate) fn of_call(entry: Entry, said: Said) -> Reply {
         if said.number == usize::from(Refusal::Exhausted) {
             return Reply::Exhausted(said.fourth);
         }
         if said.number != 0 {
             return Reply::Refused(said.number);
         }
-        match ask {
-            None | Some(Ask::Bind(_) | Ask::Prepare) => Reply::Done,
-            Some(Ask::Destroy(_) | Ask::Mark { .. }) => Reply::One(said.first),
-            Some(Ask::Release(_) | Ask::SharedRelease) => {
+        match entry {
+            Entry::SetUp | Entry::Call(Ask::Bind(_) | Ask::Prepare) => Reply::Done,
+            Entry::Call(Ask::Destroy(_) | Ask::Mark { .. }) => Reply::One(said.first),
+            Entry::Call(Ask::Release(_) | Ask::SharedRelease) => {
                 Reply::Three(said.first, said.second, said.third)
             }
-            Some(Ask::Alloc { .. }) => {
+            Entry::Call(Ask::Alloc { .. }) => {
                 Reply::Four(said.first, said.second, said.third, said.fourth)
             }
         }

@@ -6,6 +6,7 @@ use crate::out::Out;
 use crate::reply::Reply;
 use crate::space::Lent;
 use crate::{Stop, asks, numbers};
+use exports::Entry;
 use model::{Ask, Params, Said};
 use native_ms::run;
 use std::io;
@@ -72,7 +73,7 @@ fn tell(row: &[Ask], answers: &Answers, out: &mut Out) -> io::Result<()> {
             third,
             fourth,
         };
-        let reply = Reply::of_call(Some(*ask), said);
+        let reply = Reply::of_call(Entry::Call(*ask), said);
         writeln!(out, "{reply}")?;
     }
     Ok(())

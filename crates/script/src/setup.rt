@@ -3,6 +3,7 @@ use crate::numbers::Words;
 use crate::reply::Reply;
 use crate::space::Memory;
 use crate::{direct, fill, rows, space, through};
+use exports::Entry;
 use model::{Params, Refusal};
 
 // What a set-up asks for: its parameters, whether good or off, with the rows in force; and the seed of the heap's bytes.
@@ -67,5 +68,5 @@ pub(crate) fn set_up(start: &Start, via: Option<usize>, memory: &mut Memory) -> 
     }
     let mut lent = memory.lend(p);
     fill::all(&mut lent, start.seed);
-    Some(direct::call(p, via, &mut lent, None))
+    Some(direct::call(p, via, &mut lent, Entry::SetUp))
 }

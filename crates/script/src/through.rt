@@ -33,23 +33,23 @@ fn before(length: usize) -> ArrayVec<u8, MOST_ANSWER> {
     answer
 }
 
-// The call as C tells it: an offer is a number there, of which 2^64 − 1 offers none.
-fn told(ask: Ask) -> Ask {
-    match ask {
-        Ask::Alloc { holder, request } => {
+// The entry as C tells it: an offer is a number there, of which 2^64 − 1 offers none.
+fn told(entry: Entry) -> Entry {
+    match entry {
+        Entry::Call(Ask::Alloc { holder, request }) => {
             let number = request.offer.map_or(run::NO_OFFER, |block| block.0);
             let offer = run::offered(number);
-            Ask::Alloc {
+            Entry::Call(Ask::Alloc {
                 holder,
                 request: Request { offer, ..request },
-            }
+            })
         }
         other => other,
     }
 }
 
-// A call through its export.
-pub(crate) fn answer(p: &Params, length: usize, lent: &mut Lent, ask: Option<Ask>) -> Reply {
+// Set-up or a call through its export.
+pub(crate) fn answer(p: &Params, length: usize, lent: &mut Lent, entry: Entry) -> Reply {
     let mut words = [0u8; WORD_BYTES];
     let mut rows = [0u8; rows::ROOM];
     let mut answer = before(length);
@@ -64,7 +64,7 @@ pub(crate) fn answer(p: &Params, length: usize, lent: &mut Lent, ask: Option<Ask
         lent.heap,
         first(&mut rows, rows::length(p)),
         answer.as_mut_slice(),
-        ask.map_or(Entry::SetUp, |ask| Entry::Call(told(ask))),
+        told(entry),
     );
     decode(&words, lent.words);
     Reply::Export(Sent { number, answer })

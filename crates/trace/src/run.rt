@@ -13,7 +13,8 @@ use listing::print::Refused;
 use listing::space;
 use model::{Ask, Refusal};
 
-// Makes the call that a line asks for. The answer is the refusal's number as the call says it and the listing prints it, 0 for none.
+// Makes the call that a line asks for. The answer is the number that the listing prints: the
+// refusal's as the call says it, 0 for none.
 fn run_line(
     words: &mut [usize],
     states: &mut [u8],

@@ -109,7 +109,7 @@ fn recycle_bin(p: Params, w: &mut [usize], owner: usize, bin: usize)
     recycle_list(p, w, address::lists_of(owner, bin));
 }
 
-// Those of an owner, by its first set.
+// Those of an owner, by its first set: the loop over bins once more, as a closure for its step would have a longer contract than the loop.
 fn recycle_blocks(p: Params, w: &mut [usize], owner: usize)
     requires { (good_params p ≡ true) × (owner ≤ in_gc) }
     ensures { view w.new ≡ recycle_blocks p owner (view w.old) }

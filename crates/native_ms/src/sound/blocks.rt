@@ -17,7 +17,7 @@ fn in_use(state: u8) -> bool
     state == block::UNMARKED || state == block::MARKED
 }
 
-// The list that the block names; 0 if it names none.
+// The list that the block names; 0 if it names none, as the definition that it equals and the table word have it.
 #[tactic(auto, unfolding(model::specs::Sound::list_named))]
 pub(crate) fn list_named(words: &[usize], blocks: usize, b: Block) -> usize
     requires { (length words.now ≡ head_words + block_tables * blocks) × (b.0 < blocks) }

@@ -1,4 +1,4 @@
-// Words and state bytes at places that are known to be there. The crate `words` tests each index; here lengths were tested once
+// Words and state bytes at places that are known to be there. `words::tables` tests each index; here lengths were tested once
 // for the whole call, since a test for each word of each block takes a good part of the time.
 #![tactic(auto, unfolding(model::specs::Tables::view))]
 
