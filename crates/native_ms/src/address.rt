@@ -5,16 +5,52 @@ ghost use Rattle.native_ms.specs.Space.{ListNumber};
 
 use model::{Address, BINS, Block, Params};
 
-// The address of a block's first byte, and 0 if there is no such block.
-#[tactic(auto, using(crate::proofs::Limits::block_few, crate::proofs::Limits::block_ends), unfolding(model::specs::Params::start))]
-pub(crate) fn start(p: Params, b: Block) -> Address
-    requires { good_params p ≡ true }
-    ensures { result.0 ≡ start p b.0 }
-{
-    if b.0 < p.blocks {
-        Address(p.base + b.0 * p.bytes)
-    } else {
-        Address(0)
+// Parameters that are known to be good. Handed on by reference: they are too big to copy.
+#[derive(Clone, Copy)]
+pub(crate) struct Space {
+    pub p: Params,
+    ghost good: { good_params p ≡ true },
+}
+
+impl Space {
+    // The address of a block's first byte, and 0 if there is no such block.
+    #[tactic(auto, using(crate::proofs::Limits::block_few, crate::proofs::Limits::block_ends), unfolding(model::specs::Params::start))]
+    pub(crate) fn start(&self, b: Block) -> Address
+        ensures { result.0 ≡ start self.now.p b.0 }
+    {
+        if b.0 < self.p.blocks {
+            Address(self.p.base + b.0 * self.p.bytes)
+        } else {
+            Address(0)
+        }
+    }
+
+    // The block that an address lies in; a number past the last block where it lies in none.
+    // Not an Option: by 01 a table reads 0 past its end, so that callers go on with no case of their own.
+    #[tactic(auto, using(crate::proofs::Limits::bytes_some), unfolding(model::specs::Params::block_at))]
+    pub(crate) fn block_at(&self, a: Address) -> Block
+        ensures { result.0 ≡ block_at self.now.p a.0 }
+    {
+        if a.0 < self.p.base {
+            Block(self.p.blocks)
+        } else {
+            Block((a.0 - self.p.base) / self.p.bytes)
+        }
+    }
+
+    #[tactic(auto, using(crate::proofs::Limits::heap_ends, crate::proofs::Limits::heap_few), unfolding(model::specs::Params::in_heap, model::specs::Params::heap_end, model::specs::Params::heap_bytes))]
+    pub(crate) fn in_heap(&self, a: Address) -> bool
+        ensures { result ≡ in_heap self.now.p a.0 }
+    {
+        self.p.base <= a.0 && a.0 < self.p.base + self.p.blocks * self.p.bytes
+    }
+
+    // Whether a block starts there.
+    #[tactic(auto, using(crate::proofs::Limits::bytes_some, laws::proofs::Params::in_heap_low), unfolding(model::specs::Params::is_start))]
+    pub(crate) fn is_start(&self, a: Address) -> bool
+        ensures { result ≡ is_start self.now.p a.0 }
+    {
+        self.in_heap(a) && (a.0 - self.p.base) % self.p.bytes == 0
     }
 }
 
@@ -23,37 +59,6 @@ pub(crate) fn start(p: Params, b: Block) -> Address
 pub(crate) struct BlockStart {
     pub at: Address,
     ghost some: { 0 < at.0 },
-}
-
-// The block that an address lies in; a number past the last block where it lies in none.
-// Not an Option: by 01 a table reads 0 past its end, so that callers go on with no case of their own.
-#[tactic(auto, using(crate::proofs::Limits::bytes_some), unfolding(model::specs::Params::block_at))]
-pub(crate) fn block_at(p: Params, a: Address) -> Block
-    requires { good_params p ≡ true }
-    ensures { result.0 ≡ block_at p a.0 }
-{
-    if a.0 < p.base {
-        Block(p.blocks)
-    } else {
-        Block((a.0 - p.base) / p.bytes)
-    }
-}
-
-#[tactic(auto, using(crate::proofs::Limits::heap_ends, crate::proofs::Limits::heap_few), unfolding(model::specs::Params::in_heap, model::specs::Params::heap_end, model::specs::Params::heap_bytes))]
-pub(crate) fn in_heap(p: Params, a: Address) -> bool
-    requires { good_params p ≡ true }
-    ensures { result ≡ in_heap p a.0 }
-{
-    p.base <= a.0 && a.0 < p.base + p.blocks * p.bytes
-}
-
-// Whether a block starts there.
-#[tactic(auto, using(crate::proofs::Limits::bytes_some, laws::proofs::Params::in_heap_low), unfolding(model::specs::Params::is_start))]
-pub(crate) fn is_start(p: Params, a: Address) -> bool
-    requires { good_params p ≡ true }
-    ensures { result ≡ is_start p a.0 }
-{
-    in_heap(p, a) && (a.0 - p.base) % p.bytes == 0
 }
 
 // The number of a list, from its set and its bin.

@@ -14,7 +14,8 @@ ghost use Rattle.native_ms.specs.Block.{kept_by, Room, Built, SweptBy, Swept, In
 ghost use Rattle.native_ms.specs.Places.{Known, WholeWords, Standing, Sweepable, Takeable};
 
 use crate::block::chain::{Chain, Span};
-use crate::{address, memory};
+use crate::address::Space;
+use crate::memory;
 use model::{Address, Block, Params};
 use words::{bytes, states, tables};
 
@@ -112,7 +113,7 @@ fn sweep_by(p: Params, simple: bool, words: &mut [usize], marks: &[u8], heap: &m
     let i = b.0;
     let size = tables::size(words, i);
     let count = cell_count(p, size);
-    let from = address::start(p, b);
+    let from = Space { p }.start(b);
     let chain = link_unmarked(p, simple, marks, heap, from, size, count);
     tables::set_free(words, i, chain.head);
     tables::set_cells(words, i, chain.count);
@@ -220,7 +221,7 @@ pub(crate) fn is_cell(p: Params, b: Block, size: usize, a: Address) -> bool
     requires { good_params p ≡ true }
     ensures { result ≡ is_cell p b.0 size a.0 }
 {
-    let start = address::start(p, b);
+    let start = Space { p }.start(b);
     let from = start.0;
     let at = a.0;
     let bytes = p.bytes;

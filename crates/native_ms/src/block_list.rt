@@ -11,7 +11,7 @@ ghost use Rattle.native_ms.specs.Links.{word_of};
 ghost use Rattle.native_ms.specs.Moved.{moved, append_moves};
 ghost use Rattle.native_ms.specs.Records.{with_record, record_at, beside, on_record, beside_popped, pop_on, beside_both, append_on, firsts};
 
-use crate::address::BlockStart;
+use crate::address::{BlockStart, Space};
 use crate::{address, params};
 use model::{Address, BINS, BLOCK_TABLES, Block, HEAD_WORDS, LAST_BIN, Params, Refusal};
 use words::tables;
@@ -21,7 +21,7 @@ pub(crate) fn push(p: Params, w: &mut [usize], list: usize, b: Block)
     requires { (good_params p ≡ true) × (list < lists) }
     ensures { view w.new ≡ push p list b.0 (view w.old) }
 {
-    let start = address::start(p, b);
+    let start = Space { p }.start(b);
     let own = start.0;
     let word = address::list_word(list);
     let head = tables::first(w, list);
@@ -32,7 +32,7 @@ pub(crate) fn push(p: Params, w: &mut [usize], list: usize, b: Block)
         tables::set_last(w, list, own);
         tables::set_list(w, b.0, word);
     } else {
-        let old = address::block_at(p, Address(head));
+        let old = Space { p }.block_at(Address(head));
         tables::set_next(w, b.0, head);
         tables::set_prev(w, old.0, own);
         tables::set_prev(w, b.0, 0);
@@ -51,7 +51,7 @@ pub(crate) fn pop(p: Params, w: &mut [usize], list: usize) -> Option<BlockStart>
         return None;
     }
     let at = Address(head);
-    let top = address::block_at(p, at);
+    let top = Space { p }.block_at(at);
     let next = tables::next(w, top.0);
     if next == 0 {
         tables::set_first(w, list, 0);
@@ -60,7 +60,7 @@ pub(crate) fn pop(p: Params, w: &mut [usize], list: usize) -> Option<BlockStart>
         tables::set_prev(w, top.0, 0);
         Some(BlockStart { at })
     } else {
-        let follower = address::block_at(p, Address(next));
+        let follower = Space { p }.block_at(Address(next));
         let word = address::list_word(list);
         tables::set_first(w, list, next);
         tables::set_prev(w, follower.0, 0);
@@ -79,8 +79,8 @@ pub(crate) fn remove(p: Params, w: &mut [usize], list: usize, b: Block)
     let prev = tables::prev(w, b.0);
     let next = tables::next(w, b.0);
     let word = address::list_word(list);
-    let before = address::block_at(p, Address(prev));
-    let behind = address::block_at(p, Address(next));
+    let before = Space { p }.block_at(Address(prev));
+    let behind = Space { p }.block_at(Address(next));
     if prev == 0 {
         if next == 0 {
             tables::set_first(w, list, 0);
@@ -111,7 +111,7 @@ pub(crate) fn relabel(p: Params, w: &mut [usize], list: usize, at: Address)
         if link == 0 {
             return;
         }
-        let b = address::block_at(p, Address(link));
+        let b = Space { p }.block_at(Address(link));
         link = tables::next(w, b.0);
         tables::set_list(w, b.0, word);
     }
@@ -130,8 +130,8 @@ pub(crate) fn link(p: Params, w: &mut [usize], list: usize, other: usize)
         tables::set_first(w, list, first);
         tables::set_last(w, list, last);
     } else {
-        let before = address::block_at(p, Address(own_last));
-        let behind = address::block_at(p, Address(first));
+        let before = Space { p }.block_at(Address(own_last));
+        let behind = Space { p }.block_at(Address(first));
         tables::set_next(w, before.0, first);
         tables::set_prev(w, behind.0, own_last);
         tables::set_last(w, list, last);
@@ -148,7 +148,7 @@ fn count_from(p: Params, w: &[usize], at: Address) -> usize
         if link == 0 {
             return met;
         }
-        let b = address::block_at(p, Address(link));
+        let b = Space { p }.block_at(Address(link));
         link = tables::next(w, b.0);
     }
     p.blocks
@@ -288,10 +288,11 @@ fn count_blocks(p: Params, w: &[usize], first: Address) -> Option<usize>
         if link == 0 {
             return Some(passed);
         }
-        if !address::is_start(p, Address(link)) {
+        let space = Space { p };
+        if !space.is_start(Address(link)) {
             return None;
         }
-        let b = address::block_at(p, Address(link));
+        let b = space.block_at(Address(link));
         link = tables::next(w, b.0);
     }
     if link == 0 {

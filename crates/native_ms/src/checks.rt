@@ -12,7 +12,8 @@ ghost use Rattle.native_ms.specs.SoundLent.{Lengths};
 ghost use Rattle.native_ms.specs.Checked.{lent_tests, bin_after};
 
 use crate::sound::known;
-use crate::{address, allocator, block, classes, free_counts, global, params, size_class};
+use crate::address::Space;
+use crate::{allocator, block, classes, free_counts, global, params, size_class};
 use model::{Address, Block, Params, Refusal, Request};
 use words::{states, tables};
 
@@ -186,7 +187,7 @@ fn in_block(p: Params, b: Block, a: Address) -> bool
     requires { (good_params p ≡ true) × (b.0 < p.blocks) }
     ensures { result ≡ in_block p b.0 a.0 }
 {
-    let from = address::start(p, b);
+    let from = Space { p }.start(b);
     let v = from.0;
     let x = a.0;
     if x < v {
@@ -200,7 +201,7 @@ fn good_object(p: Params, st: &[u8], place: Address, b: Block) -> bool
     requires { good_params p ≡ true }
     ensures { (w : Words) (m : List ℕ) → result ≡ good_object p (tables_of w st.now m) place.0 b.0 }
 {
-    let inside = address::in_heap(p, place);
+    let inside = Space { p }.in_heap(place);
     if !inside {
         return false;
     }

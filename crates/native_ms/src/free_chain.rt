@@ -5,7 +5,8 @@ ghost use Rattle.model.specs.Params.{good_params, start};
 ghost use Rattle.model.specs.Tables.{view};
 ghost use Rattle.model.specs.Block.{first_cell, more_cells, next_cell, cell_count, cell_at, frees_cell};
 
-use crate::{address, block, memory, params};
+use crate::address::Space;
+use crate::{block, memory, params};
 use model::{Address, Block, ChainWalk, Params};
 use words::tables;
 
@@ -52,7 +53,7 @@ fn cell(p: Params, b: Block, size: usize, i: usize) -> Option<Address>
     ensures { MatchOption result ((good_params p && ltb i (cell_count p size)) ≡ false) (λ at. ((good_params p && ltb i (cell_count p size)) ≡ true) × (at.0 ≡ start p b.0 + i * size)) }
 {
     if params::good_params(p) && i < block::cell_count(p, size) {
-        Some(Address(address::start(p, b).0 + i * size))
+        Some(Address(Space { p }.start(b).0 + i * size))
     } else {
         None
     }

@@ -19,7 +19,7 @@ ghost use Rattle.native_ms.specs.Checked.{lent_tests, Serves};
 ghost use Rattle.native_ms.specs.ShortWay.{Passes, Shortly};
 ghost use Rattle.native_ms.specs.Places.{Known, Standing, Classed, Offered, HasFree, Takeable};
 
-use crate::address::{BlockStart, Lists};
+use crate::address::{BlockStart, Lists, Space};
 use crate::sound::{known, lists};
 use crate::{address, allocator, block, block_list, checks, size_class};
 use model::{ABANDONED, Address, Block, Params, Request, Served, Unserved};
@@ -73,7 +73,7 @@ pub(crate) fn find_free_block_with(p: Params, words: &mut [usize], own: Lists) -
             return None;
         }
         let at = Address(first);
-        let b = address::block_at(p, at);
+        let b = Space { p }.block_at(at);
         let cell = tables::free(words, b.0);
         if cell != 0 {
             return Some(BlockStart { at });
@@ -116,7 +116,7 @@ pub(crate) fn recycle_local_blocks(
         let Some(start) = block_list::pop(p, words, own.unswept) else {
             return Found { at: None, swept };
         };
-        let b = address::block_at(p, start.at);
+        let b = Space { p }.block_at(start.at);
         block::sweep(p, words, marks, heap, b);
         swept += 1;
         let free = file_block(p, words, own, b);
@@ -156,7 +156,7 @@ fn take_over(
     requires { Known p (length words.old) (length marks.now) (length heap.old) }
     ensures { TakenOver p marks.now wanted.holder wanted.bin (block_at p next.at.at.0) next.unswept (view words.old) heap.old result (view words.new) heap.new }
 {
-    let b = address::block_at(p, next.at.at);
+    let b = Space { p }.block_at(next.at.at);
     let owner = address::local_sets(wanted.holder);
     let own = address::lists_of(owner, wanted.bin);
     tables::set_tls(words, b.0, wanted.holder);
@@ -246,7 +246,7 @@ pub(crate) fn acquire_global_block(
         },
         Some(b) => {
             acquire_fresh(p, words, states, heap, wanted, b);
-            let at = address::start(p, b);
+            let at = Space { p }.start(b);
             Search {
                 at: Some(BlockStart { at }),
                 swept,
@@ -308,7 +308,7 @@ fn serve_searched(
             swept: search.swept,
         });
     };
-    let b = address::block_at(p, start.at);
+    let b = Space { p }.block_at(start.at);
     let taken = block::block_alloc(p, words, heap, b);
     let address = allocator::align_allocation(taken.at, wanted.align, wanted.offset);
     Ok(Served {

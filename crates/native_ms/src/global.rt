@@ -24,6 +24,7 @@ ghost use Rattle.native_ms.specs.Released.{out, total, attempt_release, released
 ghost use Rattle.native_ms.specs.Eager.{waits};
 ghost use Rattle.native_ms.specs.Places.{Known};
 
+use crate::address::Space;
 use crate::{address, block, block_list, checks, classes, memory};
 use model::{ABANDONED, Address, BINS, Block, HOLDERS, IN_GC, PARTS, Params, Refusal, Released};
 use words::{marks, states, tables};
@@ -291,7 +292,7 @@ fn release_blocks(p: Params, w: &mut [usize], st: &mut [u8], list: usize) -> usi
         if link == 0 {
             return released;
         }
-        let b = address::block_at(p, Address(link));
+        let b = Space { p }.block_at(Address(link));
         link = tables::next(w, b.0);
         released += attempt_release(p, w, st, list, b);
     }

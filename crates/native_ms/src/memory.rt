@@ -4,7 +4,7 @@ ghost use Rattle.std.specs.Prelude.{◌≡◌, true, ◌-◌};
 ghost use Rattle.model.specs.Params.{good_params};
 ghost use Rattle.model.specs.Memory.{load, store, zeroed, marked, set_mark};
 
-use crate::address;
+use crate::address::Space;
 use model::{Address, Params};
 use words::{bytes, marks};
 
@@ -42,7 +42,7 @@ pub(crate) fn is_marked(p: Params, m: &[u8], place: Address) -> bool
     requires { good_params p ≡ true }
     ensures { result ≡ marked p m.now place.0 }
 {
-    address::in_heap(p, place) && marks::test(m, offset(p, place) / 8)
+    Space { p }.in_heap(place) && marks::test(m, offset(p, place) / 8)
 }
 
 pub(crate) fn set_mark(p: Params, m: &mut [u8], place: Address)

@@ -8,7 +8,7 @@ ghost use Rattle.model.specs.Global.{freed, is_bound, has_released, is_last, swe
 ghost use Rattle.native_ms.specs.Eager.{done, swept_in, recycle_block, after_part};
 ghost use Rattle.native_ms.specs.Places.{Known};
 
-use crate::address::Lists;
+use crate::address::{Lists, Space};
 use crate::{address, block, block_list, global};
 use model::{ABANDONED, Address, BINS, Block, HOLDERS, IN_GC, Params};
 use words::{states, tables};
@@ -96,7 +96,7 @@ fn recycle_list(p: Params, w: &mut [usize], own: Lists)
         if link == 0 {
             return;
         }
-        let b = address::block_at(p, Address(link));
+        let b = Space { p }.block_at(Address(link));
         link = tables::next(w, b.0);
         recycle_block(p, w, own, b);
     }
