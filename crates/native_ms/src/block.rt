@@ -13,8 +13,8 @@ ghost use Rattle.model.specs.Block.{simple, cell_count, cells_down, is_cell};
 ghost use Rattle.native_ms.specs.Block.{kept_by, Room, Built, SweptBy, Swept, Initialised, Cleared, took, take_free};
 ghost use Rattle.native_ms.specs.Places.{Known, WholeWords, Standing, Sweepable, Takeable};
 
-use crate::block::chain::{Chain, Span};
 use crate::address::Space;
+use crate::block::chain::{Chain, Span};
 use crate::memory;
 use model::{Address, Block, Params};
 use words::{bytes, states, tables};

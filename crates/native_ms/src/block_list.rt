@@ -17,11 +17,11 @@ use model::{Address, BINS, BLOCK_TABLES, Block, HEAD_WORDS, LAST_BIN, Params, Re
 use words::tables;
 
 // Adds the block at the head of the list.
-pub(crate) fn push(p: Params, w: &mut [usize], list: usize, b: Block)
-    requires { (good_params p ≡ true) × (list < lists) }
-    ensures { view w.new ≡ push p list b.0 (view w.old) }
+pub(crate) fn push(space: &Space, w: &mut [usize], list: usize, b: Block)
+    requires { list < lists }
+    ensures { view w.new ≡ push space.now.p list b.0 (view w.old) }
 {
-    let start = Space { p }.start(b);
+    let start = space.start(b);
     let own = start.0;
     let word = address::list_word(list);
     let head = tables::first(w, list);
@@ -32,7 +32,7 @@ pub(crate) fn push(p: Params, w: &mut [usize], list: usize, b: Block)
         tables::set_last(w, list, own);
         tables::set_list(w, b.0, word);
     } else {
-        let old = Space { p }.block_at(Address(head));
+        let old = space.block_at(Address(head));
         tables::set_next(w, b.0, head);
         tables::set_prev(w, old.0, own);
         tables::set_prev(w, b.0, 0);
@@ -42,16 +42,16 @@ pub(crate) fn push(p: Params, w: &mut [usize], list: usize, b: Block)
 }
 
 // Takes the head of the list off, and says where it starts: None for an empty list.
-pub(crate) fn pop(p: Params, w: &mut [usize], list: usize) -> Option<BlockStart>
-    requires { (good_params p ≡ true) × (list < lists) }
-    ensures { popped (word_of result) (view w.new) ≡ pop p list (view w.old) }
+pub(crate) fn pop(space: &Space, w: &mut [usize], list: usize) -> Option<BlockStart>
+    requires { list < lists }
+    ensures { popped (word_of result) (view w.new) ≡ pop space.now.p list (view w.old) }
 {
     let head = tables::first(w, list);
     if head == 0 {
         return None;
     }
     let at = Address(head);
-    let top = Space { p }.block_at(at);
+    let top = space.block_at(at);
     let next = tables::next(w, top.0);
     if next == 0 {
         tables::set_first(w, list, 0);
@@ -60,7 +60,7 @@ pub(crate) fn pop(p: Params, w: &mut [usize], list: usize) -> Option<BlockStart>
         tables::set_prev(w, top.0, 0);
         Some(BlockStart { at })
     } else {
-        let follower = Space { p }.block_at(Address(next));
+        let follower = space.block_at(Address(next));
         let word = address::list_word(list);
         tables::set_first(w, list, next);
         tables::set_prev(w, follower.0, 0);
@@ -72,15 +72,15 @@ pub(crate) fn pop(p: Params, w: &mut [usize], list: usize) -> Option<BlockStart>
 }
 
 // Takes the block out of the list. Its own words stay.
-pub(crate) fn remove(p: Params, w: &mut [usize], list: usize, b: Block)
-    requires { (good_params p ≡ true) × (list < lists) }
-    ensures { view w.new ≡ remove p list b.0 (view w.old) }
+pub(crate) fn remove(space: &Space, w: &mut [usize], list: usize, b: Block)
+    requires { list < lists }
+    ensures { view w.new ≡ remove space.now.p list b.0 (view w.old) }
 {
     let prev = tables::prev(w, b.0);
     let next = tables::next(w, b.0);
     let word = address::list_word(list);
-    let before = Space { p }.block_at(Address(prev));
-    let behind = Space { p }.block_at(Address(next));
+    let before = space.block_at(Address(prev));
+    let behind = space.block_at(Address(next));
     if prev == 0 {
         if next == 0 {
             tables::set_first(w, list, 0);
@@ -101,26 +101,25 @@ pub(crate) fn remove(p: Params, w: &mut [usize], list: usize, b: Block)
 }
 
 // Each block from the one at `at` on gets the list's word.
-pub(crate) fn relabel(p: Params, w: &mut [usize], list: usize, at: Address)
-    requires { (good_params p ≡ true) × (list < lists) }
-    ensures { view w.new ≡ relabel p.blocks p list at.0 (view w.old) }
+pub(crate) fn relabel(space: &Space, w: &mut [usize], list: usize, at: Address)
+    requires { list < lists }
+    ensures { view w.new ≡ relabel space.now.p.blocks space.now.p list at.0 (view w.old) }
 {
     let word = address::list_word(list);
     let mut link = at.0;
-    for _ in 0..p.blocks {
+    for _ in 0..space.p.blocks {
         if link == 0 {
             return;
         }
-        let b = Space { p }.block_at(Address(link));
+        let b = space.block_at(Address(link));
         link = tables::next(w, b.0);
         tables::set_list(w, b.0, word);
     }
 }
 
 // The list `other`, which is not empty, is put behind the list.
-pub(crate) fn link(p: Params, w: &mut [usize], list: usize, other: usize)
-    requires { good_params p ≡ true }
-    ensures { view w.new ≡ link p list other (view w.old) }
+pub(crate) fn link(space: &Space, w: &mut [usize], list: usize, other: usize)
+    ensures { view w.new ≡ link space.now.p list other (view w.old) }
 {
     let first = tables::first(w, other);
     let last = tables::last(w, other);
@@ -130,8 +129,8 @@ pub(crate) fn link(p: Params, w: &mut [usize], list: usize, other: usize)
         tables::set_first(w, list, first);
         tables::set_last(w, list, last);
     } else {
-        let before = Space { p }.block_at(Address(own_last));
-        let behind = Space { p }.block_at(Address(first));
+        let before = space.block_at(Address(own_last));
+        let behind = space.block_at(Address(first));
         tables::set_next(w, before.0, first);
         tables::set_prev(w, behind.0, own_last);
         tables::set_last(w, list, last);
@@ -139,33 +138,32 @@ pub(crate) fn link(p: Params, w: &mut [usize], list: usize, other: usize)
 }
 
 // How many blocks stand from the one at `at` on.
-fn count_from(p: Params, w: &[usize], at: Address) -> usize
-    requires { good_params p ≡ true }
-    ensures { result ≡ length (walk p.blocks p (view w.now).next at.0) }
+fn count_from(space: &Space, w: &[usize], at: Address) -> usize
+    ensures { result ≡ length (walk space.now.p.blocks space.now.p (view w.now).next at.0) }
 {
     let mut link = at.0;
-    for met in 0..p.blocks {
+    for met in 0..space.p.blocks {
         if link == 0 {
             return met;
         }
-        let b = Space { p }.block_at(Address(link));
+        let b = space.block_at(Address(link));
         link = tables::next(w, b.0);
     }
-    p.blocks
+    space.p.blocks
 }
 
 // Moves the blocks of the list `other` behind those of the list, and says how many they are.
-pub(crate) fn append(p: Params, w: &mut [usize], list: usize, other: usize) -> usize
-    requires { (good_params p ≡ true) × (list < lists) }
-    ensures { moved result (view w.new) ≡ append_moves p list other (view w.old) }
+pub(crate) fn append(space: &Space, w: &mut [usize], list: usize, other: usize) -> usize
+    requires { list < lists }
+    ensures { moved result (view w.new) ≡ append_moves space.now.p list other (view w.old) }
 {
     let first = tables::first(w, other);
     if first == 0 {
         return 0;
     }
-    let count = count_from(p, w, Address(first)); // before link, which leads the last block on
-    link(p, w, list, other);
-    relabel(p, w, list, Address(first));
+    let count = count_from(space, w, Address(first)); // before link, which leads the last block on
+    link(space, w, list, other);
+    relabel(space, w, list, Address(first));
     tables::set_first(w, other, 0);
     tables::set_last(w, other, 0);
     count
@@ -204,49 +202,54 @@ fn record_at(w: &[usize], number: usize, given: BlockList) -> BlockList
 
 // The four operations on the records that the caller lends. The words keep their ends too, at the lists' numbers.
 impl BlockList {
-    pub(crate) fn push(&mut self, p: Params, w: &mut [usize], number: usize, b: Block)
-        requires { (good_params p ≡ true) × (number < lists) }
-        ensures { beside self.new (view w.new) ≡ on_record number (push p number b.0) self.old (view w.old) }
+    pub(crate) fn push(&mut self, space: &Space, w: &mut [usize], number: usize, b: Block)
+        requires { number < lists }
+        ensures { beside self.new (view w.new) ≡ on_record number (push space.now.p number b.0) self.old (view w.old) }
     {
         put_record(w, number, *self);
-        push(p, w, number, b);
+        push(space, w, number, b);
         *self = record_at(w, number, *self);
     }
 
-    pub(crate) fn pop(&mut self, p: Params, w: &mut [usize], number: usize) -> Option<BlockStart>
-        requires { (good_params p ≡ true) × (number < lists) }
-        ensures { beside_popped self.new (popped (word_of result) (view w.new)) ≡ pop_on p number self.old (view w.old) }
+    pub(crate) fn pop(
+        &mut self,
+        space: &Space,
+        w: &mut [usize],
+        number: usize,
+    ) -> Option<BlockStart>
+        requires { number < lists }
+        ensures { beside_popped self.new (popped (word_of result) (view w.new)) ≡ pop_on space.now.p number self.old (view w.old) }
     {
         put_record(w, number, *self);
-        let at = pop(p, w, number);
+        let at = pop(space, w, number);
         *self = record_at(w, number, *self);
         at
     }
 
-    pub(crate) fn remove(&mut self, p: Params, w: &mut [usize], number: usize, b: Block)
-        requires { (good_params p ≡ true) × (number < lists) }
-        ensures { beside self.new (view w.new) ≡ on_record number (remove p number b.0) self.old (view w.old) }
+    pub(crate) fn remove(&mut self, space: &Space, w: &mut [usize], number: usize, b: Block)
+        requires { number < lists }
+        ensures { beside self.new (view w.new) ≡ on_record number (remove space.now.p number b.0) self.old (view w.old) }
     {
         put_record(w, number, *self);
-        remove(p, w, number, b);
+        remove(space, w, number, b);
         *self = record_at(w, number, *self);
     }
 
     pub(crate) fn append(
         &mut self,
         other: &mut BlockList,
-        p: Params,
+        space: &Space,
         w: &mut [usize],
         number: usize,
         theirs: usize,
     ) -> usize
-        requires { (good_params p ≡ true) × (number < lists) }
+        requires { number < lists }
         ensures { beside_both self.new other.new (moved result (view w.new))
-            ≡ append_on p number theirs self.old other.old (view w.old) }
+            ≡ append_on space.now.p number theirs self.old other.old (view w.old) }
     {
         put_record(w, number, *self);
         put_record(w, theirs, *other);
-        let blocks = append(p, w, number, theirs);
+        let blocks = append(space, w, number, theirs);
         *self = record_at(w, number, *self);
         *other = record_at(w, theirs, *other);
         blocks
@@ -279,16 +282,14 @@ impl Starts for usize {
 
 // The walk from the block at `first` on: how many blocks it passes, or None where it meets a link that is no block start or does
 // not end.
-fn count_blocks(p: Params, w: &[usize], first: Address) -> Option<usize>
-    requires { good_params p ≡ true }
-    ensures { result ≡ counted_from p.blocks p (view w.now).next 0 first.0 }
+fn count_blocks(space: &Space, w: &[usize], first: Address) -> Option<usize>
+    ensures { result ≡ counted_from space.now.p.blocks space.now.p (view w.now).next 0 first.0 }
 {
     let mut link = first.0;
-    for passed in 0..p.blocks {
+    for passed in 0..space.p.blocks {
         if link == 0 {
             return Some(passed);
         }
-        let space = Space { p };
         if !space.is_start(Address(link)) {
             return None;
         }
@@ -296,20 +297,20 @@ fn count_blocks(p: Params, w: &[usize], first: Address) -> Option<usize>
         link = tables::next(w, b.0);
     }
     if link == 0 {
-        return Some(p.blocks);
+        return Some(space.p.blocks);
     }
     None
 }
 
 // The walks of the bins 1 to 48 of a set.
-fn count_bins<L: Starts>(p: Params, w: &[usize], lists: &[L]) -> Option<usize>
-    requires { (good_params p ≡ true) × (length lists.now ≡ bins) }
-    ensures { result ≡ counted_bins last_bin p (view w.now).next (map L.first_of lists.now) 0 }
+fn count_bins<L: Starts>(space: &Space, w: &[usize], lists: &[L]) -> Option<usize>
+    requires { length lists.now ≡ bins }
+    ensures { result ≡ counted_bins last_bin space.now.p (view w.now).next (map L.first_of lists.now) 0 }
 {
     let mut met: usize = 0;
     for bin in 1..=LAST_BIN {
         let first = lists[bin].first();
-        met += count_blocks(p, w, first)?;
+        met += count_blocks(space, w, first)?;
     }
     Some(met)
 }
@@ -331,7 +332,7 @@ fn pages_of<L: Starts>(p: Params, words: &[usize], lists: &[L]) -> Result<usize,
     if !set_fits(p, words, lists.len()) {
         return Err(Refusal::BadSetup);
     }
-    match count_bins(p, words, lists) {
+    match count_bins(&Space { p }, words, lists) {
         None => Err(Refusal::BadTables),
         Some(blocks) => Ok(p.bytes / 4096 * blocks),
     }

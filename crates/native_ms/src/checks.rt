@@ -11,8 +11,8 @@ ghost use Rattle.native_ms.specs.Space.{in_block};
 ghost use Rattle.native_ms.specs.SoundLent.{Lengths};
 ghost use Rattle.native_ms.specs.Checked.{lent_tests, bin_after};
 
-use crate::sound::known;
 use crate::address::Space;
+use crate::sound::known;
 use crate::{allocator, block, classes, free_counts, global, params, size_class};
 use model::{Address, Block, Params, Refusal, Request};
 use words::{states, tables};

@@ -63,38 +63,40 @@ pub(crate) struct Abandoned {
 }
 
 // The first available block with a free cell. Those before it become consumed.
-pub(crate) fn find_free_block_with(p: Params, words: &mut [usize], own: Lists) -> Option<BlockStart>
-    requires { good_params p ≡ true }
-    ensures { popped (word_of result) (view words.new) ≡ skimmed (find_free_block_with p.blocks p own.available own.consumed (view words.old)) }
+pub(crate) fn find_free_block_with(
+    space: &Space,
+    words: &mut [usize],
+    own: Lists,
+) -> Option<BlockStart>
+    ensures { popped (word_of result) (view words.new) ≡ skimmed (find_free_block_with space.now.p.blocks space.now.p own.available own.consumed (view words.old)) }
 {
-    for _ in 0..p.blocks {
+    for _ in 0..space.p.blocks {
         let first = tables::first(words, own.available);
         if first == 0 {
             return None;
         }
         let at = Address(first);
-        let b = Space { p }.block_at(at);
+        let b = space.block_at(at);
         let cell = tables::free(words, b.0);
         if cell != 0 {
             return Some(BlockStart { at });
         }
-        block_list::pop(p, words, own.available);
-        block_list::push(p, words, own.consumed, b);
+        block_list::pop(space, words, own.available);
+        block_list::push(space, words, own.consumed, b);
     }
     None
 }
 
 // Makes a block available if it has a free cell, else consumed. The answer: whether it has one.
-fn file_block(p: Params, words: &mut [usize], own: Lists, b: Block) -> bool
-    requires { good_params p ≡ true }
-    ensures { Filed p own.available own.consumed b.0 (view words.old) result (view words.new) }
+fn file_block(space: &Space, words: &mut [usize], own: Lists, b: Block) -> bool
+    ensures { Filed space.now.p own.available own.consumed b.0 (view words.old) result (view words.new) }
 {
     let cell = tables::free(words, b.0);
     if cell == 0 {
-        block_list::push(p, words, own.consumed, b);
+        block_list::push(space, words, own.consumed, b);
         return false;
     }
-    block_list::push(p, words, own.available, b);
+    block_list::push(space, words, own.available, b);
     true
 }
 
@@ -112,14 +114,15 @@ pub(crate) fn recycle_local_blocks(
 {
     let own = address::lists_of(owner, bin);
     let mut swept: usize = 0;
+    let space = Space { p };
     for _ in 0..p.blocks {
-        let Some(start) = block_list::pop(p, words, own.unswept) else {
+        let Some(start) = block_list::pop(&space, words, own.unswept) else {
             return Found { at: None, swept };
         };
-        let b = Space { p }.block_at(start.at);
+        let b = space.block_at(start.at);
         block::sweep(p, words, marks, heap, b);
         swept += 1;
-        let free = file_block(p, words, own, b);
+        let free = file_block(&space, words, own, b);
         if free {
             return Found {
                 at: Some(start),
@@ -132,15 +135,15 @@ pub(crate) fn recycle_local_blocks(
 
 // Takes an abandoned block of the bin off its list: an available one, or else an unswept one. Abandoned consumed blocks are
 // not tried.
-fn pop_abandoned(p: Params, words: &mut [usize], bin: usize) -> Option<Abandoned>
-    requires { (good_params p ≡ true) × (bin < bins) }
-    ensures { next_seen result (view words.new) ≡ pop_abandoned p bin (view words.old) }
+fn pop_abandoned(space: &Space, words: &mut [usize], bin: usize) -> Option<Abandoned>
+    requires { bin < bins }
+    ensures { next_seen result (view words.new) ≡ pop_abandoned space.now.p bin (view words.old) }
 {
     let shared = address::lists_of(ABANDONED, bin);
-    if let Some(at) = block_list::pop(p, words, shared.available) {
+    if let Some(at) = block_list::pop(space, words, shared.available) {
         return Some(Abandoned { at, unswept: false });
     }
-    let at = block_list::pop(p, words, shared.unswept)?;
+    let at = block_list::pop(space, words, shared.unswept)?;
     Some(Abandoned { at, unswept: true })
 }
 
@@ -156,15 +159,16 @@ fn take_over(
     requires { Known p (length words.old) (length marks.now) (length heap.old) }
     ensures { TakenOver p marks.now wanted.holder wanted.bin (block_at p next.at.at.0) next.unswept (view words.old) heap.old result (view words.new) heap.new }
 {
-    let b = Space { p }.block_at(next.at.at);
+    let space = Space { p };
+    let b = space.block_at(next.at.at);
     let owner = address::local_sets(wanted.holder);
     let own = address::lists_of(owner, wanted.bin);
     tables::set_tls(words, b.0, wanted.holder);
     if next.unswept {
         block::sweep(p, words, marks, heap, b);
-        return file_block(p, words, own, b);
+        return file_block(&space, words, own, b);
     }
-    file_block(p, words, own, b)
+    file_block(&space, words, own, b)
 }
 
 // Takes over abandoned blocks until one has a free cell. `before` blocks were swept already.
@@ -180,8 +184,9 @@ pub(crate) fn acquire_abandoned(
     ensures { reached (word_of result.at) result.swept (view words.new) heap.new ≡ closed p before heap.old (acquire_abandoned p.blocks p marks.now wanted.holder wanted.bin (view words.old)) }
 {
     let mut swept = before;
+    let space = Space { p };
     for _ in 0..p.blocks {
-        let Some(next) = pop_abandoned(p, words, wanted.bin) else {
+        let Some(next) = pop_abandoned(&space, words, wanted.bin) else {
             return Found { at: None, swept };
         };
         let free = take_over(p, words, marks, heap, wanted, next);
@@ -211,7 +216,7 @@ fn acquire_fresh(
     let owner = address::local_sets(wanted.holder);
     let avail = address::available(owner, wanted.bin);
     let size = size_class::cell_bytes(p, wanted.bin);
-    block_list::push(p, words, avail, b);
+    block_list::push(&Space { p }, words, avail, b);
     block::init_block(p, words, heap, b, size, wanted.holder);
     states::set_state(states, b.0, block::UNMARKED);
 }
@@ -271,7 +276,7 @@ pub(crate) fn find_block(
     let bin = wanted.bin;
     let owner = address::local_sets(wanted.holder);
     let own = address::lists_of(owner, bin);
-    if let Some(start) = find_free_block_with(p, words, own) {
+    if let Some(start) = find_free_block_with(&Space { p }, words, own) {
         return Search {
             at: Some(start),
             swept: 0,

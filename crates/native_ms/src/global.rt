@@ -131,27 +131,27 @@ pub fn bind(
 }
 
 // One bin of three lists goes behind another owner's. The answer is how many blocks went over.
-fn abandon_bin(p: Params, w: &mut [usize], to: usize, from: usize, bin: usize) -> usize
-    requires { (good_params p ≡ true) × (to ≤ in_gc) × (from ≤ in_gc) × (bin < bins) }
-    ensures { moved result (view w.new) ≡ bin_moves p to from bin (view w.old) }
+fn abandon_bin(space: &Space, w: &mut [usize], to: usize, from: usize, bin: usize) -> usize
+    requires { (to ≤ in_gc) × (from ≤ in_gc) × (bin < bins) }
+    ensures { moved result (view w.new) ≡ bin_moves space.now.p to from bin (view w.old) }
 {
     let own = address::lists_of(to, bin);
     let other = address::lists_of(from, bin);
-    let free = block_list::append(p, w, own.available, other.available);
-    let full = block_list::append(p, w, own.consumed, other.consumed);
-    let kept = block_list::append(p, w, own.unswept, other.unswept);
+    let free = block_list::append(space, w, own.available, other.available);
+    let full = block_list::append(space, w, own.consumed, other.consumed);
+    let kept = block_list::append(space, w, own.unswept, other.unswept);
     free + full + kept
 }
 
 // All lists of one owner, by its first set, go behind another's. The answer is how many blocks went over.
 // A loop over the bins for each step, here and below: a closure over the words would have its contract beside the step's.
-fn abandon_blocks(p: Params, w: &mut [usize], to: usize, from: usize) -> usize
-    requires { (good_params p ≡ true) × (to ≤ in_gc) × (from ≤ in_gc) }
-    ensures { moved result (view w.new) ≡ bins_move bins p to from (view w.old) }
+fn abandon_blocks(space: &Space, w: &mut [usize], to: usize, from: usize) -> usize
+    requires { (to ≤ in_gc) × (from ≤ in_gc) }
+    ensures { moved result (view w.new) ≡ bins_move bins space.now.p to from (view w.old) }
 {
     let mut count: usize = 0;
     for bin in 0..BINS {
-        count += abandon_bin(p, w, to, from, bin);
+        count += abandon_bin(space, w, to, from, bin);
     }
     count
 }
@@ -164,7 +164,7 @@ pub(crate) fn do_destroy(p: Params, w: &mut [usize], holder: usize) -> Result<us
 {
     checks::check_leave(w, holder)?;
     let from = address::local_sets(holder);
-    let count = abandon_blocks(p, w, ABANDONED, from);
+    let count = abandon_blocks(&Space { p }, w, ABANDONED, from);
     tables::set_bound(w, holder - 1, 0);
     Ok(count)
 }
@@ -268,115 +268,113 @@ pub fn mark(
 
 // Takes the block out of the list and releases it, if it is Unmarked. The answer is how many were released: 1 or 0.
 // No bool: the contract counts, and so does the caller.
-fn attempt_release(p: Params, w: &mut [usize], st: &mut [u8], list: usize, b: Block) -> usize
-    requires { (good_params p ≡ true) × (list < lists) }
-    ensures { out result (view w.new) st.new ≡ attempt_release p list b.0 (view w.old) st.old }
+fn attempt_release(space: &Space, w: &mut [usize], st: &mut [u8], list: usize, b: Block) -> usize
+    requires { list < lists }
+    ensures { out result (view w.new) st.new ≡ attempt_release space.now.p list b.0 (view w.old) st.old }
 {
     let state = states::state(st, b.0);
     if state != block::UNMARKED {
         return 0;
     }
-    block_list::remove(p, w, list, b);
+    block_list::remove(space, w, list, b);
     block::clear_block(w, st, b);
     1
 }
 
 // Releases the Unmarked blocks of the list. The next link is read before its block is removed.
-fn release_blocks(p: Params, w: &mut [usize], st: &mut [u8], list: usize) -> usize
-    requires { (good_params p ≡ true) × (list < lists) }
-    ensures { out result (view w.new) st.new ≡ total (release_from p.blocks p list (get_or (view w.old).first list 0) (view w.old) st.old) }
+fn release_blocks(space: &Space, w: &mut [usize], st: &mut [u8], list: usize) -> usize
+    requires { list < lists }
+    ensures { out result (view w.new) st.new ≡ total (release_from space.now.p.blocks space.now.p list (get_or (view w.old).first list 0) (view w.old) st.old) }
 {
     let mut link = tables::first(w, list);
     let mut released: usize = 0;
-    for _ in 0..p.blocks {
+    for _ in 0..space.p.blocks {
         if link == 0 {
             return released;
         }
-        let b = Space { p }.block_at(Address(link));
+        let b = space.block_at(Address(link));
         link = tables::next(w, b.0);
-        released += attempt_release(p, w, st, list, b);
+        released += attempt_release(space, w, st, list, b);
     }
     released
 }
 
 // What stays of the other list is swept later; with the choice of eager sweeping it stays where it is.
-fn left_unswept(p: Params, w: &mut [usize], list: usize, other: usize)
-    requires { (good_params p ≡ true) × (list < lists) }
-    ensures { view w.new ≡ waits p list other (view w.old) }
+fn left_unswept(space: &Space, w: &mut [usize], list: usize, other: usize)
+    requires { list < lists }
+    ensures { view w.new ≡ waits space.now.p list other (view w.old) }
 {
-    if p.eager {
+    if space.p.eager {
         return;
     }
-    block_list::append(p, w, list, other);
+    block_list::append(space, w, list, other);
 }
 
 // One bin of a holder's release: what stays of available and consumed blocks becomes unswept.
-fn release_bin(p: Params, w: &mut [usize], st: &mut [u8], owner: usize, bin: usize) -> usize
-    requires { (good_params p ≡ true) × (owner ≤ in_gc) × (bin < bins) }
-    ensures { out result (view w.new) st.new ≡ total (release_bin p owner bin (freed (view w.old) st.old)) }
+fn release_bin(space: &Space, w: &mut [usize], st: &mut [u8], owner: usize, bin: usize) -> usize
+    requires { (owner ≤ in_gc) × (bin < bins) }
+    ensures { out result (view w.new) st.new ≡ total (release_bin space.now.p owner bin (freed (view w.old) st.old)) }
 {
     let own = address::lists_of(owner, bin);
-    let free = release_blocks(p, w, st, own.available);
-    left_unswept(p, w, own.unswept, own.available);
-    let full = release_blocks(p, w, st, own.consumed);
-    left_unswept(p, w, own.unswept, own.consumed);
+    let free = release_blocks(space, w, st, own.available);
+    left_unswept(space, w, own.unswept, own.available);
+    let full = release_blocks(space, w, st, own.consumed);
+    left_unswept(space, w, own.unswept, own.consumed);
     free + full
 }
 
-fn release_bins(p: Params, w: &mut [usize], st: &mut [u8], owner: usize) -> usize
-    requires { (good_params p ≡ true) × (owner ≤ in_gc) }
-    ensures { out result (view w.new) st.new ≡ total (released_bins p owner bins (view w.old) st.old) }
+fn release_bins(space: &Space, w: &mut [usize], st: &mut [u8], owner: usize) -> usize
+    requires { owner ≤ in_gc }
+    ensures { out result (view w.new) st.new ≡ total (released_bins space.now.p owner bins (view w.old) st.old) }
 {
     let mut released: usize = 0;
     for bin in 0..BINS {
-        released += release_bin(p, w, st, owner, bin);
+        released += release_bin(space, w, st, owner, bin);
     }
     released
 }
 
 // A holder's part: its lists end up in-gc.
-fn release_holder(p: Params, w: &mut [usize], st: &mut [u8], holder: usize) -> usize
-    requires { (good_params p ≡ true) × (1 ≤ holder) × (holder ≤ holders) }
-    ensures { out result (view w.new) st.new ≡ total (release_holder p holder (view w.old) st.old) }
+fn release_holder(space: &Space, w: &mut [usize], st: &mut [u8], holder: usize) -> usize
+    requires { (1 ≤ holder) × (holder ≤ holders) }
+    ensures { out result (view w.new) st.new ≡ total (release_holder space.now.p holder (view w.old) st.old) }
 {
     let owner = address::local_sets(holder);
-    let released = release_bins(p, w, st, owner);
-    abandon_blocks(p, w, IN_GC, owner);
+    let released = release_bins(space, w, st, owner);
+    abandon_blocks(space, w, IN_GC, owner);
     released
 }
 
 // One bin of the shared part.
-fn sweep_later_bin(p: Params, w: &mut [usize], st: &mut [u8], bin: usize) -> usize
-    requires { (good_params p ≡ true) × (bin < bins) }
-    ensures { out result (view w.new) st.new ≡ total (sweep_later_bin p bin (freed (view w.old) st.old)) }
+fn sweep_later_bin(space: &Space, w: &mut [usize], st: &mut [u8], bin: usize) -> usize
+    requires { bin < bins }
+    ensures { out result (view w.new) st.new ≡ total (sweep_later_bin space.now.p bin (freed (view w.old) st.old)) }
 {
     let shared = address::lists_of(ABANDONED, bin);
-    let free = release_blocks(p, w, st, shared.available);
-    let full = release_blocks(p, w, st, shared.consumed);
-    let waiting = release_blocks(p, w, st, shared.unswept);
-    left_unswept(p, w, shared.unswept, shared.available);
-    left_unswept(p, w, shared.unswept, shared.consumed);
+    let free = release_blocks(space, w, st, shared.available);
+    let full = release_blocks(space, w, st, shared.consumed);
+    let waiting = release_blocks(space, w, st, shared.unswept);
+    left_unswept(space, w, shared.unswept, shared.available);
+    left_unswept(space, w, shared.unswept, shared.consumed);
     free + full + waiting
 }
 
 // The shared part: abandoned blocks are released, or become unswept.
-fn sweep_later(p: Params, w: &mut [usize], st: &mut [u8]) -> usize
-    requires { good_params p ≡ true }
-    ensures { out result (view w.new) st.new ≡ total (sweep_later p (view w.old) st.old) }
+fn sweep_later(space: &Space, w: &mut [usize], st: &mut [u8]) -> usize
+    ensures { out result (view w.new) st.new ≡ total (sweep_later space.now.p (view w.old) st.old) }
 {
     let mut released: usize = 0;
     for bin in 0..BINS {
-        released += sweep_later_bin(p, w, st, bin);
+        released += sweep_later_bin(space, w, st, bin);
     }
     released
 }
 
 // The in-gc lists go behind the abandoned ones.
-fn merge(p: Params, w: &mut [usize]) -> usize
-    requires { good_params p ≡ true }
-    ensures { moved result (view w.new) ≡ bins_move bins p abandoned in_gc (view w.old) }
+fn merge(space: &Space, w: &mut [usize]) -> usize
+    ensures { moved result (view w.new) ≡ bins_move bins space.now.p abandoned in_gc (view w.old) }
 {
-    abandon_blocks(p, w, ABANDONED, IN_GC)
+    abandon_blocks(space, w, ABANDONED, IN_GC)
 }
 
 fn clear_released(w: &mut [usize])
@@ -389,26 +387,26 @@ fn clear_released(w: &mut [usize])
 }
 
 // Nothing is due any more: back to Running. The answer is how many blocks were merged.
-fn end_of_gc(p: Params, w: &mut [usize]) -> usize
-    requires { (good_params p ≡ true) × (head_words ≤ length w.old) }
-    ensures { moved result (view w.new) ≡ end_moves p (view w.old) }
+fn end_of_gc(space: &Space, w: &mut [usize]) -> usize
+    requires { head_words ≤ length w.old }
+    ensures { moved result (view w.new) ≡ end_moves space.now.p (view w.old) }
 {
-    let merged = merge(p, w);
+    let merged = merge(space, w);
     clear_released(w);
     tables::set_phase(w, RUNNING);
     merged
 }
 
 // A part has released; the last one ends the collection. The answer is how many blocks were merged, 0 if parts are due.
-fn part_released(p: Params, w: &mut [usize], part: usize) -> usize
-    requires { (good_params p ≡ true) × (head_words ≤ length w.old) }
-    ensures { moved result (view w.new) ≡ part_moves p part (view w.old) }
+fn part_released(space: &Space, w: &mut [usize], part: usize) -> usize
+    requires { head_words ≤ length w.old }
+    ensures { moved result (view w.new) ≡ part_moves space.now.p part (view w.old) }
 {
     tables::set_phase(w, RELEASING);
     tables::set_released(w, part, 1);
     let done = all_released(w);
     if done {
-        return end_of_gc(p, w);
+        return end_of_gc(space, w);
     }
     0 // the others are due
 }
@@ -426,9 +424,10 @@ pub(crate) fn do_release(
     ensures { Does p (tables_of (view w.old) st.old m.now) heap.old (release holder) (release_reply result) (tables_of (view w.new) st.new m.now) heap.new }
 {
     checks::check_release(w, holder)?;
-    let count = release_holder(p, w, st, holder);
+    let space = Space { p };
+    let count = release_holder(&space, w, st, holder);
     let swept = eager::eagerly(p, w, st, m, heap, holder);
-    let merged = part_released(p, w, holder);
+    let merged = part_released(&space, w, holder);
     Ok(Released {
         blocks: count,
         merged,
@@ -462,9 +461,10 @@ pub(crate) fn do_shared_release(
     ensures { Does p (tables_of (view w.old) st.old m.now) heap.old shared_release (release_reply result) (tables_of (view w.new) st.new m.now) heap.new }
 {
     checks::check_shared_release(w)?;
-    let released = sweep_later(p, w, st);
+    let space = Space { p };
+    let released = sweep_later(&space, w, st);
     let swept = eager::eagerly(p, w, st, m, heap, 0);
-    let merged = part_released(p, w, 0);
+    let merged = part_released(&space, w, 0);
     Ok(Released {
         blocks: released,
         merged,

@@ -74,48 +74,46 @@ fn sweep_all(p: Params, w: &mut [usize], st: &[u8], m: &[u8], heap: &mut [u8]) -
 // ---- filing anew
 
 // A consumed block that has a free cell becomes available.
-fn recycle_block(p: Params, w: &mut [usize], own: Lists, b: Block)
-    requires { good_params p ≡ true }
-    ensures { view w.new ≡ recycle_block p own.available own.consumed b.0 (view w.old) }
+fn recycle_block(space: &Space, w: &mut [usize], own: Lists, b: Block)
+    ensures { view w.new ≡ recycle_block space.now.p own.available own.consumed b.0 (view w.old) }
 {
     let cell = tables::free(w, b.0);
     if cell == 0 {
         return;
     }
-    block_list::remove(p, w, own.consumed, b);
-    block_list::push(p, w, own.available, b);
+    block_list::remove(space, w, own.consumed, b);
+    block_list::push(space, w, own.available, b);
 }
 
 // Those of a whole list. The next link is read before its block is removed.
-fn recycle_list(p: Params, w: &mut [usize], own: Lists)
-    requires { good_params p ≡ true }
-    ensures { view w.new ≡ recycle_from p.blocks p own.available own.consumed (get_or (view w.old).first own.consumed 0) (view w.old) }
+fn recycle_list(space: &Space, w: &mut [usize], own: Lists)
+    ensures { view w.new ≡ recycle_from space.now.p.blocks space.now.p own.available own.consumed (get_or (view w.old).first own.consumed 0) (view w.old) }
 {
     let mut link = tables::first(w, own.consumed);
-    for _ in 0..p.blocks {
+    for _ in 0..space.p.blocks {
         if link == 0 {
             return;
         }
-        let b = Space { p }.block_at(Address(link));
+        let b = space.block_at(Address(link));
         link = tables::next(w, b.0);
-        recycle_block(p, w, own, b);
+        recycle_block(space, w, own, b);
     }
 }
 
-fn recycle_bin(p: Params, w: &mut [usize], owner: usize, bin: usize)
-    requires { (good_params p ≡ true) × (owner ≤ in_gc) × (bin < bins) }
-    ensures { view w.new ≡ recycle_bin p owner bin (view w.old) }
+fn recycle_bin(space: &Space, w: &mut [usize], owner: usize, bin: usize)
+    requires { (owner ≤ in_gc) × (bin < bins) }
+    ensures { view w.new ≡ recycle_bin space.now.p owner bin (view w.old) }
 {
-    recycle_list(p, w, address::lists_of(owner, bin));
+    recycle_list(space, w, address::lists_of(owner, bin));
 }
 
 // Those of an owner, by its first set: the loop over bins once more, as a closure for its step would have a longer contract than the loop.
-fn recycle_blocks(p: Params, w: &mut [usize], owner: usize)
-    requires { (good_params p ≡ true) × (owner ≤ in_gc) }
-    ensures { view w.new ≡ recycle_blocks p owner (view w.old) }
+fn recycle_blocks(space: &Space, w: &mut [usize], owner: usize)
+    requires { owner ≤ in_gc }
+    ensures { view w.new ≡ recycle_blocks space.now.p owner (view w.old) }
 {
     for bin in 0..BINS {
-        recycle_bin(p, w, owner, bin);
+        recycle_bin(space, w, owner, bin);
     }
 }
 
@@ -138,7 +136,8 @@ pub(crate) fn eagerly(
         return 0;
     }
     let swept = sweep_all(p, w, st, m, heap);
-    recycle_blocks(p, w, ABANDONED);
-    recycle_blocks(p, w, IN_GC);
+    let space = Space { p };
+    recycle_blocks(&space, w, ABANDONED);
+    recycle_blocks(&space, w, IN_GC);
     swept
 }

@@ -7,5 +7,5 @@ use Rattle.native_ms.proofs.block_list.count_bins.Given as goal
 abbrev pub invariant-loop-bin : goal.invariant-loop-bin
 invariant-loop-bin g l = record {
   few : l.met ≤ 1024 * l.bin;
-  same : Some l.met ≡ counted_bins (l.bin - 1) l.p (view l.w).next (map g.L.Starts.first_of l.lists) 0;
+  same : Some l.met ≡ counted_bins (l.bin - 1) l.space.p (view l.w).next (map g.L.Starts.first_of l.lists) 0;
 }

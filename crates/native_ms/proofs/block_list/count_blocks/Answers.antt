@@ -16,7 +16,7 @@ loop-passed-preserved c = counted_step _ _ _ _ (left_next c.loop-passed-test.tru
 
 pub returns-then-link-eq0-2 : goal.returns-then-link-eq0-2
 returns-then-link-eq0-2 c =
-    let all : c.args.p.blocks ≡ c.loop-passed.passed = omega arith in
+    let all : c.args.space.now.p.blocks ≡ c.loop-passed.passed = omega arith in
     ap Some all ∙ counted_stop _ _ _ _ _ c.if-link-eq0-2.true ∙ c.loop-passed.invariant
 
 pub returns : goal.returns

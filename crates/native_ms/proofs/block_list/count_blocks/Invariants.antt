@@ -6,4 +6,4 @@ use Rattle.native_ms.specs.Counted.{counted_from}
 use Rattle.native_ms.proofs.block_list.count_blocks.Given as goal
 
 abbrev pub invariant-loop-passed : goal.invariant-loop-passed
-invariant-loop-passed l = counted_from (l.passed-end - l.passed) l.p (view l.w).next l.passed l.link ≡ counted_from l.p.blocks l.p (view l.w).next 0 l.initial.link
+invariant-loop-passed l = counted_from (l.passed-end - l.passed) l.space.p (view l.w).next l.passed l.link ≡ counted_from l.space.p.blocks l.space.p (view l.w).next 0 l.initial.link

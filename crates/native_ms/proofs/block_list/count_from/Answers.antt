@@ -12,5 +12,5 @@ loop-met-preserved c = count_step _ _ _ _ (left_next c.loop-met-test.true) c.if-
 
 pub returns : goal.returns
 returns c =
-    let all : c.args.p.blocks ≡ c.loop-met.met = omega arith in
+    let all : c.args.space.now.p.blocks ≡ c.loop-met.met = omega arith in
     all ∙ count_end _ _ _ _ _ (left_none c.loop-met-test.false) ∙ c.loop-met.invariant

@@ -7,4 +7,4 @@ use Rattle.model.specs.BlockList.{walk}
 use Rattle.native_ms.proofs.block_list.count_from.Given as goal
 
 abbrev pub invariant-loop-met : goal.invariant-loop-met
-invariant-loop-met l = l.met + length (walk (l.met-end - l.met) l.p (view l.w).next l.link) ≡ length (walk l.p.blocks l.p (view l.w).next l.initial.link)
+invariant-loop-met l = l.met + length (walk (l.met-end - l.met) l.space.p (view l.w).next l.link) ≡ length (walk l.space.p.blocks l.space.p (view l.w).next l.initial.link)

@@ -11,8 +11,11 @@ pub returns-then-not-set_fits : goal.returns-then-not-set_fits
 unfolding count_reply
 returns-then-not-set_fits g c = pages_off _ _ _ (length-map c.args.lists.now g.L.Starts.first_of) (sym c.set_fits.ensures ∙ c.if-not-set_fits.true)
 
+pub invariant_of-count_bins : goal.invariant_of-count_bins
+invariant_of-count_bins g c = record { good = fits_good _ _ _ (sym c.set_fits.ensures ∙ c.if-not-set_fits.false) }
+
 pub count_bins-requires : goal.count_bins-requires
-count_bins-requires g c = (fits_good _ _ _ (sym c.set_fits.ensures ∙ c.if-not-set_fits.false), fits_count _ _ _ (sym c.set_fits.ensures ∙ c.if-not-set_fits.false))
+count_bins-requires g c = fits_count _ _ _ (sym c.set_fits.ensures ∙ c.if-not-set_fits.false)
 
 pub overflow_mul-result : goal.overflow_mul-result
 overflow_mul-result g c = omega (arith, pages_fit c.args.p _ _ c.count_bins.ensures (good_bounds c.args.p (fits_good _ _ _ (sym c.set_fits.ensures ∙ c.if-not-set_fits.false))) c.in-Some.is)

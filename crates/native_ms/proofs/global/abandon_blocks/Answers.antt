@@ -7,7 +7,7 @@ pub loop-bin-init : goal.loop-bin-init
 loop-bin-init c = record { few = omega arith; same = over_none _ _ _ _ }
 
 pub overflow_add-count : goal.overflow_add-count
-overflow_add-count c = omega (arith, c.loop-bin.invariant.few, c.loop-bin-test.true, over_few _ _ _ _ _ (good_bounds c.args.p c.requires.0).blocks_high c.abandon_bin-count.ensures)
+overflow_add-count c = omega (arith, c.loop-bin.invariant.few, c.loop-bin-test.true, over_few _ _ _ _ _ (good_bounds c.args.space.now.p c.args.space.now.good).blocks_high c.abandon_bin-count.ensures)
 
 pub loop-bin-preserved : goal.loop-bin-preserved
-loop-bin-preserved c = record { few = omega (arith, c.loop-bin.invariant.few, over_few _ _ _ _ _ (good_bounds c.args.p c.requires.0).blocks_high c.abandon_bin-count.ensures); same = over_more _ _ _ _ _ c.loop-bin.invariant.same c.abandon_bin-count.ensures }
+loop-bin-preserved c = record { few = omega (arith, c.loop-bin.invariant.few, over_few _ _ _ _ _ (good_bounds c.args.space.now.p c.args.space.now.good).blocks_high c.abandon_bin-count.ensures); same = over_more _ _ _ _ _ c.loop-bin.invariant.same c.abandon_bin-count.ensures }

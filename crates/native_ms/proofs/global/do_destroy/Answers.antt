@@ -11,7 +11,7 @@ pub local_sets-from-requires : goal.local_sets-from-requires
 local_sets-from-requires c = leaves_bound _ _ c.check_leave.ensures c.in_ok-check_leave.was
 
 pub abandon_blocks-count-requires : goal.abandon_blocks-count-requires
-abandon_blocks-count-requires c = (c.requires, lit≤ tt, sets_low _ (leaves_bound _ _ c.check_leave.ensures c.in_ok-check_leave.was).1 c.local_sets-from.ensures)
+abandon_blocks-count-requires c = (lit≤ tt, sets_low _ (leaves_bound _ _ c.check_leave.ensures c.in_ok-check_leave.was).1 c.local_sets-from.ensures)
 
 pub overflow_sub-holder : goal.overflow_sub-holder
 overflow_sub-holder c = (leaves_bound _ _ c.check_leave.ensures c.in_ok-check_leave.was).0

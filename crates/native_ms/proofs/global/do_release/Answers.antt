@@ -8,13 +8,13 @@ use Rattle.native_ms.proofs.SpaceCalls.{release_bound, release_refused, release_
 use Rattle.native_ms.proofs.global.do_release.Goals as goal
 
 pub release_holder-count-requires : goal.release_holder-count-requires
-release_holder-count-requires c = let b = release_bound _ _ c.check_release.ensures c.in_ok-check_release.was in (c.requires.good, b.0, b.1)
+release_holder-count-requires c = let b = release_bound _ _ c.check_release.ensures c.in_ok-check_release.was in (b.0, b.1)
 
 pub eagerly-swept-requires : goal.eagerly-swept-requires
 eagerly-swept-requires c = let b = release_bound _ _ c.check_release.ensures c.in_ok-check_release.was in (known_on _ (c.requires) c.release_holder-count.auto.w refl, omega (arith, b.1))
 
 pub part_released-merged-requires : goal.part_released-merged-requires
-part_released-merged-requires c = (c.requires.good, omega (arith, words_known _ c.requires.count, c.release_holder-count.auto.w, c.eagerly-swept.auto.w))
+part_released-merged-requires c = omega (arith, words_known _ c.requires.count, c.release_holder-count.auto.w, c.eagerly-swept.auto.w)
 
 pub returns-in_err-check_release : goal.returns-in_err-check_release
 unfolding release_reply

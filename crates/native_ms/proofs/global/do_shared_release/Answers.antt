@@ -11,7 +11,7 @@ pub eagerly-swept-requires : goal.eagerly-swept-requires
 eagerly-swept-requires c = (known_on _ (c.requires) c.sweep_later-released.auto.w refl, omega arith)
 
 pub part_released-merged-requires : goal.part_released-merged-requires
-part_released-merged-requires c = (c.requires.good, omega (arith, words_known _ c.requires.count, c.sweep_later-released.auto.w, c.eagerly-swept.auto.w))
+part_released-merged-requires c = omega (arith, words_known _ c.requires.count, c.sweep_later-released.auto.w, c.eagerly-swept.auto.w)
 
 pub returns-in_err-check_shared_release : goal.returns-in_err-check_shared_release
 unfolding release_reply

@@ -5,4 +5,4 @@ use Rattle.native_ms.proofs.MovedLaws.{end_moves_lem}
 use Rattle.native_ms.proofs.global.end_of_gc.Goals as goal
 
 pub returns : goal.returns
-returns c = end_moves_lem _ _ c.merge-merged.ensures c.clear_released.ensures (put_phase_lem _ _ (omega (arith, c.requires.1, c.merge-merged.auto.w, c.clear_released.auto.w)) c.set_phase.ensures)
+returns c = end_moves_lem _ _ c.merge-merged.ensures c.clear_released.ensures (put_phase_lem _ _ (omega (arith, c.requires, c.merge-merged.auto.w, c.clear_released.auto.w)) c.set_phase.ensures)

@@ -5,7 +5,7 @@ use Rattle.native_ms.proofs.MovedLaws.{part_last, part_due}
 use Rattle.native_ms.proofs.global.part_released.Goals as goal
 
 pub returns-then-done : goal.returns-then-done
-returns-then-done c = part_last _ _ _ (put_phase_lem _ _ (omega (arith, c.requires.1)) c.set_phase.ensures) (put_released_lem _ _ _ c.set_released.ensures) c.all_released-done.ensures c.if-done.true c.end_of_gc.ensures
+returns-then-done c = part_last _ _ _ (put_phase_lem _ _ (omega (arith, c.requires)) c.set_phase.ensures) (put_released_lem _ _ _ c.set_released.ensures) c.all_released-done.ensures c.if-done.true c.end_of_gc.ensures
 
 pub returns : goal.returns
-returns c = part_due _ _ _ (put_phase_lem _ _ (omega (arith, c.requires.1)) c.set_phase.ensures) (put_released_lem _ _ _ c.set_released.ensures) c.all_released-done.ensures c.if-done.false
+returns c = part_due _ _ _ (put_phase_lem _ _ (omega (arith, c.requires)) c.set_phase.ensures) (put_released_lem _ _ _ c.set_released.ensures) c.all_released-done.ensures c.if-done.false

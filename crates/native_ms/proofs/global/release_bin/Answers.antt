@@ -4,7 +4,7 @@ use Rattle.model.specs.Tables.{view}
 use Rattle.native_ms.proofs.global.release_bin.Goals as goal
 
 pub overflow_add-result : goal.overflow_add-result
-overflow_add-result c = two_fit (blocks_low c.args.p c.requires.0 _ _ _ _ c.release_blocks-free.ensures) (blocks_low c.args.p c.requires.0 _ _ _ _ c.release_blocks-full.ensures)
+overflow_add-result c = two_fit (blocks_low c.args.space.now.p c.args.space.now.good _ _ _ _ c.release_blocks-free.ensures) (blocks_low c.args.space.now.p c.args.space.now.good _ _ _ _ c.release_blocks-full.ensures)
 
 pub returns : goal.returns
-returns c = bin_total c.args.p c.args.owner c.args.bin (view c.args.w.now) c.args.st.now c.lists_of-own.ensures.available c.lists_of-own.ensures.unswept c.lists_of-own.ensures.consumed c.release_blocks-free.ensures c.left_unswept.ensures c.release_blocks-full.ensures c.left_unswept-2.ensures
+returns c = bin_total c.args.space.now.p c.args.owner c.args.bin (view c.args.w.now) c.args.st.now c.lists_of-own.ensures.available c.lists_of-own.ensures.unswept c.lists_of-own.ensures.consumed c.release_blocks-free.ensures c.left_unswept.ensures c.release_blocks-full.ensures c.left_unswept-2.ensures

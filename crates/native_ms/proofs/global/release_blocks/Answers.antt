@@ -12,7 +12,7 @@ pub returns-then-link-eq0 : goal.returns-then-link-eq0
 returns-then-link-eq0 c = from_stop _ _ _ _ _ _ _ c.if-link-eq0.true ∙ c.loop.invariant.same ∙ from_at _ _ _ _ c.first-link.ensures
 
 pub overflow_add-released : goal.overflow_add-released
-overflow_add-released c = omega (arith, c.loop.invariant.few, c.loop-test.true, (good_bounds c.args.p c.requires.0).blocks_high, attempt_few _ _ _ _ _ c.attempt_release-released.ensures)
+overflow_add-released c = omega (arith, c.loop.invariant.few, c.loop-test.true, (good_bounds c.args.space.now.p c.args.space.now.good).blocks_high, attempt_few _ _ _ _ _ c.attempt_release-released.ensures)
 
 pub loop-preserved : goal.loop-preserved
 loop-preserved c = record { few = omega (arith, c.loop.invariant.few, c.loop-test.true, attempt_few _ _ _ _ _ c.attempt_release-released.ensures); same = from_step _ _ _ _ _ _ (left_next c.loop-test.true) c.if-link-eq0.false c.block_at-b.ensures c.next-link.ensures c.attempt_release-released.ensures ∙ c.loop.invariant.same }

@@ -9,5 +9,5 @@ use Rattle.native_ms.proofs.global.sweep_later.Given as goal
 abbrev pub invariant-loop-bin : goal.invariant-loop-bin
 invariant-loop-bin l = record {
   few : l.released ≤ 3072 * l.bin;
-  same : out l.released (view l.w) l.st ≡ total (later_bins l.p l.bin (view l.initial.w) l.initial.st);
+  same : out l.released (view l.w) l.st ≡ total (later_bins l.space.p l.bin (view l.initial.w) l.initial.st);
 }
