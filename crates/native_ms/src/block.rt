@@ -61,7 +61,7 @@ pub(crate) fn cell_is_marked(
     ensures { result ≡ kept_by simple p marks.now size cell.0 }
 {
     if simple {
-        return memory::is_marked(p, marks, cell);
+        return memory::is_marked(&Space { p }, marks, cell);
     }
     marks::any_marked(p, marks, cell, size)
 }
@@ -106,15 +106,21 @@ fn link_unmarked(
 }
 
 // Either sweep, of any block of any words.
-fn sweep_by(p: Params, simple: bool, words: &mut [usize], marks: &[u8], heap: &mut [u8], b: Block)
-    requires { good_params p ≡ true }
-    ensures { SweptBy p (kept_by simple p marks.now) b.0 (view words.old) heap.old (view words.new) heap.new }
+fn sweep_by(
+    space: &Space,
+    simple: bool,
+    words: &mut [usize],
+    marks: &[u8],
+    heap: &mut [u8],
+    b: Block,
+)
+    ensures { SweptBy space.now.p (kept_by simple space.now.p marks.now) b.0 (view words.old) heap.old (view words.new) heap.new }
 {
     let i = b.0;
     let size = tables::size(words, i);
-    let count = cell_count(p, size);
-    let from = Space { p }.start(b);
-    let chain = link_unmarked(p, simple, marks, heap, from, size, count);
+    let count = cell_count(space.p, size);
+    let from = space.start(b);
+    let chain = link_unmarked(space.p, simple, marks, heap, from, size, count);
     tables::set_free(words, i, chain.head);
     tables::set_cells(words, i, chain.count);
 }
@@ -169,7 +175,7 @@ pub(crate) fn sweep(p: Params, words: &mut [usize], marks: &[u8], heap: &mut [u8
     let size = known::size(words, p.blocks, b);
     let simple = is_simple(p);
     if !is_whole_words(size) {
-        sweep_by(p, simple, words, marks, heap, b);
+        sweep_by(&Space { p }, simple, words, marks, heap, b);
         return;
     }
     if simple {
@@ -217,14 +223,13 @@ pub(crate) fn clear_block(words: &mut [usize], states: &mut [u8], b: Block)
 
 // A whole cell of `size` bytes of the block b stands at a. The division is last and a short one, of numbers that are small by then.
 // One test a line: `inside` is reckoned between them, and each refusal has a law of its own.
-pub(crate) fn is_cell(p: Params, b: Block, size: usize, a: Address) -> bool
-    requires { good_params p ≡ true }
-    ensures { result ≡ is_cell p b.0 size a.0 }
+pub(crate) fn is_cell(space: &Space, b: Block, size: usize, a: Address) -> bool
+    ensures { result ≡ is_cell space.now.p b.0 size a.0 }
 {
-    let start = Space { p }.start(b);
+    let start = space.start(b);
     let from = start.0;
     let at = a.0;
-    let bytes = p.bytes;
+    let bytes = space.p.bytes;
     if size == 0 {
         return false;
     }
@@ -242,27 +247,26 @@ pub(crate) fn is_cell(p: Params, b: Block, size: usize, a: Address) -> bool
 }
 
 // A link of the block b, whose cells have `size` bytes: 0 or a whole cell of it.
-pub(crate) fn link_ok(p: Params, b: Block, size: usize, a: Address) -> bool
-    requires { good_params p ≡ true }
-    ensures { result ≡ (eqb a.0 0 || is_cell p b.0 size a.0) }
+pub(crate) fn link_ok(space: &Space, b: Block, size: usize, a: Address) -> bool
+    ensures { result ≡ (eqb a.0 0 || is_cell space.now.p b.0 size a.0) }
 {
-    a.0 == 0 || is_cell(p, b, size, a)
+    a.0 == 0 || is_cell(space, b, size, a)
 }
 
 // Takes the cell at the block's free head. Its link is read before the whole cell is zeroed: the link lies in it.
-pub(crate) fn block_alloc(p: Params, words: &mut [usize], heap: &mut [u8], b: Block) -> Taken
-    requires { (good_params p ≡ true) × (length words.old ≡ word_count p) }
-    ensures { took result (view words.new) heap.new ≡ take_free p b.0 (view words.old) heap.old }
+pub(crate) fn block_alloc(space: &Space, words: &mut [usize], heap: &mut [u8], b: Block) -> Taken
+    requires { length words.old ≡ word_count space.now.p }
+    ensures { took result (view words.new) heap.new ≡ take_free space.now.p b.0 (view words.old) heap.old }
 {
-    let blocks = p.blocks;
+    let blocks = space.p.blocks;
     let cell = known::free(words, blocks, b);
     let size = known::size(words, blocks, b);
     let counted = known::cells(words, blocks, b);
     let rest = counted.saturating_sub(1);
-    let link = memory::load(p, heap, Address(cell));
+    let link = memory::load(space.p, heap, Address(cell));
     known::set_free(words, blocks, b, link);
     known::set_cells(words, blocks, b, rest);
-    memory::zero(p, heap, Address(cell), size);
+    memory::zero(space.p, heap, Address(cell), size);
     Taken {
         at: Address(cell),
         size,

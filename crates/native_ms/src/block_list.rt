@@ -1,7 +1,7 @@
 // The four list operations, on table words: a list is a number below 1,470, a link is an address, 0 for none.
 // They are right on any words; that lists are sound is nothing they need.
-ghost use Rattle.std.specs.Prelude.{◌≡◌, true, ℕ, ◌<◌, length, map};
-ghost use Rattle.model.specs.Params.{good_params, bins, last_bin, lists};
+ghost use Rattle.std.specs.Prelude.{◌≡◌, ℕ, ◌<◌, length, map};
+ghost use Rattle.model.specs.Params.{bins, last_bin, lists};
 ghost use Rattle.model.specs.Tables.{view};
 ghost use Rattle.model.specs.BlockList.{popped, push, pop, remove, relabel, link, walk};
 ghost use Rattle.model.specs.Calls.{pages};

@@ -174,34 +174,33 @@ pub(crate) fn check_alloc(
 // ---- mark
 
 // Where the object of a mark place starts: place − L.
-fn minus_lower(p: Params, place: Address) -> Address
-    requires { (good_params p ≡ true) × (4096 ≤ place.0) × (place.0 ≤ 2 ^ 48) }
-    ensures { result.0 ≡ minus_lower p place.0 }
+fn minus_lower(space: &Space, place: Address) -> Address
+    requires { (4096 ≤ place.0) × (place.0 ≤ 2 ^ 48) }
+    ensures { result.0 ≡ minus_lower space.now.p place.0 }
 {
     let a = place.0 + 64;
-    let object = a - block::biased(p.lower);
+    let object = a - block::biased(space.p.lower);
     Address(object)
 }
 
-fn in_block(p: Params, b: Block, a: Address) -> bool
-    requires { (good_params p ≡ true) × (b.0 < p.blocks) }
-    ensures { result ≡ in_block p b.0 a.0 }
+fn in_block(space: &Space, b: Block, a: Address) -> bool
+    requires { b.0 < space.now.p.blocks }
+    ensures { result ≡ in_block space.now.p b.0 a.0 }
 {
-    let from = Space { p }.start(b);
+    let from = space.start(b);
     let v = from.0;
     let x = a.0;
     if x < v {
         return false;
     }
-    x < v + p.bytes
+    x < v + space.p.bytes
 }
 
 // Whether the place can be marked for the block.
-fn good_object(p: Params, st: &[u8], place: Address, b: Block) -> bool
-    requires { good_params p ≡ true }
-    ensures { (w : Words) (m : List ℕ) → result ≡ good_object p (tables_of w st.now m) place.0 b.0 }
+fn good_object(space: &Space, st: &[u8], place: Address, b: Block) -> bool
+    ensures { (w : Words) (m : List ℕ) → result ≡ good_object space.now.p (tables_of w st.now m) place.0 b.0 }
 {
-    let inside = Space { p }.in_heap(place);
+    let inside = space.in_heap(place);
     if !inside {
         return false;
     }
@@ -209,29 +208,28 @@ fn good_object(p: Params, st: &[u8], place: Address, b: Block) -> bool
         return false;
     }
     let i = b.0;
-    if p.blocks <= i {
+    if space.p.blocks <= i {
         return false;
     }
     let s = states::state(st, i);
     if s == block::UNALLOCATED {
         return false;
     }
-    let a = minus_lower(p, place);
-    in_block(p, b, a)
+    let a = minus_lower(space, place);
+    in_block(space, b, a)
 }
 
 pub(crate) fn check_mark(
-    p: Params,
+    space: &Space,
     w: &[usize],
     st: &[u8],
     place: Address,
     b: Block,
 ) -> Result<(), Refusal>
-    requires { good_params p ≡ true }
-    ensures { (m : List ℕ) → result ≡ mark_tests p (tables_of (view w.now) st.now m) place.0 b.0 }
+    ensures { (m : List ℕ) → result ≡ mark_tests space.now.p (tables_of (view w.now) st.now m) place.0 b.0 }
 {
     check_phase(w, global::MARKING)?;
-    if !good_object(p, st, place, b) {
+    if !good_object(space, st, place, b) {
         return Err(Refusal::BadObject);
     }
     Ok(())

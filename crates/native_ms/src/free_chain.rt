@@ -32,7 +32,9 @@ pub fn first(p: Params, words: &[usize], b: Block) -> ChainWalk
 pub fn more(p: Params, walk: ChainWalk) -> bool
     ensures { result ≡ more_cells p walk }
 {
-    params::good_params(p) && 0 < walk.left && block::is_cell(p, walk.block, walk.size, walk.at)
+    params::good_params(p)
+        && 0 < walk.left
+        && block::is_cell(&Space { p }, walk.block, walk.size, walk.at)
 }
 
 // The walk from the cell's link on.

@@ -11,54 +11,58 @@ ghost use Rattle.model.specs.Promise.{lend};
 ghost use Rattle.native_ms.specs.SoundLent.{Lengths};
 ghost use Rattle.native_ms.specs.FewCells.{FewCells, cells_in};
 
+use crate::address::Space;
 use crate::sound::{blocks, eager, known};
 use crate::{block, checks, memory, sound};
 use model::{Address, BINS, Block, Params, Refusal};
 use words::{states, tables};
 
 // From the address `head` on, `count` whole cells of b linked one after the other, and then 0.
-fn chain_counts(p: Params, heap: &[u8], b: Block, size: usize, head: usize, count: usize) -> bool
-    requires { good_params p ≡ true }
-    ensures { result ≡ chain_counts count p heap.now b.0 size head }
+fn chain_counts(
+    space: &Space,
+    heap: &[u8],
+    b: Block,
+    size: usize,
+    head: usize,
+    count: usize,
+) -> bool
+    ensures { result ≡ chain_counts count space.now.p heap.now b.0 size head }
 {
     let mut at = head;
     for _ in 0..count {
-        if !block::is_cell(p, b, size, Address(at)) {
+        if !block::is_cell(space, b, size, Address(at)) {
             return false;
         }
-        at = memory::load(p, heap, Address(at));
+        at = memory::load(space.p, heap, Address(at));
     }
     at == 0
 }
 
 // The block's count is its chain's length.
 #[tactic(auto, unfolding(model::specs::Sound::chain_ok))]
-fn chain_ok(p: Params, words: &[usize], heap: &[u8], b: Block) -> bool
-    requires { good_params p ≡ true }
-    ensures { result ≡ chain_ok p heap.now (view words.now) b.0 }
+fn chain_ok(space: &Space, words: &[usize], heap: &[u8], b: Block) -> bool
+    ensures { result ≡ chain_ok space.now.p heap.now (view words.now) b.0 }
 {
     let count = tables::cells(words, b.0);
     let size = tables::size(words, b.0);
-    count <= block::cell_count(p, size)
-        && chain_counts(p, heap, b, size, tables::free(words, b.0), count)
+    count <= block::cell_count(space.p, size)
+        && chain_counts(space, heap, b, size, tables::free(words, b.0), count)
 }
 
 // An Unallocated block has no chain.
-fn block_chained(p: Params, words: &[usize], states: &[u8], heap: &[u8], b: Block) -> bool
-    requires { good_params p ≡ true }
-    ensures { result ≡ (eqb (get_or states.now b.0 0) 0 || chain_ok p heap.now (view words.now) b.0) }
+fn block_chained(space: &Space, words: &[usize], states: &[u8], heap: &[u8], b: Block) -> bool
+    ensures { result ≡ (eqb (get_or states.now b.0 0) 0 || chain_ok space.now.p heap.now (view words.now) b.0) }
 {
-    states::state(states, b.0) == block::UNALLOCATED || chain_ok(p, words, heap, b)
+    states::state(states, b.0) == block::UNALLOCATED || chain_ok(space, words, heap, b)
 }
 
 // Each block's chain.
 #[tactic(auto, using(laws::proofs::Below::all_below_from), unfolding(model::specs::Sound::chained, model::specs::Sound::state_of))]
-pub(crate) fn chained(p: Params, words: &[usize], states: &[u8], heap: &[u8]) -> bool
-    requires { good_params p ≡ true }
-    ensures { (m : List ℕ) → result ≡ chained p (tables_of (view words.now) states.now m) heap.now }
+pub(crate) fn chained(space: &Space, words: &[usize], states: &[u8], heap: &[u8]) -> bool
+    ensures { (m : List ℕ) → result ≡ chained space.now.p (tables_of (view words.now) states.now m) heap.now }
 {
-    for b in 0..p.blocks {
-        if !block_chained(p, words, states, heap, Block(b)) {
+    for b in 0..space.p.blocks {
+        if !block_chained(space, words, states, heap, Block(b)) {
             return false;
         }
     }
@@ -98,7 +102,7 @@ pub(crate) fn sound_on(p: Params, words: &[usize], states: &[u8], heap: &[u8]) -
 {
     sound::sound(p, words, states)
         && eager::eager_ok(p, words, states)
-        && chained(p, words, states, heap)
+        && chained(&Space { p }, words, states, heap)
 }
 
 // The total free cells of a bin over all lists, in every phase.

@@ -313,8 +313,9 @@ fn serve_searched(
             swept: search.swept,
         });
     };
-    let b = Space { p }.block_at(start.at);
-    let taken = block::block_alloc(p, words, heap, b);
+    let space = Space { p };
+    let b = space.block_at(start.at);
+    let taken = block::block_alloc(&space, words, heap, b);
     let address = allocator::align_allocation(taken.at, wanted.align, wanted.offset);
     Ok(Served {
         address,

@@ -10,9 +10,9 @@
 // | release, shared release | Marking, Releasing | Releasing; the last: Running |
 mod eager;
 
-ghost use Rattle.std.specs.Prelude.{◌≡◌, true, not, ◌||◌, List, map, ℕ, ◌<◌, ◌≤◌, length, get_or, replicate};
+ghost use Rattle.std.specs.Prelude.{◌≡◌, not, ◌||◌, List, map, ℕ, ◌<◌, ◌≤◌, length, get_or, replicate};
 ghost use Rattle.model.specs.declared.Params.{Params};
-ghost use Rattle.model.specs.Params.{good_params, bins, lists, holders, parts, head_words, abandoned, in_gc};
+ghost use Rattle.model.specs.Params.{bins, lists, holders, parts, head_words, abandoned, in_gc};
 ghost use Rattle.model.specs.Tables.{view, tables_of, with_released};
 ghost use Rattle.model.specs.Global.{freed, unmarked_state, release_from, release_bin, release_holder, sweep_later_bin, sweep_later, is_holder, is_bound, has_released, all_released};
 ghost use Rattle.model.specs.Calls.{bind, destroy, prepare, mark, release, shared_release};
@@ -158,13 +158,12 @@ fn abandon_blocks(space: &Space, w: &mut [usize], to: usize, from: usize) -> usi
 
 // Hands a holder's lists to abandoned, where the shared release treats them; the holder is bound no more. The answer is how many
 // blocks it left behind.
-pub(crate) fn do_destroy(p: Params, w: &mut [usize], holder: usize) -> Result<usize, Refusal>
-    requires { good_params p ≡ true }
-    ensures { (s m h : List ℕ) → Does p (tables_of (view w.old) s m) h (destroy holder) (count_reply result) (tables_of (view w.new) s m) h }
+pub(crate) fn do_destroy(space: &Space, w: &mut [usize], holder: usize) -> Result<usize, Refusal>
+    ensures { (s m h : List ℕ) → Does space.now.p (tables_of (view w.old) s m) h (destroy holder) (count_reply result) (tables_of (view w.new) s m) h }
 {
     checks::check_leave(w, holder)?;
     let from = address::local_sets(holder);
-    let count = abandon_blocks(&Space { p }, w, ABANDONED, from);
+    let count = abandon_blocks(space, w, ABANDONED, from);
     tables::set_bound(w, holder - 1, 0);
     Ok(count)
 }
@@ -180,7 +179,7 @@ pub fn destroy(
     ensures { Promised p (lend words.old states.now marks.now heap.now) (destroy holder) (count_reply result) (lend words.new states.now marks.now heap.now) }
 {
     checks::check_lent(p, words, states, marks, heap)?;
-    do_destroy(p, words, holder)
+    do_destroy(&Space { p }, words, holder)
 }
 
 // ---- marking
@@ -230,22 +229,21 @@ pub fn prepare(
 
 // Marks a place of a block, and says whether the mark is new. A repeated mark changes nothing.
 pub(crate) fn do_mark(
-    p: Params,
+    space: &Space,
     w: &[usize],
     st: &mut [u8],
     m: &mut [u8],
     place: Address,
     b: Block,
 ) -> Result<bool, Refusal>
-    requires { good_params p ≡ true }
-    ensures { (h : List ℕ) → Does p (tables_of (view w.now) st.old m.old) h (mark place.0 b.0) (mark_reply result) (tables_of (view w.now) st.new m.new) h }
+    ensures { (h : List ℕ) → Does space.now.p (tables_of (view w.now) st.old m.old) h (mark place.0 b.0) (mark_reply result) (tables_of (view w.now) st.new m.new) h }
 {
-    checks::check_mark(p, w, st, place, b)?;
-    if memory::is_marked(p, m, place) {
+    checks::check_mark(space, w, st, place, b)?;
+    if memory::is_marked(space, m, place) {
         return Ok(false);
     }
     states::set_state(st, b.0, block::MARKED);
-    memory::set_mark(p, m, place);
+    memory::set_mark(space.p, m, place);
     Ok(true)
 }
 
@@ -261,7 +259,7 @@ pub fn mark(
     ensures { Promised p (lend words.now states.old marks.old heap.now) (mark place.0 block.0) (mark_reply result) (lend words.now states.new marks.new heap.now) }
 {
     checks::check_lent(p, words, states, marks, heap)?;
-    do_mark(p, words, states, marks, place, block)
+    do_mark(&Space { p }, words, states, marks, place, block)
 }
 
 // ---- releasing

@@ -1,7 +1,6 @@
 // Words, zeros and mark bits by address, over the lent heap and mark bytes. Total: an address below the heap is taken for
 // its first byte, as in the definitions.
-ghost use Rattle.std.specs.Prelude.{◌≡◌, true, ◌-◌};
-ghost use Rattle.model.specs.Params.{good_params};
+ghost use Rattle.std.specs.Prelude.{◌≡◌, ◌-◌};
 ghost use Rattle.model.specs.Memory.{load, store, zeroed, marked, set_mark};
 
 use crate::address::Space;
@@ -38,11 +37,10 @@ pub(crate) fn zero(p: Params, h: &mut [u8], a: Address, n: usize)
 }
 
 // Whether a place is marked; one outside the heap is not.
-pub(crate) fn is_marked(p: Params, m: &[u8], place: Address) -> bool
-    requires { good_params p ≡ true }
-    ensures { result ≡ marked p m.now place.0 }
+pub(crate) fn is_marked(space: &Space, m: &[u8], place: Address) -> bool
+    ensures { result ≡ marked space.now.p m.now place.0 }
 {
-    Space { p }.in_heap(place) && marks::test(m, offset(p, place) / 8)
+    space.in_heap(place) && marks::test(m, offset(space.p, place) / 8)
 }
 
 pub(crate) fn set_mark(p: Params, m: &mut [u8], place: Address)

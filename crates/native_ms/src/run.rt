@@ -10,6 +10,7 @@ ghost use Rattle.model.specs.Promise.{lend};
 ghost use Rattle.native_ms.specs.Checked.{lent_tests};
 ghost use Rattle.native_ms.specs.RunLoop.{entry_call, ran, laid, refused_reply, refused_from};
 
+use crate::address::Space;
 use crate::free_list_allocator::Short;
 use crate::{checks, free_list_allocator, global};
 use model::{Address, Ask, Block, Params, Refusal, Request, Said};
@@ -78,7 +79,7 @@ fn make(
 {
     match ask {
         Ask::Bind(h) => Said::from(global::do_bind(words, h)),
-        Ask::Destroy(h) => Said::from(global::do_destroy(p, words, h)),
+        Ask::Destroy(h) => Said::from(global::do_destroy(&Space { p }, words, h)),
         Ask::Alloc { holder, request } => {
             match free_list_allocator::alloc_short(p, words, states, heap, holder, request) {
                 Short::Ends(answer) => Said::from(answer),
@@ -89,7 +90,7 @@ fn make(
         }
         Ask::Prepare => Said::from(global::do_prepare(words, states, marks)),
         Ask::Mark { place, block } => Said::from(global::do_mark(
-            p,
+            &Space { p },
             words,
             states,
             marks,

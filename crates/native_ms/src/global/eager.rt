@@ -1,8 +1,8 @@
 // The end of a collection with the choice of eager sweeping (02, R-8): the last part sweeps every occupied block, and files anew
 // those of abandoned and in-gc that are consumed but have a free cell now. In the Rust `generate_sweep_tasks` and `recycle_blocks` of
 // global.rs.
-ghost use Rattle.std.specs.Prelude.{◌≡◌, true, not, ◌||◌, ◌<◌, ◌≤◌, length, get_or};
-ghost use Rattle.model.specs.Params.{good_params, bins, parts, head_words, in_gc};
+ghost use Rattle.std.specs.Prelude.{◌≡◌, not, ◌||◌, ◌<◌, ◌≤◌, length, get_or};
+ghost use Rattle.model.specs.Params.{bins, parts, head_words, in_gc};
 ghost use Rattle.model.specs.Tables.{view};
 ghost use Rattle.model.specs.Global.{freed, is_bound, has_released, is_last, sweep_block, sweep_all, recycle_from, recycle_bin, recycle_blocks, eagerly};
 ghost use Rattle.native_ms.specs.Eager.{done, swept_in, recycle_block, after_part};

@@ -7,6 +7,7 @@ ghost use Rattle.native_ms.specs.SoundWalk.{in_use, names_list, block_fits, unus
 ghost use Rattle.native_ms.specs.SoundLent.{Lengths};
 ghost use Rattle.native_ms.specs.Borders.{Sizes};
 
+use crate::address::Space;
 use crate::sound::known;
 use crate::{block, global};
 use model::{ABANDONED, BINS, Block, LISTS, Params};
@@ -115,7 +116,7 @@ impl<'a> Blocks<'a> {
         in_use(state)
             && self.names_list(b)
             && self.size_ok(b)
-            && block::link_ok(*self.p, b, size, free)
+            && block::link_ok(&Space { p: *self.p }, b, size, free)
             && self.tls_ok(b)
     }
 

@@ -17,10 +17,10 @@ pub returns-then-bytes-size-2 : goal.returns-then-bytes-size-2
 returns-then-bytes-size-2 c = cell_past _ _ _ _ c.start-start.ensures c.if-size-eq0.false c.if-at-from.false c.if-bytes-size.false c.if-bytes-size-2.true
 
 pub overflow_cast-result : goal.overflow_cast-result
-overflow_cast-result c = omega (arith, (good_bounds c.args.p (c.requires)).bytes_high)
+overflow_cast-result c = omega (arith, (good_bounds c.args.space.now.p c.args.space.now.good).bytes_high)
 
 pub overflow_cast-result-2 : goal.overflow_cast-result-2
-overflow_cast-result-2 c = omega (arith, (good_bounds c.args.p (c.requires)).bytes_high)
+overflow_cast-result-2 c = omega (arith, (good_bounds c.args.space.now.p c.args.space.now.good).bytes_high)
 
 pub returns : goal.returns
 returns c = cell_here _ _ _ _ c.start-start.ensures c.if-size-eq0.false c.if-at-from.false c.if-bytes-size.false c.if-bytes-size-2.false

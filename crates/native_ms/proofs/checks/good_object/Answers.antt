@@ -11,14 +11,14 @@ returns-then-not-inside c = λ w m. object_out _ _ _ _ c.in_heap-inside.ensures 
 pub returns-then-place-ne0 : goal.returns-then-place-ne0
 returns-then-place-ne0 c = λ w m. object_odd _ _ _ _ c.in_heap-inside.ensures w m c.if-not-inside.false c.if-place-ne0.true
 
-pub returns-then-p-i : goal.returns-then-p-i
-returns-then-p-i c = λ w m. object_past _ _ _ _ c.in_heap-inside.ensures w m c.if-not-inside.false c.if-place-ne0.false c.if-p-i.true
+pub returns-then-space-i : goal.returns-then-space-i
+returns-then-space-i c = λ w m. object_past _ _ _ _ c.in_heap-inside.ensures w m c.if-not-inside.false c.if-place-ne0.false c.if-space-i.true
 
 pub returns-then-s-eq-UNALLOCATED : goal.returns-then-s-eq-UNALLOCATED
-returns-then-s-eq-UNALLOCATED c = λ w m. object_none _ _ _ _ c.in_heap-inside.ensures w m c.if-not-inside.false c.if-place-ne0.false c.if-p-i.false c.state-s.ensures c.if-s-eq-UNALLOCATED.true
+returns-then-s-eq-UNALLOCATED c = λ w m. object_none _ _ _ _ c.in_heap-inside.ensures w m c.if-not-inside.false c.if-place-ne0.false c.if-space-i.false c.state-s.ensures c.if-s-eq-UNALLOCATED.true
 
 pub minus_lower-a-requires : goal.minus_lower-a-requires
-minus_lower-a-requires c = let b = good_bounds c.args.p (c.requires) in let y = sym c.in_heap-inside.ensures ∙ c.if-not-inside.false in (c.requires, omega (arith, b.base_low, in_heap_low c.args.p _ y), omega (arith, b.end_high, in_heap_high c.args.p _ y))
+minus_lower-a-requires c = let b = good_bounds c.args.space.now.p c.args.space.now.good in let y = sym c.in_heap-inside.ensures ∙ c.if-not-inside.false in (omega (arith, b.base_low, in_heap_low c.args.space.now.p _ y), omega (arith, b.end_high, in_heap_high c.args.space.now.p _ y))
 
 pub returns : goal.returns
-returns c = λ w m. object_at _ _ _ _ c.in_heap-inside.ensures w m c.if-not-inside.false c.if-place-ne0.false c.if-p-i.false c.state-s.ensures c.if-s-eq-UNALLOCATED.false c.minus_lower-a.ensures c.in_block.ensures
+returns c = λ w m. object_at _ _ _ _ c.in_heap-inside.ensures w m c.if-not-inside.false c.if-place-ne0.false c.if-space-i.false c.state-s.ensures c.if-s-eq-UNALLOCATED.false c.minus_lower-a.ensures c.in_block.ensures

@@ -7,7 +7,7 @@ pub returns-then-x-v : goal.returns-then-x-v
 returns-then-x-v c = in_block_under _ _ _ c.start-from.ensures c.if-x-v.true
 
 pub overflow_add-result : goal.overflow_add-result
-overflow_add-result c = omega (arith, start_room _ _ c.requires.0 c.requires.1 c.start-from.ensures)
+overflow_add-result c = omega (arith, start_room _ _ c.args.space.now.good c.requires c.start-from.ensures)
 
 pub returns : goal.returns
 returns c = in_block_from _ _ _ c.start-from.ensures c.if-x-v.false

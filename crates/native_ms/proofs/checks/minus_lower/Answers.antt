@@ -8,11 +8,11 @@ use Rattle.native_ms.proofs.Lower.{back}
 use Rattle.native_ms.proofs.checks.minus_lower.Goals as goal
 
 pub biased-requires : goal.biased-requires
-biased-requires c = let l = (good c.args.p c.requires.0).lower_ok_lem in ap lower_ok (back c.args.p.lower l) ∙ l
+biased-requires c = let l = (good c.args.space.now.p c.args.space.now.good).lower_ok_lem in ap lower_ok (back c.args.space.now.p.lower l) ∙ l
 
 pub overflow_sub-object : goal.overflow_sub-object
-overflow_sub-object c = let l = (good c.args.p c.requires.0).lower_ok_lem in omega (arith, (good_bounds c.args.p c.requires.0).lower_high, c.biased.ensures ∙ ap biased (back c.args.p.lower l), c.requires.1)
+overflow_sub-object c = let l = (good c.args.space.now.p c.args.space.now.good).lower_ok_lem in omega (arith, (good_bounds c.args.space.now.p c.args.space.now.good).lower_high, c.biased.ensures ∙ ap biased (back c.args.space.now.p.lower l), c.requires.0)
 
 pub returns : goal.returns
 unfolding minus_lower
-returns c = let l = (good c.args.p c.requires.0).lower_ok_lem in rw (c.biased.ensures ∙ ap biased (back c.args.p.lower l))
+returns c = let l = (good c.args.space.now.p c.args.space.now.good).lower_ok_lem in rw (c.biased.ensures ∙ ap biased (back c.args.space.now.p.lower l))

@@ -5,8 +5,8 @@ use Rattle.native_ms.proofs.Tests.{lent_refused, lent_passed, open_good}
 use mathlib.Core.Path.{sym, ◌∙◌}
 use Rattle.native_ms.proofs.global.destroy.Goals as goal
 
-pub do_destroy-requires : goal.do_destroy-requires
-do_destroy-requires c = open_good c.args.p _ _ _ _ (sym c.check_lent.ensures ∙ c.in_ok-check_lent.was)
+pub invariant_of-do_destroy : goal.invariant_of-do_destroy
+invariant_of-do_destroy c = record { good = open_good c.args.p _ _ _ _ (sym c.check_lent.ensures ∙ c.in_ok-check_lent.was) }
 
 pub returns-in_err-check_lent : goal.returns-in_err-check_lent
 unfolding count_reply

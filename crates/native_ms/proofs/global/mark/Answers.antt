@@ -5,8 +5,8 @@ use Rattle.native_ms.proofs.Tests.{lent_refused, lent_passed, open_good}
 use mathlib.Core.Path.{refl, sym, ◌∙◌}
 use Rattle.native_ms.proofs.global.mark.Goals as goal
 
-pub do_mark-requires : goal.do_mark-requires
-do_mark-requires c = open_good c.args.p _ _ _ _ (sym c.check_lent.ensures ∙ c.in_ok-check_lent.was)
+pub invariant_of-do_mark : goal.invariant_of-do_mark
+invariant_of-do_mark c = record { good = open_good c.args.p _ _ _ _ (sym c.check_lent.ensures ∙ c.in_ok-check_lent.was) }
 
 pub returns-in_err-check_lent : goal.returns-in_err-check_lent
 unfolding mark_reply

@@ -6,8 +6,8 @@ use Rattle.native_ms.proofs.AllocCall.{short_passed, short_serves, short_then}
 use Rattle.native_ms.proofs.RunLaws.{call_made}
 use Rattle.native_ms.proofs.run.make.Goals as goal
 
-pub do_destroy-requires : goal.do_destroy-requires
-do_destroy-requires c = open_good c.args.p _ _ _ _ c.requires
+pub invariant_of-do_destroy : goal.invariant_of-do_destroy
+invariant_of-do_destroy c = record { good = open_good c.args.p _ _ _ _ c.requires }
 
 pub alloc_short-requires : goal.alloc_short-requires
 alloc_short-requires c = record { marks = c.args.marks.now; passed = c.requires }
@@ -18,8 +18,8 @@ alloc_searched-requires c = (short_passed c.args.p c.args.states.now c.args.mark
 pub do_prepare-requires : goal.do_prepare-requires
 do_prepare-requires c = open_long c.args.p _ _ _ _ c.requires
 
-pub do_mark-requires : goal.do_mark-requires
-do_mark-requires c = open_good c.args.p _ _ _ _ c.requires
+pub invariant_of-do_mark : goal.invariant_of-do_mark
+invariant_of-do_mark c = record { good = open_good c.args.p _ _ _ _ c.requires }
 
 pub do_release-requires : goal.do_release-requires
 do_release-requires c = open_known c.args.p _ _ _ _ c.requires
