@@ -7,7 +7,7 @@ mod known;
 mod marks;
 
 ghost use Rattle.std.specs.Prelude.{◌≡◌, true, false, ◌||◌, ◌-◌, ◌*◌, ◌/◌, ◌^◌, ◌≤◌, ◌<◌, eqb, length, get_or};
-ghost use Rattle.model.specs.Params.{good_params, word_count, lower_ok, biased};
+ghost use Rattle.model.specs.Params.{word_count, lower_ok, biased};
 ghost use Rattle.model.specs.Tables.{view};
 ghost use Rattle.model.specs.Block.{simple, cell_count, cells_down, is_cell};
 ghost use Rattle.native_ms.specs.Block.{kept_by, Room, Built, SweptBy, Swept, Initialised, Cleared, took, take_free};
@@ -51,19 +51,19 @@ pub(crate) fn is_simple(p: Params) -> bool
 
 // Whether a sweep keeps the cell.
 pub(crate) fn cell_is_marked(
-    p: Params,
+    space: &Space,
     simple: bool,
     marks: &[u8],
     cell: Address,
     size: usize,
 ) -> bool
-    requires { (good_params p ≡ true) × (cell.0 ≤ 2 ^ 50) × (size ≤ 65536) }
-    ensures { result ≡ kept_by simple p marks.now size cell.0 }
+    requires { (cell.0 ≤ 2 ^ 50) × (size ≤ 65536) }
+    ensures { result ≡ kept_by simple space.now.p marks.now size cell.0 }
 {
     if simple {
-        return memory::is_marked(&Space { p }, marks, cell);
+        return memory::is_marked(space, marks, cell);
     }
-    marks::any_marked(p, marks, cell, size)
+    marks::any_marked(space, marks, cell, size)
 }
 
 // How many whole cells of this size a block has; the short tail is none.
@@ -89,11 +89,12 @@ fn link_unmarked(
     requires { Room p from.0 size count }
     ensures { Built p (cells_down (kept_by simple p marks.now size) from.0 size count) heap.old result.head result.count heap.new }
 {
+    let space = Space { p };
     let mut last: usize = 0;
     let mut linked: usize = 0;
     for seen in 0..count {
         let cell = from.0 + seen * size;
-        if !cell_is_marked(p, simple, marks, Address(cell), size) {
+        if !cell_is_marked(&space, simple, marks, Address(cell), size) {
             memory::store(p, heap, Address(cell), last);
             last = cell;
             linked += 1;
@@ -139,18 +140,17 @@ fn simple_sweep(p: Params, words: &mut [usize], marks: &[u8], heap: &mut [u8], b
 {
     let blocks = p.blocks;
     let size = known::size(words, blocks, b);
-    let span = Span::of_block(p, b, size);
+    let span = Span::of_block(&Space { p }, b, size);
     let chain = chain::link_by_bit(p, marks, heap, span, span.at / 8, 0);
     known::set_free(words, blocks, b, chain.head);
     known::set_cells(words, blocks, b, chain.count);
 }
 
 // L + 64 of good parameters.
-fn up_by(p: Params) -> usize
-    requires { good_params p ≡ true }
-    ensures { result ≡ biased p.lower }
+fn up_by(space: &Space) -> usize
+    ensures { result ≡ biased space.now.p.lower }
 {
-    biased(p.lower)
+    biased(space.p.lower)
 }
 
 // Frees each whole cell with no mark at any of its places.
@@ -160,8 +160,9 @@ fn naive_brute_force_sweep(p: Params, words: &mut [usize], marks: &[u8], heap: &
 {
     let blocks = p.blocks;
     let size = known::size(words, blocks, b);
-    let span = Span::of_block(p, b, size);
-    let up = up_by(p);
+    let space = Space { p };
+    let span = Span::of_block(&space, b, size);
+    let up = up_by(&space);
     let chain = chain::link_brute(p, marks, heap, span, up);
     known::set_free(words, blocks, b, chain.head);
     known::set_cells(words, blocks, b, chain.count);
@@ -198,7 +199,7 @@ pub(crate) fn init_block(
     ensures { Initialised p b.0 size tls (view words.old) heap.old (view words.new) heap.new }
 {
     let blocks = p.blocks;
-    let span = Span::of_block(p, b, size);
+    let span = Span::of_block(&Space { p }, b, size);
     let head = chain::link_cells(p, heap, span);
     known::set_free(words, blocks, b, head);
     known::set_size(words, blocks, b, size);

@@ -32,7 +32,13 @@ pub(crate) fn lent_fits(
     if !params::good_params(p) {
         return false;
     }
-    params::lengths_fit(p, words.len(), states.len(), marks.len(), heap.len())
+    params::lengths_fit(
+        &Space { p },
+        words.len(),
+        states.len(),
+        marks.len(),
+        heap.len(),
+    )
 }
 
 // Parameters and lengths, the rows, and that the tables are sound.
@@ -48,7 +54,7 @@ pub(crate) fn check_lent(
     if !lent_fits(p, words, states, marks, heap) {
         return Err(Refusal::BadSetup);
     }
-    if !classes::classes_fit(p) {
+    if !classes::classes_fit(&Space { p }) {
         return Err(Refusal::BadClasses);
     }
     if !free_counts::sound_on(p, words, states, heap) {

@@ -1,12 +1,12 @@
 // A customer's class table (02, R-5): whether its rows are accepted, and what is named if they are not.
 ghost use Rattle.std.specs.Prelude.{◌≡◌, true, MatchOption, ◌≢◌, ◌+◌, ◌/◌, ◌<◌, ◌≤◌};
-ghost use Rattle.model.specs.Params.{good_params};
 ghost use Rattle.model.specs.SizeClasses.{no_rows};
 ghost use Rattle.model.specs.Classes.{row_fits, bad_count, bad_row, classes_fit};
 ghost use Rattle.model.specs.Calls.{check_classes};
 ghost use Rattle.model.specs.Answers.{classes_reply};
 ghost use Rattle.native_ms.specs.Borders.{Bordered, Surveyed, Sizes};
 
+use crate::address::Space;
 use crate::{params, size_class};
 use model::{BINS, CLASS_WORDS, Params, ROWS, Refusal, Row, Verdict};
 
@@ -45,15 +45,15 @@ fn border(row: Row, at: usize, next: usize) -> usize
 
 // What stands at a count of words, before `end`.
 #[tactic(auto, using(crate::proofs::Limits::rows_few, laws::proofs::Below::sum_start, laws::proofs::Below::sum_up), unfolding(model::specs::Base::flag))]
-fn survey(p: Params, at: usize, end: usize) -> Stretch
-    requires { (good_params p ≡ true) × (at < end) }
-    ensures { Surveyed p at end result.rows result.next }
+fn survey(space: &Space, at: usize, end: usize) -> Stretch
+    requires { at < end }
+    ensures { Surveyed space.now.p at end result.rows result.next }
 {
     let mut over = 0;
     let mut next = end;
-    for n in 0..p.count {
-        over += usize::from(size_class::covers(p.rows[n], at));
-        next = border(p.rows[n], at, next);
+    for n in 0..space.p.count {
+        over += usize::from(size_class::covers(space.p.rows[n], at));
+        next = border(space.p.rows[n], at, next);
     }
     Stretch { rows: over, next }
 }
@@ -61,14 +61,13 @@ fn survey(p: Params, at: usize, end: usize) -> Stretch
 // The least count of words that falls in no row or in more than one, if any does. It goes from border to border, since up to the
 // next one every count falls in the same rows.
 #[tactic(auto, using(crate::proofs::Limits::bytes_few))]
-fn bad_count(p: Params) -> Option<usize>
-    requires { good_params p ≡ true }
-    ensures { MatchOption result (bad_count p ≡ 0) (λ n. (n ≡ bad_count p) × (n ≢ 0)) }
+fn bad_count(space: &Space) -> Option<usize>
+    ensures { MatchOption result (bad_count space.now.p ≡ 0) (λ n. (n ≡ bad_count space.now.p) × (n ≢ 0)) }
 {
-    let words = p.bytes / 8;
+    let words = space.p.bytes / 8;
     let mut at: usize = 1;
     while at <= words {
-        let here = survey(p, at, words + 1);
+        let here = survey(space, at, words + 1);
         if here.rows != 1 {
             return Some(at);
         }
@@ -87,12 +86,11 @@ fn row_fits(p: Params, row: Row) -> bool
 
 // The first row that is unfit, counted from 1, if any is.
 #[tactic(auto, using(crate::proofs::Limits::rows_few))]
-fn bad_row(p: Params) -> Option<usize>
-    requires { good_params p ≡ true }
-    ensures { MatchOption result (bad_row p ≡ 0) (λ n. (n ≡ bad_row p) × (n ≢ 0)) }
+fn bad_row(space: &Space) -> Option<usize>
+    ensures { MatchOption result (bad_row space.now.p ≡ 0) (λ n. (n ≡ bad_row space.now.p) × (n ≢ 0)) }
 {
-    for n in 0..p.count {
-        if !row_fits(p, p.rows[n]) {
+    for n in 0..space.p.count {
+        if !row_fits(space.p, space.p.rows[n]) {
             return Some(n + 1);
         }
     }
@@ -101,35 +99,34 @@ fn bad_row(p: Params) -> Option<usize>
 
 // Whether the rows are accepted. Without rows nothing is looked at.
 #[tactic(auto, unfolding(model::specs::Classes::classes_fit))]
-pub(crate) fn classes_fit(p: Params) -> bool
-    requires { good_params p ≡ true }
-    ensures { result ≡ classes_fit p }
+pub(crate) fn classes_fit(space: &Space) -> bool
+    ensures { result ≡ classes_fit space.now.p }
 {
-    p.count == 0 || bad_count(p).is_none() && bad_row(p).is_none()
+    space.p.count == 0 || bad_count(space).is_none() && bad_row(space).is_none()
 }
 
 // The cells of the rows in words, by bin; 0 for a bin without a row.
 #[tactic(auto, using(crate::proofs::Limits::rows_few))]
-fn row_sizes(p: Params) -> [usize; BINS]
-    requires { (good_params p ≡ true) × (classes_fit p ≡ true) × (p.count ≢ 0) }
-    ensures { Sizes p result }
+fn row_sizes(space: &Space) -> [usize; BINS]
+    requires { (classes_fit space.now.p ≡ true) × (space.now.p.count ≢ 0) }
+    ensures { Sizes space.now.p result }
 {
     let mut sizes = [0; BINS];
-    for n in 0..p.count {
-        sizes[n + 1] = p.rows[n].cell;
+    for n in 0..space.p.count {
+        sizes[n + 1] = space.p.rows[n].cell;
     }
     sizes
 }
 
 // The cells of all bins in words.
-pub(crate) fn class_sizes(p: Params) -> [usize; BINS]
-    requires { (good_params p ≡ true) × (classes_fit p ≡ true) }
-    ensures { Sizes p result }
+pub(crate) fn class_sizes(space: &Space) -> [usize; BINS]
+    requires { classes_fit space.now.p ≡ true }
+    ensures { Sizes space.now.p result }
 {
-    if p.count == 0 {
+    if space.p.count == 0 {
         return CLASS_WORDS;
     }
-    row_sizes(p)
+    row_sizes(space)
 }
 
 // Names the least count of words that is missed or covered twice, or, where there is none, the first unfit row.
@@ -143,10 +140,11 @@ pub fn check_classes(p: Params) -> Result<Verdict, Refusal>
     if p.count == 0 {
         return Ok(Verdict::Accepted);
     }
-    if let Some(count) = bad_count(p) {
+    let space = Space { p };
+    if let Some(count) = bad_count(&space) {
         return Ok(Verdict::BadCount(count));
     }
-    if let Some(row) = bad_row(p) {
+    if let Some(row) = bad_row(&space) {
         return Ok(Verdict::BadRow(row));
     }
     Ok(Verdict::Accepted)

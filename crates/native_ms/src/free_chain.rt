@@ -78,5 +78,5 @@ pub fn frees_cell(p: Params, marks: &[u8], b: Block, size: usize, i: usize) -> b
         return false;
     };
     let simple = block::is_simple(p);
-    !block::cell_is_marked(p, simple, marks, at, size)
+    !block::cell_is_marked(&Space { p }, simple, marks, at, size)
 }

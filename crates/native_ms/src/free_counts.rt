@@ -1,7 +1,7 @@
 // Whether each block's free count is the length of its chain (02, R-7: part of soundness), and the total free cells of a bin. The walk
 // along a chain takes as many steps as are counted, which were held to the block's cells before.
 ghost use Rattle.std.specs.Prelude.{◌≡◌, true, ◌||◌, List, ℕ, ◌+◌, ◌*◌, ◌<◌, ◌≤◌, eqb, length, get_or};
-ghost use Rattle.model.specs.Params.{good_params, head_words, block_tables};
+ghost use Rattle.model.specs.Params.{head_words, block_tables};
 ghost use Rattle.model.specs.Tables.{view, tables_of};
 ghost use Rattle.model.specs.Classes.{classes_fit};
 ghost use Rattle.model.specs.Sound.{chain_counts, chain_ok, chained, sound_on};
@@ -84,13 +84,13 @@ fn cells_in(words: &[usize], blocks: usize, b: Block, bin: usize) -> usize
 
 // Those of all blocks of the bin.
 #[tactic(auto, using(laws::proofs::Below::sum_start, laws::proofs::Below::sum_up, crate::proofs::FreeCountLaws::in_few, crate::proofs::Limits::blocks_few), unfolding(model::specs::Calls::cells_of))]
-fn cells_of(p: Params, words: &[usize], bin: usize) -> usize
-    requires { (good_params p ≡ true) × (length words.now ≡ head_words + block_tables * p.blocks) × FewCells (view words.now) }
-    ensures { result ≡ cells_of p (view words.now) bin }
+fn cells_of(space: &Space, words: &[usize], bin: usize) -> usize
+    requires { (length words.now ≡ head_words + block_tables * space.now.p.blocks) × FewCells (view words.now) }
+    ensures { result ≡ cells_of space.now.p (view words.now) bin }
 {
     let mut total = 0;
-    for b in 0..p.blocks {
-        total += cells_in(words, p.blocks, Block(b), bin);
+    for b in 0..space.p.blocks {
+        total += cells_in(words, space.p.blocks, Block(b), bin);
     }
     total
 }
@@ -120,5 +120,5 @@ pub fn free_cells(
     if bin < 1 || BINS <= bin {
         return Err(Refusal::BadRequest);
     }
-    Ok(cells_of(p, words, bin))
+    Ok(cells_of(&Space { p }, words, bin))
 }

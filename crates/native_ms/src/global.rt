@@ -96,7 +96,7 @@ pub fn set_up(
     if !checks::lent_fits(p, words, states, marks, heap) {
         return Err(Refusal::BadSetup);
     }
-    if !classes::classes_fit(p) {
+    if !classes::classes_fit(&Space { p }) {
         return Err(Refusal::BadClasses);
     }
     clear_words(words);

@@ -2,6 +2,7 @@
 ghost use Rattle.std.specs.Prelude.{◌≡◌, true, not, ◌&&◌, ◌||◌, ◌+◌, ◌*◌, ◌/◌, ◌%◌, ◌^◌, ◌<◌, ◌≤◌, eqb, ltb, leb, nat_abs};
 ghost use Rattle.model.specs.Params.{power_of_two, lower_ok, max_rows, good_params, word_count, heap_bytes};
 
+use crate::address::Space;
 use model::{BLOCK_TABLES, HEAD_WORDS, Params, ROWS};
 
 // A power of two up to 65,536.
@@ -69,12 +70,17 @@ pub(crate) fn good_params(p: Params) -> bool
 
 // Whether lent buffers have the lengths that good parameters give.
 #[tactic(auto, using(crate::proofs::Limits::blocks_few, crate::proofs::Limits::heap_few), unfolding(model::specs::Params::word_count, model::specs::Params::heap_bytes))]
-pub(crate) fn lengths_fit(p: Params, words: usize, states: usize, marks: usize, heap: usize) -> bool
-    requires { good_params p ≡ true }
-    ensures { result ≡ (eqb words (word_count p) && eqb states p.blocks && eqb marks (heap_bytes p / 64) && eqb heap (heap_bytes p)) }
+pub(crate) fn lengths_fit(
+    space: &Space,
+    words: usize,
+    states: usize,
+    marks: usize,
+    heap: usize,
+) -> bool
+    ensures { result ≡ (eqb words (word_count space.now.p) && eqb states space.now.p.blocks && eqb marks (heap_bytes space.now.p / 64) && eqb heap (heap_bytes space.now.p)) }
 {
-    let blocks = p.blocks;
-    let bytes = blocks * p.bytes;
+    let blocks = space.p.blocks;
+    let bytes = blocks * space.p.bytes;
     words == HEAD_WORDS + BLOCK_TABLES * blocks
         && states == blocks
         && marks == bytes / 64

@@ -13,6 +13,7 @@ ghost use Rattle.model.specs.Classes.{classes_fit};
 ghost use Rattle.model.specs.Sound.{sound};
 ghost use Rattle.native_ms.specs.SoundLent.{Lengths};
 
+use crate::address::Space;
 use crate::classes;
 use crate::sound::blocks::Blocks;
 use crate::sound::lists::Lists;
@@ -26,7 +27,7 @@ pub(crate) fn sound(p: Params, words: &[usize], states: &[u8]) -> bool
     if !parts::all_fit(words, &firsts) {
         return false;
     }
-    let classes = classes::class_sizes(p);
+    let classes = classes::class_sizes(&Space { p });
     let Some(unused) = Blocks::new(&p, words, states, &classes).unused() else {
         return false;
     };

@@ -1,12 +1,12 @@
 // The loops that link a block's free cells, by heap offset: that the cells lie in the heap is known before.
-ghost use Rattle.std.specs.Prelude.{◌≡◌, Bool, false, ℕ, ◌+◌, ◌-◌, ◌*◌, ◌/◌, ◌%◌, ◌^◌, ◌≤◌, ◌<◌, true, length, get_or};
+ghost use Rattle.std.specs.Prelude.{◌≡◌, Bool, false, ℕ, ◌+◌, ◌-◌, ◌*◌, ◌/◌, ◌%◌, ◌^◌, ◌≤◌, ◌<◌, length, get_or};
 ghost use Rattle.model.specs.Block.{cells_down};
 ghost use Rattle.native_ms.specs.Bits.{any_bit, Run};
-ghost use Rattle.model.specs.Params.{good_params};
 ghost use Rattle.model.specs.Memory.{bit_of};
 ghost use Rattle.native_ms.specs.Block.{kept_by, Linked};
 ghost use Rattle.native_ms.specs.Places.{Places, Inside, ByBits, Extends, Reach, Asked, Tells};
 
+use crate::address::Space;
 use crate::block::marks;
 use model::{Address, Block, Params};
 use words::{bytes, marks as bits};
@@ -28,14 +28,14 @@ pub(crate) struct Chain {
 
 impl Span {
     // All whole cells of the block.
-    pub(crate) fn of_block(p: Params, b: Block, size: usize) -> Span
-        requires { (good_params p ≡ true) × (b.0 < p.blocks) × (0 < size) }
-        ensures { (result.at ≡ b.0 * p.bytes) × (result.size ≡ size) × (result.count ≡ p.bytes / size) }
+    pub(crate) fn of_block(space: &Space, b: Block, size: usize) -> Span
+        requires { (b.0 < space.now.p.blocks) × (0 < size) }
+        ensures { (result.at ≡ b.0 * space.now.p.bytes) × (result.size ≡ size) × (result.count ≡ space.now.p.bytes / size) }
     {
         Span {
-            at: b.0 * p.bytes,
+            at: b.0 * space.p.bytes,
             size,
-            count: p.bytes / size,
+            count: space.p.bytes / size,
         }
     }
 
@@ -223,6 +223,7 @@ pub(crate) fn link_edge(p: Params, marks: &[u8], heap: &mut [u8], span: Span, he
     ensures { Extends p (kept_by false p marks.now span.size) span.size span.at span.count head heap.old result.head result.count heap.new }
 {
     let size = span.size;
+    let space = Space { p };
     link_unkept(
         p,
         heap,
@@ -230,9 +231,9 @@ pub(crate) fn link_edge(p: Params, marks: &[u8], heap: &mut [u8], span: Span, he
         0,
         head,
         |offset, _|
-            requires { (good_params p ≡ true) × (p.base + offset ≤ 2 ^ 50) × (size ≤ 65536) }
-            ensures { result ≡ kept_by false p marks.entry.now size (p.base + offset) }
-        { marks::any_marked(p, marks, Address(p.base + offset), size) },
+            requires { (space.p.base + offset ≤ 2 ^ 50) × (size ≤ 65536) }
+            ensures { result ≡ kept_by false space.p marks.entry.now size (space.p.base + offset) }
+        { marks::any_marked(&space, marks, Address(space.p.base + offset), size) },
     )
 }
 

@@ -1,11 +1,12 @@
 // The brute-force reading of a cell's marks (R-3): where eight of its places share a whole mark byte, the byte is tested once.
-ghost use Rattle.std.specs.Prelude.{◌≡◌, true, ◌+◌, ◌-◌, ◌*◌, ◌/◌, ◌%◌, ◌^◌, ◌≤◌, ◌<◌, min, length, get_or};
+ghost use Rattle.std.specs.Prelude.{◌≡◌, ◌+◌, ◌-◌, ◌*◌, ◌/◌, ◌%◌, ◌^◌, ◌≤◌, ◌<◌, min, length, get_or};
 ghost use Rattle.model.specs.Base.{any_below};
-ghost use Rattle.model.specs.Params.{good_params, plus_lower};
+ghost use Rattle.model.specs.Params.{plus_lower};
 ghost use Rattle.model.specs.Memory.{marked};
 ghost use Rattle.model.specs.SizeClasses.{words_in};
 ghost use Rattle.native_ms.specs.Bits.{any_bit, Run};
 
+use crate::address::Space;
 use crate::block;
 use model::{Address, Params};
 
@@ -109,16 +110,16 @@ fn any_set(marks: &[u8], first: usize, count: usize) -> bool
 
 // The brute-force reading of one cell: whether one of its places is marked. Those below the heap are skipped; those past its end,
 // and bits that aren't lent, end the run.
-pub(crate) fn any_marked(p: Params, marks: &[u8], cell: Address, size: usize) -> bool
-    requires { (good_params p ≡ true) × (cell.0 ≤ 2 ^ 50) × (size ≤ 65536) }
-    ensures { result ≡ any_below (words_in size) (λ k. marked p marks.now (plus_lower p (cell.0 + 8 * k))) }
+pub(crate) fn any_marked(space: &Space, marks: &[u8], cell: Address, size: usize) -> bool
+    requires { (cell.0 ≤ 2 ^ 50) × (size ≤ 65536) }
+    ensures { result ≡ any_below (words_in size) (λ k. marked space.now.p marks.now (plus_lower space.now.p (cell.0 + 8 * k))) }
 {
     let places = (size + 7) / 8;
-    let first = cell.0 + block::up_by(p);
-    let low = p.base + 64;
+    let first = cell.0 + block::up_by(space);
+    let low = space.p.base + 64;
     let skip = places.min((low.saturating_sub(first) + 7) / 8);
     let from = (first + 8 * skip).saturating_sub(low) / 8;
-    let lines = marks.len().min(p.blocks * p.bytes / 64);
+    let lines = marks.len().min(space.p.blocks * space.p.bytes / 64);
     let left = (8 * lines).saturating_sub(from);
     any_set(marks, from, (places - skip).min(left))
 }

@@ -11,7 +11,7 @@ pub overflow_add-cell : goal.overflow_add-cell
 overflow_add-cell c = omega (arith, (next_fits _ _ _ _ _ c.requires c.loop-seen-test.true refl).0)
 
 pub cell_is_marked-requires : goal.cell_is_marked-requires
-cell_is_marked-requires c = let f = next_fits _ _ _ _ _ c.requires c.loop-seen-test.true refl in (c.requires.good, omega (arith, f.0), f.1)
+cell_is_marked-requires c = let f = next_fits _ _ _ _ _ c.requires c.loop-seen-test.true refl in (omega (arith, f.0), f.1)
 
 pub loop-seen-preserved : goal.loop-seen-preserved
 loop-seen-preserved c =

@@ -9,8 +9,8 @@ pub returns-then-not-lent_fits : goal.returns-then-not-lent_fits
 unfolding lent_tests
 returns-then-not-lent_fits c = then_refused _ (test_no BadSetup c.lent_fits.ensures c.if-not-lent_fits.true) refl
 
-pub classes_fit-requires : goal.classes_fit-requires
-classes_fit-requires c = (fit_parts _ _ _ _ _ c.lent_fits.ensures c.if-not-lent_fits.false).good
+pub invariant_of-classes_fit : goal.invariant_of-classes_fit
+invariant_of-classes_fit c = record { good = (fit_parts _ _ _ _ _ c.lent_fits.ensures c.if-not-lent_fits.false).good }
 
 pub returns-then-not-classes_fit : goal.returns-then-not-classes_fit
 unfolding lent_tests

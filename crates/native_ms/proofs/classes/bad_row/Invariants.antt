@@ -5,4 +5,4 @@ use Rattle.model.specs.Classes.{row_fits}
 use Rattle.native_ms.proofs.classes.bad_row.Given as goal
 
 abbrev pub invariant-loop-n : goal.invariant-loop-n
-invariant-loop-n l = (k : ℕ) → k < l.n → row_fits l.p (get_or l.p.rows k no_row) ≡ true
+invariant-loop-n l = (k : ℕ) → k < l.n → row_fits l.space.p (get_or l.space.p.rows k no_row) ≡ true

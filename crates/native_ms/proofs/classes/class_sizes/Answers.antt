@@ -3,6 +3,6 @@ use Rattle.model.specs.SizeClasses.{class_words, fours}
 use Rattle.native_ms.proofs.Borders.{plain_sizes}
 use Rattle.native_ms.proofs.classes.class_sizes.Goals as goal
 
-pub returns-then-p-eq0 : goal.returns-then-p-eq0
+pub returns-then-space-eq0 : goal.returns-then-space-eq0
 unfolding class_words fours
-returns-then-p-eq0 c = plain_sizes _ c.if-p-eq0.true
+returns-then-space-eq0 c = plain_sizes _ c.if-space-eq0.true

@@ -3,4 +3,4 @@ use Rattle.native_ms.proofs.Borders.{Written}
 use Rattle.native_ms.proofs.classes.row_sizes.Given as goal
 
 abbrev pub invariant-loop-n : goal.invariant-loop-n
-invariant-loop-n l = Written l.p.rows l.n l.sizes
+invariant-loop-n l = Written l.space.p.rows l.n l.sizes

@@ -13,7 +13,7 @@ loop-n-preserved c =
       rows = grind (arith, common_steps, sum_up);
       past = c.border-next.ensures.past;
       low = omega (arith, c.border-next.ensures.low);
-      level = level_step c.args.p.rows c.args.at c.loop-n.n c.loop-n.next c.border-next.result c.border-next.ensures.level c.border-next.ensures.low c.loop-n.invariant.level;
+      level = level_step c.args.space.now.p.rows c.args.at c.loop-n.n c.loop-n.next c.border-next.result c.border-next.ensures.level c.border-next.ensures.low c.loop-n.invariant.level;
     }
 
 pub returns : goal.returns

@@ -8,8 +8,8 @@ use Rattle.native_ms.proofs.classes.survey.Given as goal
 abbrev pub invariant-loop-n : goal.invariant-loop-n
 invariant-loop-n l = record {
   few : l.over ≤ l.n;
-  rows : l.over ≡ over l.p.rows l.at l.n;
+  rows : l.over ≡ over l.space.p.rows l.at l.n;
   past : l.at < l.next;
   low : l.next ≤ l.end;
-  level : (i : ℕ) → i < l.n → Level (get_or l.p.rows i no_row) l.at l.next;
+  level : (i : ℕ) → i < l.n → Level (get_or l.space.p.rows i no_row) l.at l.next;
 }

@@ -13,9 +13,11 @@ returns-then-bin-lt1 c =
       | then-bin-lt1-via-else-bin-lt1+then-bin-ge-BINS w ↦ ask_high c.args.p _ _ _ _ _ c.check_lent.ensures c.in_ok-check_lent.was w.if-bin-lt1.false w.if-bin-ge-BINS.true
     ]
 
+pub invariant_of-cells_of : goal.invariant_of-cells_of
+invariant_of-cells_of c = record { good = ask_good c.args.p _ _ _ _ c.args.bin c.check_lent.ensures c.in_ok-check_lent.was }
+
 pub cells_of-requires : goal.cells_of-requires
 cells_of-requires c = (
-  ask_good c.args.p _ _ _ _ c.args.bin c.check_lent.ensures c.in_ok-check_lent.was,
   ask_long c.args.p _ _ _ _ c.args.bin c.check_lent.ensures c.in_ok-check_lent.was,
   ask_few c.args.p _ _ _ _ c.args.bin c.check_lent.ensures c.in_ok-check_lent.was,
 )

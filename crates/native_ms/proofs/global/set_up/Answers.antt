@@ -8,8 +8,8 @@ pub returns-then-not-lent_fits : goal.returns-then-not-lent_fits
 unfolding reply_of
 returns-then-not-lent_fits c = bad_set_up _ _ _ _ _ c.lent_fits.ensures c.if-not-lent_fits.true
 
-pub classes_fit-requires : goal.classes_fit-requires
-classes_fit-requires c = (fit_parts _ _ _ _ _ c.lent_fits.ensures c.if-not-lent_fits.false).good
+pub invariant_of-classes_fit : goal.invariant_of-classes_fit
+invariant_of-classes_fit c = record { good = (fit_parts _ _ _ _ _ c.lent_fits.ensures c.if-not-lent_fits.false).good }
 
 pub returns-then-not-classes_fit : goal.returns-then-not-classes_fit
 unfolding reply_of

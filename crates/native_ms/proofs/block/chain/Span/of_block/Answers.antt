@@ -5,4 +5,4 @@ use Rattle.native_ms.proofs.Offsets.{block_inside}
 use Rattle.native_ms.proofs.block.chain.Span.of_block.Goals as goal
 
 pub overflow_mul-result : goal.overflow_mul-result
-overflow_mul-result c = omega (arith, block_inside _ c.args.p.blocks c.args.p.bytes c.requires.1, (good_bounds _ c.requires.0).heap_high)
+overflow_mul-result c = omega (arith, block_inside _ c.args.space.now.p.blocks c.args.space.now.p.bytes c.requires.0, (good_bounds _ c.args.space.now.good).heap_high)
