@@ -3,11 +3,10 @@
 // Traces with the listings that oracle/census/listing.py worked out from document 01, replayed: the library's listing of each
 // must have the same bytes. Standard input (made by oracle/census/traces.py) has for each a head of 47 bytes, its lengths and
 // its name, then the trace and the listing.
-ghost use Rattle.std.specs.Prelude.{◌+◌, ◌<◌, ◌≤◌, length};
-
 use std::fmt;
 use std::io::{self, Stdin};
 
+// A head: two numbers of six digits, each with a space behind it, and a name of 32 bytes with a newline behind it.
 const HEAD: usize = 47;
 
 const TRACE: usize = 20000;
@@ -32,25 +31,36 @@ impl fmt::Display for Stop {
     }
 }
 
-fn digit(b: u8) -> usize
-    ensures { result < 10 }
-{
-    usize::from(b % 16 % 10)
+impl From<streams::Cut> for Stop {
+    fn from(_: streams::Cut) -> Stop {
+        Stop::Unread
+    }
 }
 
-// Three digits from `at` on, and six.
-fn three(head: &[u8], at: usize) -> usize
-    requires { at + 3 ≤ length head.now }
-    ensures { result < 1000 }
-{
-    100 * digit(head[at]) + 10 * digit(head[at + 1]) + digit(head[at + 2])
+// A sample as it is read, and the listing that is made of its trace.
+#[derive(Drop)]
+struct Sample {
+    head: [u8; HEAD],
+    input: [u8; TRACE],
+    wanted: [u8; trace::LISTING_BYTES],
+    out: [u8; trace::LISTING_BYTES],
 }
 
-fn number(head: &[u8], at: usize) -> usize
-    requires { at + 6 ≤ length head.now }
-    ensures { result < 1000000 }
-{
-    1000 * three(head, at) + three(head, at + 3)
+// The number of these digits.
+fn number(digits: &[u8]) -> Result<usize, Stop> {
+    let Ok(text) = str::from_utf8(digits) else {
+        return Err(Stop::Cut);
+    };
+    text.parse().map_err(|_| Stop::Cut)
+}
+
+// The lengths of a sample's trace and of its listing.
+fn lengths(head: &[u8; HEAD]) -> Result<(usize, usize), Stop> {
+    Ok((number(&head[..6])?, number(&head[7..13])?))
+}
+
+fn name(head: &[u8; HEAD]) -> &[u8] {
+    &head[14..46]
 }
 
 // A line of standard output.
@@ -62,83 +72,57 @@ fn tell(rt: &impl Print, name: &[u8], as_it_must: bool) -> io::Result<()> {
     rt.write_all(b" DIFFERS\n")
 }
 
-// Reads n bytes, which must be there and fit.
-fn fill(from: Stdin, buf: &mut [u8], n: usize) -> Result<(), Stop> {
-    let k = n.min(buf.len());
-    let Ok(read) = streams::read_input(from, &mut buf[..k]) else {
-        return Err(Stop::Unread);
-    };
-    if read < n {
+// Fills the buffer, as there must be so many bytes.
+fn fill(from: Stdin, buf: &mut [u8]) -> Result<(), Stop> {
+    if streams::read_input(from, buf)? < buf.len() {
         return Err(Stop::Cut);
     }
     Ok(())
 }
 
 // Reads the next sample's head. The answer is whether there is one.
-fn next_head(from: Stdin, head: &mut [u8]) -> Result<bool, Stop> {
-    let Ok(read) = streams::read_input(from, head) else {
-        return Err(Stop::Unread);
-    };
-    if read == 0 {
-        return Ok(false);
-    }
-    if read < HEAD {
+fn next_head(from: Stdin, head: &mut [u8; HEAD]) -> Result<bool, Stop> {
+    let read = streams::read_input(from, head)?;
+    if 0 < read && read < HEAD {
         return Err(Stop::Cut);
     }
-    Ok(true)
+    Ok(0 < read)
 }
 
 // One trace: its listing is made, and held to the one that was read.
 fn compare(
     rt: &impl Print,
-    head: &[u8],
+    name: &[u8],
     input: &[u8],
     wanted: &[u8],
     out: &mut [u8; trace::LISTING_BYTES],
-) -> io::Result<()>
-    requires { 47 ≤ length head.now }
-{
-    let read = number(head, 0).min(input.len());
-    let known = number(head, 7).min(wanted.len());
-    let n = trace::whole_listing(&input[..read], out);
-    let as_it_must = check::same(&out[..n], &wanted[..known]);
-    tell(rt, &head[14..46], as_it_must)
+) -> Result<(), Stop> {
+    let n = trace::whole_listing(input, out);
+    let as_it_must = check::same(&out[..n], wanted);
+    tell(rt, name, as_it_must).map_err(|_| Stop::Unwritten)
 }
 
 // One sample more. The answer is whether there was one.
-fn replay(
-    rt: &impl Print,
-    from: Stdin,
-    head: &mut [u8],
-    input: &mut [u8],
-    wanted: &mut [u8],
-    out: &mut [u8; trace::LISTING_BYTES],
-) -> Result<bool, Stop>
-    requires { 47 ≤ length head.old }
-{
-    if !next_head(from, head)? {
+fn replay(rt: &impl Print, from: Stdin, sample: &mut Sample) -> Result<bool, Stop> {
+    if !next_head(from, &mut sample.head)? {
         return Ok(false);
     }
-    fill(from, input, number(head, 0))?;
-    fill(from, wanted, number(head, 7))?;
-    if compare(rt, head, input, wanted, out).is_err() {
-        return Err(Stop::Unwritten);
-    }
+    let (read, known) = lengths(&sample.head)?;
+    let Some(input) = sample.input.get_mut(..read) else {
+        return Err(Stop::Cut);
+    };
+    let Some(wanted) = sample.wanted.get_mut(..known) else {
+        return Err(Stop::Cut);
+    };
+    fill(from, input)?;
+    fill(from, wanted)?;
+    compare(rt, name(&sample.head), input, wanted, &mut sample.out)?;
     Ok(true)
 }
 
-fn replay_all(
-    rt: &impl Print,
-    from: Stdin,
-    head: &mut [u8],
-    input: &mut [u8],
-    wanted: &mut [u8],
-    out: &mut [u8; trace::LISTING_BYTES],
-) -> Result<(), Stop>
-    requires { 47 ≤ length head.old }
-{
+fn replay_all(rt: &impl Print, from: Stdin, sample: &mut Sample) -> Result<(), Stop> {
     for _ in 0..MOST {
-        if !replay(rt, from, head, input, wanted, out)? {
+        if !replay(rt, from, sample)? {
             return Ok(());
         }
     }
@@ -146,19 +130,13 @@ fn replay_all(
 }
 
 fn main(rt: HostRuntime) {
-    let mut head = [0u8; HEAD];
-    let mut input = [0u8; TRACE];
-    let mut wanted = [0u8; trace::LISTING_BYTES];
-    let mut out = [0u8; trace::LISTING_BYTES];
-    let ran = replay_all(
-        &rt,
-        rt.stdin(),
-        &mut head,
-        &mut input,
-        &mut wanted,
-        &mut out,
-    );
-    if let Err(stop) = ran {
+    let mut sample = Sample {
+        head: [0; HEAD],
+        input: [0; TRACE],
+        wanted: [0; trace::LISTING_BYTES],
+        out: [0; trace::LISTING_BYTES],
+    };
+    if let Err(stop) = replay_all(&rt, rt.stdin(), &mut sample) {
         let _ = eprintln!(rt; "census_samples: {stop}");
     }
 }

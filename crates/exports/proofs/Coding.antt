@@ -1,15 +1,15 @@
 -- Decoding and encoding: that each undoes the other, and what their loops make. Assumes nothing.
 use mathlib.Core.Path.{◌≡◌, refl, sym, ap, ◌∙◌}
-use mathlib.Core.List.{List, [], ◌∷◌, ◌++◌, flat_map, append-nil, append_assoc}
-use Prim.Native.Nat.{ℕ, zero, suc, ◌+◌, ◌-◌, ◌*◌, ◌/◌, ◌%◌, ◌^◌, ◌≤◌, ◌<◌}
+use mathlib.Core.List.{List, [], ◌∷◌, ◌++◌, append-nil, append_assoc}
+use Prim.Native.Nat.{ℕ, zero, suc, ◌+◌, ◌*◌, ◌/◌, ◌%◌, ◌^◌, ◌≤◌, ◌<◌}
 use native.Mathlib.Nat.{not-suc-le-zero, le_of_suc-le-suc}
 use native.Mathlib.Omega.{arith}
-use native.Mathlib.Decide.{dec_lt}
-use lib.ListN.{length, get_or, set, take, drop, length-set, length-append, get_or-append}
-use lib.Seq.{get_or-append-add, take_all, take-length, drop-cons, take-add, drop-drop, ext_get_or, get_or-set_same, get_or-set_other, drop-length}
+use lib.ListN.{length, get_or, take, drop, length-append, get_or-append}
+use lib.Seq.{get_or-append-add, take_all, length-take-le, drop-cons, take-add, drop-drop, ext_get_or}
+use Rattle.std.proofs.lemmas.List.{take_more}
 use Rattle.model.specs.Memory.{load_bytes, bytes_of, overwrite}
 use Rattle.model.specs.Exports.{words_from, decoded, encoded, Inverse}
-use Rattle.laws.proofs.Memory.{Bytes, load_bytes_bytes_of, length_bytes_of, length_overwrite}
+use Rattle.laws.proofs.Memory.{Bytes, load_bytes_bytes_of, length_bytes_of, overwrite_nil}
 
 -- ---- lengths and entries
 
@@ -98,46 +98,42 @@ decode_end b w n e f =
     ext_get_or 0 w (words_from n b 0) (e ∙ sym (length_words n b 0))
     (λ k l. f k (omega arith) ∙ sym (get_d_words n b 0 k (omega arith) ∙ ap (load_bytes 8 b) (omega arith)))
 
-pub decode_round : (b w : List ℕ) (i : ℕ) {v : ℕ} → i < length w → ((k : ℕ) → k < i → get_or w k 0 ≡ load_bytes 8 b (8 * k)) → v ≡ load_bytes 8 b (8 * i)
-    → (k : ℕ) → k < i + 1 → get_or (set w i v) k 0 ≡ load_bytes 8 b (8 * k)
-decode_round b w i {v} l f e k m = go (dec_lt k i)
-  where
-    go : Dec (k < i) → get_or (set w i v) k 0 ≡ load_bytes 8 b (8 * k)
-    go (yes y) = get_or-set_other w i k v 0 (λ q. omega (arith, q, y)) ∙ f k y
-    go (no y) = let q : k ≡ i = omega (arith, y, m) in rw q (get_or-set_same w i v 0 l ∙ e)
-
--- words written one behind the other
-unfoldable pub store_words : ℕ → List ℕ → List ℕ → List ℕ
-store_words i [] b = b
-store_words i (v ∷ ws) b = store_words (i + 8) ws (overwrite i (bytes_of 8 v) b)
-
-take_overwrite : (i : ℕ) (vs b : List ℕ) → i + length vs ≤ length b → take (i + length vs) (overwrite i vs b) ≡ take i b ++ vs
+-- what is written behind what was
+over_behind : (us vs b : List ℕ) → overwrite (length us) vs (overwrite 0 us b) ≡ overwrite 0 (us ++ vs) b
 unfolding overwrite
-take_overwrite zero [] [] l = refl
-take_overwrite zero (v ∷ vs) [] l = absurd (omega arith)
-take_overwrite (suc i) vs [] l = absurd (omega arith)
-take_overwrite zero [] (x ∷ b) l = refl
-take_overwrite zero (v ∷ vs) (x ∷ b) l =
-    let e : 0 + suc (length vs) ≡ suc (0 + length vs) = omega arith in
-    rw e (ap (λ (z : List ℕ). v ∷ z) (take_overwrite zero vs b (omega arith)))
-take_overwrite (suc i) vs (x ∷ b) l =
-    let e : suc i + length vs ≡ suc (i + length vs) = omega arith in
-    rw e (ap (λ (z : List ℕ). x ∷ z) (take_overwrite i vs b (omega arith)))
+over_behind [] vs b = rw (overwrite_nil 0 b)
+over_behind (u ∷ us) vs [] = refl
+over_behind (u ∷ us) vs (x ∷ b) = ap (λ (z : List ℕ). u ∷ z) (over_behind us vs b)
 
-pub store_all : (ws : List ℕ) (i : ℕ) (b : List ℕ) → i + 8 * length ws ≡ length b → store_words i ws b ≡ take i b ++ encoded ws
-unfolding store_words encoded
-store_all [] i b e = sym (append-nil (take i b) ∙ take_all i b (omega arith))
-store_all (v ∷ ws) i b e =
-    let n : length (bytes_of 8 v) ≡ 8 = length_bytes_of 8 v in
-    let m : length (overwrite i (bytes_of 8 v) b) ≡ length b = length_overwrite i (bytes_of 8 v) b in
-    let t : take (i + 8) (overwrite i (bytes_of 8 v) b) ≡ take i b ++ bytes_of 8 v =
-    rw n at (take_overwrite i (bytes_of 8 v) b (omega (arith, n, e))) in
-    store_all ws (i + 8) (overwrite i (bytes_of 8 v) b) (omega (arith, m, e)) ∙ ap (λ (z : List ℕ). z ++ encoded ws) t ∙ append_assoc (take i b) (bytes_of 8 v) (encoded ws)
+encoded_append : (ws vs : List ℕ) → encoded (ws ++ vs) ≡ encoded ws ++ encoded vs
+unfolding encoded
+encoded_append [] vs = refl
+encoded_append (v ∷ ws) vs =
+    ap (λ (z : List ℕ). bytes_of 8 v ++ z) (encoded_append ws vs) ∙ sym (append_assoc (bytes_of 8 v) (encoded ws) (encoded vs))
 
-pub store_round : (w : List ℕ) (i at : ℕ) (b : List ℕ) → i < length w → store_words at (drop i w) b ≡ store_words (at + 8) (drop (i + 1) w) (overwrite at (bytes_of 8 (get_or w i 0)) b)
-unfolding store_words
-store_round w i at b l = let s : suc i ≡ i + 1 = omega arith in rw (drop-cons w i 0 l, s)
+encoded_more : (w : List ℕ) (k : ℕ) → k < length w → encoded (take (k + 1) w) ≡ encoded (take k w) ++ bytes_of 8 (get_or w k 0)
+unfolding encoded
+encoded_more w k l =
+    ap encoded (take_more w k 0 l) ∙ encoded_append (take k w) (get_or w k 0 ∷ [])
+    ∙ ap (λ (z : List ℕ). encoded (take k w) ++ z) (append-nil (bytes_of 8 (get_or w k 0)))
 
-pub store_end : (w b : List ℕ) (i at : ℕ) → i ≡ length w → store_words at (drop i w) b ≡ b
-unfolding store_words
-store_end w b i at e = rw (e, drop-length w)
+pub encode_round : (w b : List ℕ) (k : ℕ) {c d : List ℕ} → k < length w → c ≡ overwrite 0 (encoded (take k w)) b
+    → d ≡ overwrite (8 * k) (bytes_of 8 (get_or w k 0)) c → d ≡ overwrite 0 (encoded (take (k + 1) w)) b
+encode_round w b k l e f =
+    let n : length (encoded (take k w)) ≡ 8 * k = omega (arith, length_encoded (take k w), length-take-le k w (omega (arith, l))) in
+    f ∙ rw (e, ← n, encoded_more w k l) (over_behind (encoded (take k w)) (bytes_of 8 (get_or w k 0)) b)
+
+-- bytes written over as many
+over_whole : (vs b : List ℕ) → length vs ≡ length b → overwrite 0 vs b ≡ vs
+unfolding overwrite
+over_whole [] [] e = refl
+over_whole [] (x ∷ b) e = absurd (omega (arith, e))
+over_whole (v ∷ vs) [] e = absurd (omega (arith, e))
+over_whole (v ∷ vs) (x ∷ b) e = ap (λ (z : List ℕ). v ∷ z) (over_whole vs b (omega (arith, e)))
+
+pub encode_whole : (w b : List ℕ) → length b ≡ 8 * length w → overwrite 0 (encoded w) b ≡ encoded w
+encode_whole w b e = over_whole (encoded w) b (length_encoded w ∙ sym e)
+
+pub length_decoded : (b : List ℕ) → length (decoded b) ≡ length b / 8
+unfolding decoded
+length_decoded b = length_words (length b / 8) b 0

@@ -1,87 +1,74 @@
 -- Laws of the exports' code: one for each way out, and the rows that it reads. Leans on decoding and encoding. Assumes nothing.
+use Rattle.std.specs.Prelude.{if◌then◌else◌}
 use mathlib.Core.Path.{◌≡◌, refl, sym, ap, ◌∙◌}
 use mathlib.Core.Logic.{◌⊎◌, inl, inr}
 use mathlib.Core.Bool.{true, false, ◌&&◌}
-use mathlib.Core.List.{List, [], ◌∷◌}
-use Prim.Native.Nat.{ℕ, zero, suc, ◌+◌, ◌*◌, ◌/◌, ◌%◌, ◌<◌}
+use mathlib.Core.List.{List}
+use Prim.Native.Nat.{ℕ, zero, suc, ◌+◌, ◌*◌, ◌/◌, ◌%◌, ◌≤◌, ◌<◌}
 use native.Mathlib.Nat.{not-suc-le-zero, le_of_suc-le-suc}
 use native.Mathlib.Omega.{arith}
-use native.Mathlib.Decide.{dec_lt}
-use lib.Dec.{eqb}
-use lib.ListN.{length, get_or, set}
-use lib.Seq.{ext_get_or, get_or-set_same, get_or-set_other}
-use borrow.Author.Tests.{eq-eqb, ne_eqb}
+use native.Mathlib.Decide.{ℕ_discrete}
+use lib.Dec.{eqb, leb}
+use lib.ListN.{length, get_or}
+use lib.Seq.{ext_get_or}
+use borrow.Author.Tests.{eq-eqb, ne_eqb, lt-leb, eqb-true, leb-true, leb-false}
 use Rattle.model.specs.declared.Params.{Params}
 use Rattle.model.specs.declared.Row.{Row}
-use Rattle.model.specs.declared.Given.{Given}
 use Rattle.model.specs.declared.Said.{Said}
+use Rattle.model.specs.declared.Refusal.TheVariants.{BadSetup}
 use Rattle.model.specs.Params.{Lent, fits, good_params, word_count, heap_bytes}
-use Rattle.model.specs.Memory.{load_bytes, bytes_of, overwrite}
+use Rattle.model.specs.Memory.{overwrite}
 use Rattle.model.specs.SizeClasses.{no_row, tabulated}
-use Rattle.model.specs.Calls.{refusal_number, Returned, call, set_up, bad_setup, check_classes}
+use Rattle.model.specs.Calls.{refusal_number, Returned, call, set_up, bad_setup}
 use Rattle.model.specs.Answers.{said_of, Outcome, outcome, outcome_of}
-use Rattle.model.specs.Exports.{words_from, decoded, encoded, LentBytes, lend_bytes, decoded_lent, Export, gives, answer_bytes, tells, shown, exported, row_bytes, row_from, rows_of, params_of, flags_ok, rows_ok, called, check_gives, check_called}
-use Rattle.laws.proofs.Below.{test, and_second}
+use Rattle.model.specs.Exports.{decoded, encoded, LentBytes, lend_bytes, decoded_lent, gives, answer_bytes, tells, shown, answer_after, exported, row_bytes, row_from, rows_of}
+use Rattle.model.specs.RunCalls.{whole_words}
+use Rattle.laws.proofs.Below.{test, and_left, and_right, and_second}
 use Rattle.laws.proofs.Params.{good_bounds}
 use Rattle.laws.proofs.Memory.{Bytes}
 use Rattle.model.specs.Promise.{lend}
 use Rattle.exports.specs.declared.Entry.{Entry}
 use Rattle.exports.specs.declared.Entry.TheVariants.{SetUp, Call}
 use Rattle.exports.specs.Entry.{inner_of}
-use Rattle.exports.proofs.Coding.{store_words, store_all, length_words, encoded_decoded}
+use Rattle.exports.proofs.Coding.{encode_whole, length_decoded, encoded_decoded}
 
--- the entry that the code found
-pub entered : (p : Params) (l : Lent) {l' : Lent} {s : Said} {e x : Entry} → e ≡ x → outcome s l' ≡ outcome_of (inner_of x p l)
-    → outcome s l' ≡ outcome_of (inner_of e p l)
-entered p l q h = rw q h
+-- ---- what can be decoded
 
--- ---- the answer
+pub words_few : (len most : ℕ) → whole_words len most ≡ true → (len % 8 ≡ 0) × (len / 8 ≤ most)
+unfolding whole_words
+words_few len most q =
+    (eqb-true (len % 8) 0 (and_left (eqb (len % 8) 0) (leb (len / 8) most) q), leb-true (len / 8) most (and_right (eqb (len % 8) 0) (leb (len / 8) most) q))
 
-put_answer_law : (a : List ℕ) (s : Said) → length a ≡ 32
-    → store_words 0 (s.first ∷ s.second ∷ s.third ∷ s.fourth ∷ []) a ≡ answer_bytes s
-put_answer_law a s e = store_all (s.first ∷ s.second ∷ s.third ∷ s.fourth ∷ []) 0 a (sym e)
-
-pub put_answer : (a b c d e : List ℕ) (s : Said) → length a ≡ 32
-    → b ≡ overwrite 0 (bytes_of 8 s.first) a → c ≡ overwrite 8 (bytes_of 8 s.second) b
-    → d ≡ overwrite 16 (bytes_of 8 s.third) c → e ≡ overwrite 24 (bytes_of 8 s.fourth) d → e ≡ answer_bytes s
-unfolding store_words
-put_answer a b c d e s n p q r t = t ∙ rw (r, q, p) (put_answer_law a s n)
+words_many : (len most : ℕ) → len % 8 ≡ 0 → whole_words len most ≡ false → most < len / 8
+unfolding whole_words
+words_many len most z f = leb-false (len / 8) most (rw (eq-eqb (len % 8) 0 z) at f)
 
 -- ---- the call: w is what was decoded, w' what the call left of it, words' what was encoded
 
-module _ (p : Params) (b : LentBytes) (e : Entry) (n : ℕ) {w w' words' st m h : List ℕ} {s : Said}
-    (whole : length b.words ≡ 8 * n) (D : w ≡ words_from n b.words 0)
-    (P : outcome s (lend w' st m h) ≡ outcome_of (inner_of e p (lend w b.states b.marks b.heap)))
-    (E : words' ≡ encoded w') where
+module _ (p : Params) (b : LentBytes) (e : Entry) where
   abbrev R : Returned
   R = inner_of e p (decoded_lent b)
 
-  is_decoded : w ≡ decoded b.words
-  unfolding decoded
-  is_decoded = let q : length b.words / 8 ≡ n = omega (arith, whole) in rw q D
+  module _ {w w' st m h : List ℕ} {s : Said} (D : w ≡ decoded b.words)
+      (P : outcome s (lend w' st m h) ≡ outcome_of (inner_of e p (lend w b.states b.marks b.heap))) where
+    is_said : s ≡ said_of R.reply
+    unfolding outcome_of
+    is_said = let Q = rw D at P in ap (λ (x : Outcome). x.said) Q
 
-  is_said : s ≡ said_of R.reply
-  unfolding outcome_of
-  is_said = let Q = rw is_decoded at P in ap (λ (x : Outcome). x.said) Q
+    is_lent : lend w' st m h ≡ R.lent
+    unfolding outcome_of
+    is_lent = let Q = rw D at P in ap (λ (x : Outcome). x.lent) Q
 
-  is_lent : lend w' st m h ≡ R.lent
-  unfolding outcome_of
-  is_lent = let Q = rw is_decoded at P in ap (λ (x : Outcome). x.lent) Q
-
-  pub run_refused : {k : ℕ} → k ≡ s.number → tells k ≡ false → gives k (lend_bytes words' st m h b.answer) ≡ shown b.answer R
-  unfolding shown
-  run_refused {k} g ne =
-      let z : tells R.reply.number ≡ false = sym (ap tells (g ∙ ap (λ (x : Said). x.number) is_said)) ∙ ne in
-      rw (z, E, g, is_said)
-      (λ i. gives R.reply.number (lend_bytes (encoded (is_lent i).words) (is_lent i).states (is_lent i).marks (is_lent i).heap b.answer))
-
-  pub run_answered : {k : ℕ} {a : List ℕ} → k ≡ s.number → tells k ≡ true → a ≡ answer_bytes s
-      → gives k (lend_bytes words' st m h a) ≡ shown b.answer R
-  unfolding shown
-  run_answered {a} g y f =
-      let z : tells R.reply.number ≡ true = sym (ap tells (g ∙ ap (λ (x : Said). x.number) is_said)) ∙ y in
-      rw (z, E, f, g, is_said)
-      (λ i. gives R.reply.number (lend_bytes (encoded (is_lent i).words) (is_lent i).states (is_lent i).marks (is_lent i).heap (answer_bytes (said_of R.reply))))
+    pub run_on : {words' answer a : List ℕ} {k : ℕ} → whole_words (length b.words) 10126 ≡ true → length b.answer ≡ 32 → answer ≡ b.answer → length w' ≡ length w
+        → words' ≡ overwrite 0 (encoded w') b.words → k ≡ s.number → a ≡ (if tells s.number then answer_bytes s else answer)
+        → gives k (lend_bytes words' st m h a) ≡ exported p b (inner_of e)
+    unfolding exported shown
+    run_on {words'} whole long A same E g f =
+        let z : length b.words % 8 ≡ 0 = (words_few (length b.words) 10126 whole).0 in
+        let n : length w ≡ length b.words / 8 = ap length D ∙ length_decoded b.words in
+        let E' : words' ≡ encoded w' = E ∙ encode_whole w' b.words (omega (arith, z, n, same)) in
+        rw (eq-eqb (length b.words % 8) 0 z, eq-eqb (length b.answer) 32 long, E', g, f, A, is_said)
+        (λ i. gives R.reply.number (lend_bytes (encoded (is_lent i).words) (is_lent i).states (is_lent i).marks (is_lent i).heap (answer_after R.reply b.answer)))
 
 -- ---- lengths that are off
 
@@ -104,54 +91,30 @@ too_long p l h = go (test (good_params p))
         rw (g, z)
     go (inr f) = rw f
 
-module _ (p : Params) (b : LentBytes) (e : Entry) where
-  pub whole_part : (length b.words % 8 ≡ 0 → ⊥) → gives 1 b ≡ exported p b (inner_of e)
-  unfolding exported refusal_number
-  whole_part ne = rw (ne_eqb _ _ ne)
-
-  pub whole_answer : (length b.answer ≡ 32 → ⊥) → gives 1 b ≡ exported p b (inner_of e)
-  unfolding exported refusal_number
-  whole_answer ne = rw (ne_eqb _ _ ne, and_second (eqb (length b.words % 8) 0) {b = false} refl)
-
-  pub whole_long : Bytes b.words → length b.words % 8 ≡ 0 → length b.answer ≡ 32 → 10126 < length b.words / 8
-      → gives 1 b ≡ exported p b (inner_of e)
-  unfolding exported shown decoded refusal_number
-  whole_long y z a l =
-      let n : 10126 < length (words_from (length b.words / 8) b.words 0) = rw (length_words (length b.words / 8) b.words 0) l in
-      let r : inner_of e p (decoded_lent b) ≡ bad_setup (decoded_lent b) = off_result p (decoded_lent b) e (too_long p (decoded_lent b) n) in
-      rw (eq-eqb (length b.words % 8) 0 z, eq-eqb (length b.answer) 32 a, r, encoded_decoded b.words y z)
-
-  pub whole_run : {x : Export} → length b.words % 8 ≡ 0 → length b.answer ≡ 32
-      → x ≡ shown b.answer (inner_of e p (decoded_lent b)) → x ≡ exported p b (inner_of e)
+module _ (p : Params) (b : LentBytes) (e : Entry) {k : ℕ} (K : k ≡ refusal_number BadSetup) where
+  pub off_answer : (length b.answer ≡ 32 → ⊥) → gives k b ≡ exported p b (inner_of e)
   unfolding exported
-  whole_run z a h = rw (eq-eqb (length b.words % 8) 0 z, eq-eqb (length b.answer) 32 a) h
+  off_answer ne = rw (K, ne_eqb _ _ ne, and_second (eqb (length b.words % 8) 0) {b = false} refl)
 
--- ---- parameters that are off
+  pub off_words : Bytes b.words → length b.answer ≡ 32 → whole_words (length b.words) 10126 ≡ false → gives k b ≡ exported p b (inner_of e)
+  unfolding exported shown refusal_number
+  off_words y a f = go (ℕ_discrete (length b.words % 8) 0)
+    where
+      go : Dec (length b.words % 8 ≡ 0) → gives k b ≡ exported p b (inner_of e)
+      go (no ne) = rw (K, ne_eqb _ _ ne)
+      go (yes z) =
+          let n : 10126 < length (decoded b.words) = rw (length_decoded b.words) (words_many (length b.words) 10126 z f) in
+          let r : inner_of e p (decoded_lent b) ≡ bad_setup (decoded_lent b) = off_result p (decoded_lent b) e (too_long p (decoded_lent b) n) in
+          rw (K, eq-eqb (length b.words % 8) 0 z, eq-eqb (length b.answer) 32 a, r, encoded_decoded b.words y z)
 
-module _ (g : Given) (r : List ℕ) (b : LentBytes) (e : Entry) where
-  pub called_off : flags_ok g ≡ false → gives 1 b ≡ called g r b (inner_of e)
-  unfolding called refusal_number
-  called_off f = rw f
-
-  pub called_part : flags_ok g ≡ true → rows_ok r ≡ false → gives 1 b ≡ called g r b (inner_of e)
-  unfolding called refusal_number
-  called_part f q = rw (f, q)
-
-  pub called_on : {p : Params} {x : Export} → flags_ok g ≡ true → rows_ok r ≡ true → p ≡ params_of g r → x ≡ exported p b (inner_of e)
-      → x ≡ called g r b (inner_of e)
-  unfolding called
-  called_on f o q h = rw (f, o, ← q) h
+-- more words than any tables have are BadSetup in the machine too
+pub whole_long : (p : Params) (b : LentBytes) (e : Entry) → Bytes b.words → length b.words % 8 ≡ 0 → length b.answer ≡ 32
+    → 10126 < length b.words / 8 → gives 1 b ≡ exported p b (inner_of e)
+unfolding whole_words refusal_number
+whole_long p b e y z a l =
+    off_words p b e {k = 1} refl y a (rw (eq-eqb (length b.words % 8) 0 z, lt-leb (length b.words / 8) 10126 l))
 
 -- ---- rows
-
-pub row_read : (r : List ℕ) (i : ℕ) {x y z : ℕ} → x ≡ load_bytes 8 r i → y ≡ load_bytes 8 r (i + 8) → z ≡ load_bytes 8 r (i + 16)
-    → ◌≡◌ {A = Row} (record { from = x; to = y; cell = z }) (row_from r i)
-row_read r i e f g = λ k. record { from = e k; to = f k; cell = g k }
-
-pub params_read : (g : Given) (r : List ℕ) {t : List Row} → t ≡ rows_of r
-    → ◌≡◌ {A = Params} (record { base = g.base; bytes = g.bytes; blocks = g.blocks; min = g.min; max = g.max; offsets = eqb g.offsets 1; unified = eqb g.unified 1; lower = g.lower; eager = eqb g.eager 1; rows = t; count = length r / row_bytes }) (params_of g r)
-params_read g r e =
-    λ k. record { base = g.base; bytes = g.bytes; blocks = g.blocks; min = g.min; max = g.max; offsets = eqb g.offsets 1; unified = eqb g.unified 1; lower = g.lower; eager = eqb g.eager 1; rows = e k; count = length r / row_bytes }
 
 tabulated_length : {A : Type 0} (f : ℕ → A) (n i : ℕ) → length (tabulated f n i) ≡ n
 unfolding tabulated
@@ -164,49 +127,10 @@ tabulated_at f d zero i k l = absurd (not-suc-le-zero l)
 tabulated_at f d (suc n) i zero l = ap f (omega arith)
 tabulated_at f d (suc n) i (suc k) l = tabulated_at f d n (suc i) k (le_of_suc-le-suc l) ∙ ap f (omega arith)
 
--- what a loop over 48 rows leaves: each is the one of its bytes
-module _ (r : List ℕ) where
-  abbrev Filled : List Row → ℕ → Type 0
-  Filled rows i = (k : ℕ) → k < i → get_or rows k no_row ≡ row_from r (row_bytes * k)
-
-  pub fill_round : (rows : List Row) (i : ℕ) {v : Row} → i < length rows → Filled rows i → v ≡ row_from r (row_bytes * i) → Filled (set rows i v) (i + 1)
-  fill_round rows i {v} l g e k m = go (dec_lt k i)
-    where
-      go : Dec (k < i) → get_or (set rows i v) k no_row ≡ row_from r (row_bytes * k)
-      go (yes y) = get_or-set_other rows i k v no_row (λ q. omega (arith, q, y)) ∙ g k y
-      go (no y) = let q : k ≡ i = omega (arith, y, m) in rw q (get_or-set_same rows i v no_row l ∙ e)
-
-  pub fill_end : (rows : List Row) → length rows ≡ 48 → Filled rows 48 → rows ≡ rows_of r
-  unfolding rows_of
-  fill_end rows e g =
-      let f : ℕ → Row = λ n. row_from r (row_bytes * n) in
-      ext_get_or no_row rows (tabulated f 48 0) (e ∙ sym (tabulated_length f 48 0))
-      (λ k l. g k (omega (arith, l, e)) ∙ sym (tabulated_at f no_row 48 0 k (omega (arith, l, e)) ∙ ap f (omega arith)))
-
--- ---- the check
-
-module _ (g : Given) (r a : List ℕ) where
-  pub check_flags : flags_ok g ≡ false → check_gives 1 a ≡ check_called g r a
-  unfolding check_called refusal_number
-  check_flags f = rw f
-
-  pub check_part : flags_ok g ≡ true → rows_ok r ≡ false → check_gives 1 a ≡ check_called g r a
-  unfolding check_called refusal_number
-  check_part f o = rw (f, o)
-
-  pub check_answer : flags_ok g ≡ true → rows_ok r ≡ true → (length a ≡ 32 → ⊥) → check_gives 1 a ≡ check_called g r a
-  unfolding check_called refusal_number
-  check_answer f o n = rw (f, o, ne_eqb (length a) 32 n)
-
-  module _ {s : Said} (f : flags_ok g ≡ true) (o : rows_ok r ≡ true) (n : length a ≡ 32) (h : s ≡ said_of (check_classes (params_of g r))) where
-    pub check_refused : {k : ℕ} → k ≡ s.number → tells k ≡ false → check_gives k a ≡ check_called g r a
-    unfolding check_called
-    check_refused {k} e ne =
-        let z : tells (check_classes (params_of g r)).number ≡ false = sym (ap tells (e ∙ ap (λ (x : Said). x.number) h)) ∙ ne in
-        rw (f, o, eq-eqb (length a) 32 n, z, e, h)
-
-    pub check_answered : {k : ℕ} {a' : List ℕ} → k ≡ s.number → tells k ≡ true → a' ≡ answer_bytes s → check_gives k a' ≡ check_called g r a
-    unfolding check_called
-    check_answered {k} e y w =
-        let z : tells (check_classes (params_of g r)).number ≡ true = sym (ap tells (e ∙ ap (λ (x : Said). x.number) h)) ∙ y in
-        rw (f, o, eq-eqb (length a) 32 n, z, w, e, h)
+-- 48 rows of which each is the one of its bytes
+pub rows_are : (r : List ℕ) (rows : List Row) → length rows ≡ 48 → ((k : ℕ) → k < 48 → get_or rows k no_row ≡ row_from r (row_bytes * k)) → rows ≡ rows_of r
+unfolding rows_of
+rows_are r rows e g =
+    let f : ℕ → Row = λ n. row_from r (row_bytes * n) in
+    ext_get_or no_row rows (tabulated f 48 0) (e ∙ sym (tabulated_length f 48 0))
+    (λ k l. g k (omega (arith, l, e)) ∙ sym (tabulated_at f no_row 48 0 k (omega (arith, l, e)) ∙ ap f (omega arith)))

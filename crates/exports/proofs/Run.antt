@@ -1,13 +1,12 @@
 -- A run through the exports is a run of the machine, and demand 3 holds of it. Between two calls the host's bytes carry what the
 -- machine has lent, its words encoded and each below 2^64. Leans on demand 3. Assumes nothing.
 use Rattle.std.specs.Prelude.{if◌then◌else◌}
-use mathlib.Core.Path.{◌≡◌, refl, sym, ap, ◌∙◌, subst}
+use mathlib.Core.Path.{◌≡◌, refl, sym, ap, ◌∙◌}
 use mathlib.Core.Logic.{◌⊎◌, inl, inr}
 use mathlib.Core.Bool.{Bool, true, false, ◌&&◌}
 use mathlib.Core.List.{List, [], ◌∷◌, map}
 use Prim.Native.Nat.{ℕ, ◌%◌}
 use native.Mathlib.Omega.{arith}
-use lib.Dec.{eqb}
 use lib.ListN.{length}
 use borrow.Author.Tests.{eq-eqb}
 use Rattle.model.specs.declared.Params.{Params}
@@ -17,7 +16,7 @@ use Rattle.model.specs.Params.{Lent, fits, good_params}
 use Rattle.model.specs.Classes.{classes_fit}
 use Rattle.model.specs.Global.{fresh_tables}
 use Rattle.model.specs.Events.{Event}
-use Rattle.model.specs.Calls.{refusal_number, Reply, answered, Call, Returned, call, set_up}
+use Rattle.model.specs.Calls.{refusal_number, answered, Call, Returned, call, set_up}
 use Rattle.model.specs.Answers.{said_of}
 use Rattle.model.specs.Runs.{written, Turn, State, found_by, step_of, result_of, turned, begun, Seen, seen, seen_in, Demand3}
 use Rattle.model.specs.Exports.{encoded, LentBytes, decoded_lent, Export, answer_bytes, tells, shown, Inner, asks, lengths_ok, exported, params_of, flags_ok, rows_ok, called, HostTurn, found_bytes, host_call, host_run, machine_run, AnswersFit, RunThroughExports, HostSees, host_sees, Demand3ThroughExports}

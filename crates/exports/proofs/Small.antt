@@ -1,8 +1,7 @@
 -- Every word of sound tables is below 2^64, and so every call that finds such words leaves such words. Leans on `sound` as lists
 -- of blocks, and on that calls keep tables sound. Assumes nothing.
-use Rattle.std.specs.Prelude.{if◌then◌else◌}
-use mathlib.Core.Path.{◌≡◌, refl, sym, ap, ◌∙◌, subst}
-use mathlib.Core.Logic.{◌≢◌, ◌⊎◌, inl, inr, ⊎_elim}
+use mathlib.Core.Path.{◌≡◌, sym, ap, ◌∙◌, subst}
+use mathlib.Core.Logic.{◌⊎◌, inl, inr, ⊎_elim}
 use mathlib.Core.Bool.{Bool, true, false, ◌&&◌, ◌||◌}
 use mathlib.Core.List.{List, [], ◌∷◌, ◌++◌}
 use Prim.Native.Nat.{ℕ, zero, suc, ◌+◌, ◌*◌, ◌/◌, ◌%◌, ◌^◌, ◌≤◌, ◌<◌}
@@ -15,7 +14,7 @@ use borrow.Author.Tests.{eqb-true, leb-true}
 use Rattle.model.specs.declared.Params.{Params}
 use Rattle.model.specs.Base.{all_below, In}
 use Rattle.model.specs.Params.{good_params, Lent, fits, word_count, heap_bytes, start, list_word}
-use Rattle.model.specs.Tables.{Words, Tables, view, flat}
+use Rattle.model.specs.Tables.{Words, Tables, flat}
 use Rattle.model.specs.Classes.{classes_fit}
 use Rattle.model.specs.BlockList.{blocks_on}
 use Rattle.model.specs.Block.{cell_count, is_cell}

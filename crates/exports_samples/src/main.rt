@@ -3,21 +3,19 @@
 // A trace's lines replayed through the exports, on the space of the census: for each line the number returned and the bytes of the
 // slice for the answer, which are 0xA5 before it. What must be printed was worked out from document 01 by another program
 // (sample.py). No rows are lent: the classes are document 01's.
+use exports::call::ANSWER_BYTES;
 use exports::{Entry, call};
-use model::{Ask, Given, Request};
-use native_ms::run;
+use model::{Ask, BLOCK_TABLES, Given, HEAD_WORDS};
 use std::io::{Result, Stdin};
-use trace::lines;
+use trace::lines::{self, LinesLeft};
 
 const BLOCKS: usize = 4;
 
-const WORDS_LEN: usize = 23888;
+const WORDS_LEN: usize = 8 * (HEAD_WORDS + BLOCK_TABLES * BLOCKS);
 
-const MARKS: usize = 256;
+const MARKS: usize = HEAP / 64;
 
 const HEAP: usize = 16384;
-
-const ANSWER: usize = 32;
 
 // What is read of a trace.
 const TRACE: usize = 16384;
@@ -47,23 +45,8 @@ fn make(space: &mut Space, answer: &mut [u8], entry: Entry) -> usize {
     )
 }
 
-// The call as C tells it: an offer is a number there, of which 2^64 − 1 offers none.
-fn told(ask: Ask) -> Ask {
-    match ask {
-        Ask::Alloc { holder, request } => {
-            let number = request.offer.map_or(run::NO_OFFER, |block| block.0);
-            let offer = run::offered(number);
-            Ask::Alloc {
-                holder,
-                request: Request { offer, ..request },
-            }
-        }
-        other => other,
-    }
-}
-
 // Prints the number and the slice.
-fn tell(rt: &impl Print, number: usize, answer: &[u8; ANSWER]) -> Result<()> {
+fn tell(rt: &impl Print, number: usize, answer: &[u8; ANSWER_BYTES]) -> Result<()> {
     print!(rt; "{number} ")?;
     for byte in answer {
         print!(rt; "{byte:02x}")?;
@@ -72,7 +55,7 @@ fn tell(rt: &impl Print, number: usize, answer: &[u8; ANSWER]) -> Result<()> {
 }
 
 fn tell_set_up(rt: &impl Print, space: &mut Space) -> Result<()> {
-    let mut answer = [0xA5u8; ANSWER];
+    let mut answer = [0xA5u8; ANSWER_BYTES];
     let number = make(space, &mut answer, Entry::SetUp);
     tell(rt, number, &answer)
 }
@@ -81,22 +64,15 @@ fn tell_line(rt: &impl Print, space: &mut Space, line: Option<Ask>) -> Result<()
     let Some(ask) = line else {
         return println!(rt; "bad");
     };
-    let mut answer = [0xA5u8; ANSWER];
-    let number = make(space, &mut answer, Entry::Call(told(ask)));
+    let mut answer = [0xA5u8; ANSWER_BYTES];
+    let number = make(space, &mut answer, Entry::Call(ask).told());
     tell(rt, number, &answer)
 }
 
 fn replay(rt: &impl Print, s: &[u8], space: &mut Space) -> Result<()> {
     tell_set_up(rt, space)?;
-    let mut at: usize = 0;
-    for _ in 0..MOST_LINES {
-        let Some(line) = lines::next_line(s, at) else {
-            return Ok(());
-        };
-        if let Some(bytes) = s.get(line.from..line.to) {
-            tell_line(rt, space, lines::parse(bytes))?;
-        }
-        at = line.next;
+    for line in LinesLeft::of(s).take(MOST_LINES) {
+        tell_line(rt, space, lines::parse(line))?;
     }
     Ok(())
 }

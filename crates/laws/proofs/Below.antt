@@ -1,5 +1,5 @@
 -- Laws of the tests and sums of model/specs/Base.antt: `&&`, `||`, every i below n, some i below n, a sum below n. Assumes nothing.
-use Prim.Native.Nat.{ℕ, zero, suc, ◌+◌, ◌-◌, ◌<◌, ◌≤◌}
+use Prim.Native.Nat.{ℕ, zero, suc, ◌+◌, ◌<◌, ◌≤◌}
 use mathlib.Core.Path.{◌≡◌, refl, sym, ap, ◌∙◌}
 use mathlib.Core.Bool.{Bool, true, false, ◌&&◌, ◌||◌}
 use mathlib.Core.Logic.{◌⊎◌, inl, inr, ⊎_elim}
@@ -123,16 +123,6 @@ unfolding any_below
 any_below_none zero f h = refl
 any_below_none (suc n) f h = or_neither (h n (lt-suc_self n)) (any_below_none n f (λ i l. h i (le_step l)))
 
--- the last one does not pass
-pub any_miss : (n : ℕ) (f : ℕ → Bool) → f n ≡ false → any_below n f ≡ any_below (suc n) f
-unfolding any_below
-any_miss n f e = rw e
-
-pub any_none : (n : ℕ) (f : ℕ → Bool) → n ≤ 0 → any_below n f ≡ false
-unfolding any_below
-any_none zero f h = refl
-any_none (suc n) f h = absurd (not-suc-le-zero h)
-
 -- ---- a loop that counts down: what is left of all or of some
 
 module _ (f : ℕ → Bool) where
@@ -141,34 +131,11 @@ module _ (f : ℕ → Bool) where
   all_end zero h = refl
   all_end (suc k) h = absurd (not-suc-le-zero h)
 
-  pub all_stop : (k : ℕ) → 0 < k → f (k - 1) ≡ false → all_below k f ≡ false
-  all_stop k h e = all_below_off k f (k - 1) (omega arith) e
-
-  pub all_step : (k : ℕ) → 0 < k → f (k - 1) ≡ true → all_below (k - 1) f ≡ all_below k f
-  unfolding all_below
-  all_step zero h e = absurd (not-suc-le-zero h)
-  all_step (suc k) h e =
-      let d : suc k - 1 ≡ k = omega arith in
-      rw (d, ap f (sym d) ∙ e)
-
-  pub any_stop : (k : ℕ) → 0 < k → f (k - 1) ≡ true → any_below k f ≡ true
-  any_stop k h e = any_below_from k f (k - 1) (omega arith) e
-
-  pub any_step : (k : ℕ) → 0 < k → f (k - 1) ≡ false → any_below (k - 1) f ≡ any_below k f
-  unfolding any_below
-  any_step zero h e = absurd (not-suc-le-zero h)
-  any_step (suc k) h e =
-      let d : suc k - 1 ≡ k = omega arith in
-      rw (d, ap f (sym d) ∙ e)
-
 -- ---- a loop that counts up: r is the test of the i-th, which settles all; and the sum of those passed
 
 module _ (n : ℕ) (f : ℕ → Bool) (i : ℕ) {r : Bool} (l : i < n) (e : r ≡ f i) where
   pub all_fails : r ≡ false → false ≡ all_below n f
   all_fails z = sym (all_below_off n f i l (sym e ∙ z))
-
-  pub any_passes : r ≡ true → true ≡ any_below n f
-  any_passes y = sym (any_below_from n f i l (sym e ∙ y))
 
 pub sum_start : (f : ℕ → ℕ) → sum_below 0 f ≡ 0
 unfolding sum_below

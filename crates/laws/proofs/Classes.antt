@@ -140,10 +140,6 @@ pub zero_class : class_bytes 0 ≡ 8
 unfolding class_bytes class_words fours
 zero_class = refl
 
-pub one_class : class_bytes 1 ≡ 8
-unfolding class_bytes class_words fours
-one_class = refl
-
 -- a bin that holds some words, with its cell
 module _ (w n : ℕ) (h : 1 ≤ w) (l : Least w n) where
   least_to : n ≤ 48

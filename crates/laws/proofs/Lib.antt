@@ -8,7 +8,6 @@ pub mod Classes
 pub mod Marks
 pub mod Cells
 pub mod Tables
-pub mod Lower
 pub mod Requests
 pub mod BlockList
 pub mod Frame

@@ -2,8 +2,8 @@
 use mathlib.Core.Path.{◌≡◌, refl, sym, ap, ◌∙◌, subst}
 use mathlib.Core.Logic.{◌⊎◌, inl, inr}
 use mathlib.Core.List.{List, [], ◌∷◌}
-use Prim.Native.Nat.{ℕ, zero, suc, ◌+◌, ◌-◌, ◌*◌, ◌/◌, ◌%◌, ◌^◌, ◌≤◌, ◌<◌}
-use native.Mathlib.Nat.{div-lt_iff_lt-mul, pow-suc, pow-le-pow_right, lt_of_lt_of_le, div-add-mod', not-suc-le-zero, le_of_suc-le-suc, add-zero, zero-add}
+use Prim.Native.Nat.{ℕ, zero, suc, ◌+◌, ◌-◌, ◌/◌, ◌%◌, ◌^◌, ◌≤◌, ◌<◌}
+use native.Mathlib.Nat.{div-lt_iff_lt-mul, pow-suc, div-add-mod', not-suc-le-zero, le_of_suc-le-suc, add-zero, zero-add}
 use native.Mathlib.Numerals.{add-one}
 use native.Mathlib.Omega.{arith}
 use lib.ListN.{length, get_or, set, replicate, length-replicate, get_or-eq_default}
@@ -207,70 +207,6 @@ pub zeros_short : (n m i : ℕ) (h : List ℕ) → length h ≤ i + n → n ≤ 
 zeros_short n m i h l le =
     overwrite_agree i (replicate n 0) (replicate m 0) h (rw length-replicate l) (rw length-replicate (omega arith))
     (λ k lt. get_d_zeros n k ∙ sym (get_d_zeros m k))
-
-pub zeros_all : (h : List ℕ) → overwrite 0 (replicate (length h) 0) h ≡ replicate (length h) 0
-unfolding overwrite
-zeros_all [] = refl
-zeros_all (x ∷ h) = ap (λ (k : List ℕ). 0 ∷ k) (zeros_all h)
-
--- ---- one round of a loop over bytes; k rounds are left
-
--- v is what the bytes from i + k on make, of the n from i on
-pub record ReadSoFar (n k : ℕ) (h : List ℕ) (i v : ℕ) : Type 0 where
-  pub left : k ≤ n
-  pub value : v ≡ load_bytes (n - k) h (i + k)
-  pub small : v < 256 ^ (n - k)
-
-pub read_start : (n : ℕ) (h : List ℕ) (i : ℕ) → ReadSoFar n n h i 0
-unfolding load_bytes
-read_start n h i =
-    let d : n - n ≡ 0 = omega arith in
-    record { left = omega arith; value = rw d; small = rw d (omega arith) }
-
-module _ (n k : ℕ) (h : List ℕ) (i v : ℕ) (r : ReadSoFar n k h i v) where
-  pub read_round : (b : ℕ) → 0 < k → b ≡ get_or h (i + (k - 1)) 0 → b < 256 → ReadSoFar n (k - 1) h i (v * 256 + b)
-  unfolding load_bytes
-  read_round b lt e low =
-      let d : n - (k - 1) ≡ suc (n - k) = omega (arith, r.left) in
-      let f : i + (k - 1) + 1 ≡ i + k = omega arith in
-      record {
-        left = omega (arith, r.left);
-        value = rw (d, f, ← r.value, ← e) (omega arith);
-        small = rw (d, pow-suc) (omega (arith, r.small));
-      }
-
-  pub read_end : k ≤ 0 → v ≡ load_bytes n h i
-  read_end l =
-      let d : n - k ≡ n = omega arith in
-      let f : i + k ≡ i = omega arith in
-      rw (d, f) at r.value
-
-  -- one more byte has room in a word
-  pub read_room : 0 < k → n ≤ 8 → v < 256 ^ 7
-  read_room lt le = lt_of_lt_of_le r.small (pow-le-pow_right {n = 256} (omega arith) {i = n - k} {j = 7} (omega arith))
-
-pub bytes_of_round : (k o x : ℕ) (h : List ℕ) → 0 < k
-    → overwrite (o + 1) (bytes_of (k - 1) (x / 256)) (set h o (x % 256)) ≡ overwrite o (bytes_of k x) h
-unfolding bytes_of
-bytes_of_round zero o x h l = absurd (not-suc-le-zero l)
-bytes_of_round (suc k) o x h l =
-    let d : suc k - 1 ≡ k = omega arith in
-    rw d (sym (overwrite_set o (x % 256) (bytes_of k (x / 256)) h))
-
-pub bytes_of_end : (k o x : ℕ) (h : List ℕ) → k ≤ 0 → h ≡ overwrite o (bytes_of k x) h
-unfolding bytes_of
-bytes_of_end zero o x h l = sym (overwrite_nil o h)
-bytes_of_end (suc k) o x h l = absurd (not-suc-le-zero l)
-
-pub zeros_round : (k o : ℕ) (h : List ℕ) → 0 < k → overwrite (o + 1) (replicate (k - 1) 0) (set h o 0) ≡ overwrite o (replicate k 0) h
-zeros_round zero o h l = absurd (not-suc-le-zero l)
-zeros_round (suc k) o h l =
-    let d : suc k - 1 ≡ k = omega arith in
-    rw d (sym (overwrite_set o 0 (replicate k 0) h))
-
-pub zeros_end : (k o : ℕ) (h : List ℕ) → k ≤ 0 → h ≡ overwrite o (replicate k 0) h
-zeros_end zero o h l = sym (overwrite_nil o h)
-zeros_end (suc k) o h l = absurd (not-suc-le-zero l)
 
 -- ---- bytes stay bytes
 

@@ -8,7 +8,7 @@ use native.Mathlib.Nat.{zero-mod, mod-eq_of_lt, mod-mod_of_dvd, dvd_of_mod-eq-ze
 use native.Mathlib.Omega.{arith}
 use lib.Dec.{eqb, ltb, leb}
 use lib.IntN.{ℤ, pos, negsuc, nat_abs}
-use borrow.Author.Tests.{ltb-true, ltb-false, leb-true, eqb-true, lt-ltb, le-ltb, le-leb, lt-leb, eq-eqb, ne_eqb}
+use borrow.Author.Tests.{ltb-true, ltb-false, leb-true, eqb-true, lt-ltb, le-ltb, le-leb, lt-leb, eq-eqb}
 use Rattle.model.specs.declared.Params.{Params}
 use Rattle.model.specs.Base.{all_below}
 use Rattle.model.specs.Params.{power_of_two, lower_ok, biased, heap_bytes, heap_end, good_params, start, block_at, in_heap, is_start, list_word}
@@ -132,10 +132,6 @@ pub start_out : (p : Params) (b : ℕ) → p.blocks ≤ b → start p b ≡ 0
 unfolding start
 start_out p b h = rw (le-ltb b p.blocks h)
 
-pub block_at_low : (p : Params) (a : ℕ) → a < p.base → block_at p a ≡ p.blocks
-unfolding block_at
-block_at_low p a h = rw (lt-ltb a p.base h)
-
 pub block_at_from : (p : Params) (a : ℕ) → p.base ≤ a → block_at p a ≡ (a - p.base) / p.bytes
 unfolding block_at
 block_at_from p a h = rw (le-ltb a p.base h)
@@ -159,14 +155,6 @@ in_heap_under p a h = rw (lt-leb p.base a h)
 pub in_heap_past : (p : Params) (a : ℕ) → p.base + p.blocks * p.bytes ≤ a → in_heap p a ≡ false
 unfolding in_heap heap_end heap_bytes
 in_heap_past p a h = and_second (leb p.base a) (le-ltb a (p.base + p.blocks * p.bytes) h)
-
-pub is_start_yes : (p : Params) (a : ℕ) → in_heap p a ≡ true → (a - p.base) % p.bytes ≡ 0 → is_start p a ≡ true
-unfolding is_start
-is_start_yes p a h e = and_both h (eq-eqb ((a - p.base) % p.bytes) 0 e)
-
-pub is_start_inside : (p : Params) (a : ℕ) → ((a - p.base) % p.bytes ≡ 0 → ⊥) → is_start p a ≡ false
-unfolding is_start
-is_start_inside p a h = and_second (in_heap p a) (ne_eqb ((a - p.base) % p.bytes) 0 h)
 
 pub is_start_out : (p : Params) (a : ℕ) → in_heap p a ≡ false → is_start p a ≡ false
 unfolding is_start

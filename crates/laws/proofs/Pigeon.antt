@@ -1,7 +1,7 @@
 -- Counting: sums below a bound, and the pigeonhole in the form of sums (`sum_squeeze`): where no term is larger than its
 -- counterpart and the sums are equal, all terms are. And a list without repetition has as many elements as there are members.
 -- Assumes nothing.
-use Prim.Native.Nat.{ℕ, zero, suc, ◌+◌, ◌-◌, ◌<◌, ◌≤◌}
+use Prim.Native.Nat.{ℕ, zero, suc, ◌+◌, ◌<◌, ◌≤◌}
 use mathlib.Core.Path.{◌≡◌, refl, sym, ap, ◌∙◌, subst}
 use mathlib.Core.Bool.{Bool, true, false, not, ◌||◌}
 use mathlib.Core.List.{List, [], ◌∷◌}
@@ -153,16 +153,3 @@ distinct_short n l d u =
       sum_le (λ x. flag (member x l)) (λ x. 1) n
           (λ i h. subst (λ (k : ℕ). flag (member i l) ≤ k) (flag_one {b = true} refl) (flag_le (member i l) true (λ e. refl))),
     )
-
--- ---- a loop that counts down, with the sum so far
-pub sum_end : (f : ℕ → ℕ) (k : ℕ) → k ≤ 0 → sum_below k f ≡ 0
-unfolding sum_below
-sum_end f zero h = refl
-sum_end f (suc k) h = absurd (not-suc-le-zero h)
-
-pub sum_step : (f : ℕ → ℕ) (k : ℕ) → 0 < k → sum_below k f ≡ f (k - 1) + sum_below (k - 1) f
-unfolding sum_below
-sum_step f zero h = absurd (not-suc-le-zero h)
-sum_step f (suc k) h =
-    let d : suc k - 1 ≡ k = omega arith in
-    rw d

@@ -95,14 +95,6 @@ module _ (p : Params) (size align : ℕ) where
   unfolding too_big
   too_big_lem h = lt-ltb p.bytes (raised p size align) (omega (arith, size_raised))
 
-  pub too_big_raised : p.min < align → p.bytes < size + (align - p.min) → too_big p size align ≡ true
-  unfolding too_big
-  too_big_raised m h = lt-ltb p.bytes (raised p size align) (omega (arith, raised_more m))
-
-  pub not_too_big : {r : ℕ} → r ≡ raised p size align → r ≤ p.bytes → too_big p size align ≡ false
-  unfolding too_big
-  not_too_big e h = le-ltb p.bytes (raised p size align) (omega arith)
-
 -- ---- good requests
 
 module _ (p : Params) (size align offset : ℕ) where

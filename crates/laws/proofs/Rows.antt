@@ -106,12 +106,6 @@ module _ (f : ℕ → Bool) where
       ap (λ (x : ℕ). least_from x a f) e ∙ least_skip (b - a) ((w + 1) - b) a (λ m x y. h m x (omega arith))
       ∙ ap (λ (x : ℕ). least_from ((w + 1) - b) x f) c
 
--- tests that agree name the same
-pub least_same : (f g : ℕ → Bool) (k i : ℕ) → ((m : ℕ) → i ≤ m → m < i + k → f m ≡ g m) → least_from k i f ≡ least_from k i g
-unfolding least_from
-least_same f g zero i h = refl
-least_same f g (suc k) i h = rw (h i (omega arith) (omega arith), least_same f g k (suc i) (λ m a b. h m (omega arith) (omega arith)))
-
 -- ---- how many pass
 
 module _ (f : ℕ → Bool) where

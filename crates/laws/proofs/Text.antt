@@ -6,13 +6,12 @@ use mathlib.Core.Bool.{Bool, true, false, ◌&&◌}
 use mathlib.Core.List.{List, [], ◌∷◌, ◌++◌, foldl}
 use Prim.Native.Nat.{ℕ, zero, suc, ◌+◌, ◌-◌, ◌*◌, ◌≤◌, ◌<◌, min, max}
 use native.Mathlib.Nat.{not-suc-le-zero, le_of_suc-le-suc}
-use native.Mathlib.Numerals.{add-one}
 use native.Mathlib.Omega.{arith}
 use lib.Dec.{eqb, ltb, leb}
-use borrow.Author.Tests.{ltb-true, ltb-false, lt-ltb, le-ltb, eq-eqb, ne_eqb, leb-true, leb-false}
-use mathlib.Core.Logic.{◌⊎◌, inl, inr, ⊎_elim}
+use borrow.Author.Tests.{ltb-true, lt-ltb, le-ltb, leb-true, leb-false}
+use mathlib.Core.Logic.{◌⊎◌, inl, inr}
 use lib.ListN.{length, get_or, set, take, drop, length-append, length-take, length-drop, drop_of_length-le}
-use lib.Seq.{drop-cons, drop-drop}
+use lib.Seq.{drop-drop}
 use Rattle.model.specs.Base.{all_below}
 use Rattle.model.specs.Memory.{overwrite}
 use Rattle.model.specs.Census.{newline, before, pieces, drop_blank_end, is_digit}
@@ -55,18 +54,6 @@ pieces_step sep (c ∷ cs) = go (eqb c sep) (pieces_step sep cs)
 -- ---- pieces by places: the first byte of a piece, and the place behind its last
 
 module _ (sep : ℕ) (s : List ℕ) (at : ℕ) where
-  pub end_out : length s ≤ at → at ≡ piece_end sep s at
-  unfolding piece_end until
-  end_out l = rw (drop_of_length-le s l) (omega arith)
-
-  pub end_here : at < length s → get_or s at 0 ≡ sep → at ≡ piece_end sep s at
-  unfolding piece_end until
-  end_here l e = rw (drop-cons s at 0 l, eq-eqb (get_or s at 0) sep e) (omega arith)
-
-  pub end_later : at < length s → (get_or s at 0 ≡ sep → ⊥) → piece_end sep s (at + 1) ≡ piece_end sep s at
-  unfolding piece_end until
-  end_later l e = rw (drop-cons s at 0 l, ne_eqb (get_or s at 0) sep e, add-one at) (omega arith)
-
   pub end_ge : at ≤ piece_end sep s at
   unfolding piece_end
   end_ge = omega arith
@@ -95,27 +82,6 @@ module _ (sep : ℕ) (s : List ℕ) (at : ℕ) where
 
 pub end_between : (sep : ℕ) (s : List ℕ) (at e : ℕ) → e ≡ piece_end sep s at → at ≤ length s → (at ≤ e) × (e ≤ length s)
 end_between sep s at e q l = (omega (arith, end_ge sep s at), omega (arith, end_le sep s at l))
-
--- the pieces behind the one that ends at a place
-unfoldable pub more_pieces : ℕ → List ℕ → ℕ → List (List ℕ)
-more_pieces sep s at = if ltb at (length s) then pieces sep (drop (at + 1) s) else []
-
-module _ (sep : ℕ) (s : List ℕ) (at : ℕ) where
-  pub pieces_at : at ≤ length s
-      → pieces sep (drop at s) ≡ take (piece_end sep s at - at) (drop at s) ∷ more_pieces sep s (piece_end sep s at)
-  unfolding more_pieces
-  pieces_at l =
-      ⊎_elim (λ y. rw y (piece_more sep s at l (ltb-true _ _ y))) (λ z. rw z (piece_last sep s at l (ltb-false _ _ z)))
-      (test (ltb (piece_end sep s at) (length s)))
-
-module _ (sep : ℕ) (s : List ℕ) (at : ℕ) where
-  pub more_step : at < length s → length (more_pieces sep s at) ≡ suc (length (more_pieces sep s (piece_end sep s (at + 1))))
-  unfolding more_pieces
-  more_step l = rw (lt-ltb at (length s) l) (ap length (pieces_at sep s (at + 1) (omega arith)))
-
-  pub more_end : length s ≤ at → length (more_pieces sep s at) ≡ 0
-  unfolding more_pieces
-  more_end l = rw (le-ltb at (length s) l)
 
 -- ---- the lines of a trace from a place on
 
@@ -152,10 +118,6 @@ module _ (s : List ℕ) (at : ℕ) where
 -- the value of digits behind others of the value v
 abbrev pub value_from : ℕ → List ℕ → ℕ
 value_from v cs = foldl (λ (n c : ℕ). 10 * n + (c - 48)) v cs
-
-pub value_ge : (n : ℕ) (cs : List ℕ) → n ≤ value_from n cs
-value_ge n [] = omega arith
-value_ge n (c ∷ cs) = omega (arith, value_ge (10 * n + (c - 48)) cs)
 
 -- "decimal": digits alone, from the front
 unfoldable pub all_digits : List ℕ → Bool

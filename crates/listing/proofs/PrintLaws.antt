@@ -1,12 +1,14 @@
 -- What the printing functions put, piece by piece. Assumes nothing.
 use mathlib.Core.Path.{◌≡◌, refl, sym, ap, ◌∙◌}
 use mathlib.Core.List.{List, [], ◌∷◌, ◌++◌, append_assoc, flatten}
-use Prim.Native.Nat.{ℕ, zero, suc, ◌+◌, ◌-◌, ◌/◌, ◌%◌, ◌≤◌, ◌<◌}
+use Prim.Native.Nat.{ℕ, suc, ◌+◌, ◌^◌, ◌≤◌, ◌<◌}
 use native.Mathlib.Numerals.{add-one}
-use native.Mathlib.Omega.{arith}
 use lib.ListN.{length, get_or, take, drop, length-map, drop_of_length-le}
 use lib.Seq.{take-suc, drop-cons}
 use borrow.Author.Tests.{lt-ltb, le-ltb}
+use borrow.Author.Rules.{rules}
+use Rattle.std.specs.Fmt.{decimal as text_of}
+use Rattle.std.proofs.lemmas.Fmt.{AppendsLastDigit, decimal_from_appends, length-decimal-le}
 use Rattle.model.specs.Census.{newline, space, digits, decimal, spaced, section, refused_row}
 use Rattle.laws.proofs.Text.{printed_nil, printed_append, Remains, remains_start, remains_round, remains_end}
 use Rattle.listing.specs.declared.print.Page.{Page}
@@ -43,28 +45,20 @@ retext e p = rw e at p
 
 -- ---- decimal
 
-digits_low : (k n : ℕ) → (k ≡ 0 → ⊥) → n < 10 → ((48 + n) ∷ []) ≡ digits k n
+by_last_digit : AppendsLastDigit digits
 unfolding digits
-digits_low zero n e l = absurd (e refl)
-digits_low (suc k) n e l = rw (lt-ltb n 10 l)
+by_last_digit = record { one = λ k n l. rw (lt-ltb n 10 l); more = λ k n l. rw (le-ltb n 10 l) }
 
-digits_high : (k n : ℕ) → (k ≡ 0 → ⊥) → 10 ≤ n → digits (k - 1) (n / 10) ++ ((48 + n % 10) ∷ []) ≡ digits k n
-unfolding digits
-digits_high zero n e l = absurd (e refl)
-digits_high (suc k) n e l = let d : suc k - 1 ≡ k = omega arith in rw (d, le-ltb n 10 l)
+-- the library's text of a number, and what is put behind it
+pub number_text : (n : ℕ) → n < 2 ^ 64 → text_of n ≡ decimal n
+unfolding decimal
+number_text n small =
+    let short : length (text_of n) ≤ 20 = search (rules, length-decimal-le 20) in
+    sym (decimal_from_appends digits by_last_digit 20 n small short)
 
-pub print_none : (p : Page) (k n : ℕ) → k ≡ 0 → Puts p p (digits k n)
-unfolding digits
-print_none p k n e = rw e (puts_nil p)
-
-pub print_low : {p r : Page} {b : ℕ} (k n : ℕ) → (k ≡ 0 → ⊥) → n < 10 → b ≡ 48 + n → Puts p r (b ∷ [])
-    → Puts p r (digits k n)
-print_low k n z l e p = retext (ap (λ (x : ℕ). x ∷ []) e ∙ digits_low k n z l) p
-
-pub print_high : {p q r : Page} {b : ℕ} (k n : ℕ) → (k ≡ 0 → ⊥) → 10 ≤ n → b ≡ 48 + n % 10
-    → Puts p q (digits (k - 1) (n / 10)) → Puts q r (b ∷ []) → Puts p r (digits k n)
-print_high k n z l e p q =
-    retext (ap (λ (x : ℕ). digits (k - 1) (n / 10) ++ (x ∷ [])) e ∙ digits_high k n z l) (puts_append p q)
+pub number_put : {p q r : Page} {xs ys : List ℕ} (n b : ℕ) → n < 2 ^ 64 → xs ≡ text_of n → ys ≡ xs → Puts p q ys → Puts q r (b ∷ [])
+    → Puts p r (decimal n ++ (b ∷ []))
+number_put n b small e f p q = puts_append (retext (f ∙ e ∙ number_text n small) p) q
 
 -- ---- a text, byte by byte
 

@@ -4,11 +4,12 @@ use mathlib.Core.Path.{◌≡◌, refl, sym, ap, ◌∙◌}
 use mathlib.Core.Bool.{Bool, true, false, not, ◌&&◌}
 use mathlib.Core.Logic.{◌≢◌, ⊎_elim}
 use Rattle.std.specs.Prelude.{if◌then◌else◌, cond, count_by}
-use Rattle.std.specs.List.{range_with_len}
+use Rattle.std.specs.List.{range_with_len, sum_by, filter as kept_by}
+use Rattle.std.proofs.lemmas.List.Sums.{sum_by-cons, sum_by_push, length-filter, count_by-le-length}
 use Rattle.std.proofs.lemmas.List.Recursion.{is_count_by}
 use mathlib.Core.List.{List, [], ◌∷◌, ◌++◌, map, append_assoc, append-nil, flatten, flat_map}
-use Prim.Native.Nat.{ℕ, zero, suc, ◌+◌, ◌-◌, ◌*◌, ◌/◌, ◌≤◌, ◌<◌}
-use native.Mathlib.Nat.{not-suc-le-zero, suc-mul, mul-le-mul_right, div-le_self}
+use Prim.Native.Nat.{ℕ, zero, suc, ◌+◌, ◌-◌, ◌*◌, ◌/◌, ◌^◌, ◌≤◌, ◌<◌}
+use native.Mathlib.Nat.{not-suc-le-zero, suc-mul, div-le_self}
 use native.Mathlib.Numerals.{add-one}
 use native.Mathlib.Omega.{arith}
 use lib.Dec.{ltb}
@@ -28,7 +29,8 @@ use Rattle.model.specs.Sound.{state_of, set_named}
 use Rattle.model.specs.Census.{census_params, decimal, spaced, section, up_to, occupied, letter}
 use Rattle.model.specs.Census.{block_row, awaits_sweep, printed_chain, free_rows, free_section}
 use Rattle.model.specs.Text.{Printed}
-use Rattle.laws.proofs.Below.{and_left, and_right}
+use Rattle.laws.proofs.Below.{and_left, and_right, test}
+use mathlib.Core.Logic.{◌⊎◌, inl, inr}
 use Rattle.laws.proofs.Base.{below_last, if_cases}
 use Rattle.laws.proofs.Cells.{length_cells_down, cells_down_kept, cells_down_freed}
 use Rattle.listing.proofs.PrintLaws.{Left, left_start, left_end, puts_append, rows_round}
@@ -36,7 +38,7 @@ use Rattle.listing.specs.declared.print.Page.{Page}
 use Rattle.listing.specs.declared.print.Refused.{Refused}
 use Rattle.listing.specs.Print.{Puts, refused_rows}
 use Rattle.listing.specs.Listing.{listing_text}
-use Rattle.listing.specs.Sections.{blocks_text, cell_rows, chain_swept, free_text, is_occupied, occupied_in, tables_read}
+use Rattle.listing.specs.Sections.{blocks_text, cells_of, cell_rows, chain_swept, free_text, is_occupied, occupied_in, tables_read}
 
 -- ---- the free cells of one block
 
@@ -45,13 +47,13 @@ pub fine : good_params census_params ≡ true
 unfolding good_params power_of_two any_below lower_ok heap_end heap_bytes census_params
 fine = refl
 
--- the cells that a walk still meets
-unfoldable pub cells_of : List ℕ → ChainWalk → List ℕ
-cells_of h w = chain_from w.left census_params h w.block.0 w.size w.at.0
-
 pub cells_first : (h : List ℕ) (t : Words) (b : Block) → cells_of h (first_cell census_params t b) ≡ free_chain census_params h b.0 t
 unfolding cells_of first_cell free_chain
 cells_first h t b = refl
+
+-- the cells that a walk from the free head on meets are the chain
+pub cells_begin : {w : ChainWalk} (h : List ℕ) (t : Words) (b : Block) → w ≡ first_cell census_params t b → cells_of h w ≡ free_chain census_params h b.0 t
+cells_begin h t b e = rw e (cells_first h t b)
 
 -- a walk under parameters that are the census's
 pub first_here : {p : Params} {w : ChainWalk} (t : Words) (b : Block) → p ≡ census_params → w ≡ first_cell p t b → w ≡ first_cell census_params t b
@@ -113,51 +115,19 @@ chain_few t h b =
       div-le_self 4096 (get_or t.size b 0),
     )
 
--- a loop that counts them, from the walk w₀ on: n are passed
-pub record CellsCounted (heap : List ℕ) (w₀ w : ChainWalk) (n : ℕ) : Type 0 where
-  pub all : n + length (cells_of heap w) ≡ length (cells_of heap w₀)
-  pub few : n + w.left ≤ 4096
-
-pub count_start : (heap : List ℕ) (t : Words) (b : Block) {w : ChainWalk} → w ≡ first_cell census_params t b → CellsCounted heap w w 0
-unfolding first_cell cell_count census_params
-count_start heap t b e =
-    record { all = omega arith; few = rw e (omega (arith, div-le_self 4096 (get_or t.size b.0 0))) }
-
-module _ (heap : List ℕ) (w₀ w : ChainWalk) (n : ℕ) (c : CellsCounted heap w₀ w n) where
-  pub count_round : {w' : ChainWalk} → more_cells census_params w ≡ true → w' ≡ next_cell census_params heap w → CellsCounted heap w₀ w' (n + 1)
-  unfolding next_cell
-  count_round y e =
-      rw e
-      (record {
-        all = omega (arith, ap length (cells_more heap w y), c.all);
-        few = omega (arith, cells_left heap w y, c.few);
-      })
-
-  pub count_end : (t : Words) (b : Block) → more_cells census_params w ≡ false → w₀ ≡ first_cell census_params t b
-      → n ≡ length (free_chain census_params heap b.0 t)
-  count_end t b z e =
-      omega (arith, ap length (cells_end heap w z), c.all, ap length (ap (cells_of heap) e ∙ cells_first heap t b))
-
 -- a loop that prints them: the rows of those that are left, printed here, make all printed there
-abbrev pub CellsLeft : List ℕ → List ℕ → ℕ → ChainWalk → Page → Page → Type 0
-CellsLeft words heap b w p q =
-    Left p q (flatten (cell_rows b (free_chain census_params heap b (view words))))
-    (flatten (cell_rows b (cells_of heap w)))
+abbrev pub CellsLeft : List ℕ → List ℕ → ℕ → List ℕ → Page → Page → Type 0
+CellsLeft words heap b rest p q =
+    Left p q (flatten (cell_rows b (free_chain census_params heap b (view words)))) (flatten (cell_rows b rest))
 
-pub cells_start : (words heap : List ℕ) (b : Block) (p : Page) {w : ChainWalk} → w ≡ first_cell census_params (view words) b
-    → CellsLeft words heap b.0 w p p
-cells_start words heap b p e = rw (e, cells_first heap (view words) b) (left_start p _)
-
-module _ (words heap : List ℕ) (b : ℕ) (w : ChainWalk) {p q : Page} (left : CellsLeft words heap b w p q) where
-  pub cells_round : {w' : ChainWalk} {r : Page} → more_cells census_params w ≡ true → w' ≡ next_cell census_params heap w
-      → Puts q r (spaced (decimal b ∷ decimal w.at.0 ∷ [])) → CellsLeft words heap b w' p r
+module _ (words heap : List ℕ) (b : ℕ) {rest : List ℕ} {p q : Page} (left : CellsLeft words heap b rest p q) where
+  pub cells_round : {x : ℕ} {rest' : List ℕ} {r : Page} → rest ≡ x ∷ rest' → Puts q r (spaced (decimal b ∷ decimal x ∷ [])) → CellsLeft words heap b rest' p r
   unfolding cell_rows
-  cells_round y e put =
-      rw e (rows_round _ (cell_rows b (cells_of heap (next_cell census_params heap w))) (rw (cells_more heap w y) at left) put)
+  cells_round {rest'} e put = rows_round _ (cell_rows b rest') (rw e at left) put
 
-  pub cells_printed : more_cells census_params w ≡ false → Puts p q (flatten (cell_rows b (free_chain census_params heap b (view words))))
+  pub cells_printed : rest ≡ [] → Puts p q (flatten (cell_rows b (free_chain census_params heap b (view words))))
   unfolding cell_rows flatten
-  cells_printed z = left_end (rw (cells_end heap w z) at left)
+  cells_printed z = left_end (rw z at left)
 
 -- ---- the cells of one block that a sweep would free
 
@@ -198,29 +168,37 @@ module _ (marks : List ℕ) (b s k : ℕ) (l : k < cell_count census_params s) w
       → swept_of marks b s (k + 1) ≡ swept_of marks b s k
   swept_no e f z = sym (cells_down_kept _ (start census_params b) s k refl (not-false _ (sym (frees_here e f) ∙ z)))
 
--- a loop that counts them, from the lowest up: those below k are counted
-pub swept_none : (marks : List ℕ) (b s : ℕ) {k : ℕ} → k ≡ 0 → swept_of marks b s k ≡ []
+-- how many of the lowest k a sweep would free
+range_last : (a n : ℕ) → range_with_len a (suc n) ≡ range_with_len a n ++ ((a + n) ∷ [])
+range_last a zero = let e : a ≡ a + 0 = omega arith in ap (λ (x : ℕ). x ∷ []) e
+range_last a (suc n) = let e : a + 1 + n ≡ a + suc n = omega arith in ap (λ (xs : List ℕ). a ∷ xs) (range_last (a + 1) n ∙ rw e)
+
+module _ (marks : List ℕ) (b s : ℕ) where
+  freed_below : (k : ℕ) → k ≤ cell_count census_params s → count_by (frees_cell census_params marks b s) (range_with_len 0 k) ≡ length (swept_of marks b s k)
+  unfolding cells_down
+  freed_below zero l = refl
+  freed_below (suc k) l =
+      let z : 0 + k ≡ k = omega arith in
+      rw (range_last 0 k, z, sum_by_push (λ (i : ℕ). cond (frees_cell census_params marks b s i) 1 0))
+      (go (test (frees_cell census_params marks b s k)) (freed_below k (omega arith)))
+    where
+      go : (frees_cell census_params marks b s k ≡ true) ⊎ (frees_cell census_params marks b s k ≡ false)
+          → count_by (frees_cell census_params marks b s) (range_with_len 0 k) ≡ length (swept_of marks b s k)
+          → count_by (frees_cell census_params marks b s) (range_with_len 0 k) + cond (frees_cell census_params marks b s k) 1 0 ≡ length (swept_of marks b s (suc k))
+      go (inl y) e = rw y (omega (arith, e, ap length (rw add-one at (swept_yes marks b s k (omega arith) refl refl y))))
+      go (inr z) e = rw z (omega (arith, e, ap length (rw add-one at (swept_no marks b s k (omega arith) refl refl z))))
+
+-- all of them
+pub swept_count : {w : ChainWalk} {p : Params} {n : ℕ} (words marks : List ℕ) (b : Block) → p ≡ census_params → w ≡ first_cell p (view words) b
+    → n ≡ length (kept_by (λ k. frees_cell p marks b.0 w.size k) (range_with_len 0 w.left)) → n ≡ length (chain_swept words marks b.0)
+swept_count {w} words marks b e f q =
+    let g : w ≡ first_cell census_params (view words) b = first_here (view words) b e f in
+    (rw (e, length-filter (λ (k : ℕ). frees_cell census_params marks b.0 w.size k) (range_with_len 0 w.left)) at q) ∙ freed_below marks b.0 w.size w.left (omega (arith, walk_count words b g)) ∙ ap length (swept_first words marks b g)
+
+-- of no cells
+swept_none : (marks : List ℕ) (b s : ℕ) {k : ℕ} → k ≡ 0 → swept_of marks b s k ≡ []
 unfolding cells_down
 swept_none marks b s q = rw q
-
-pub swept_few : (marks : List ℕ) (b s k : ℕ) → length (swept_of marks b s k) ≤ k
-swept_few marks b s k = length_cells_down (keeps census_params (marked census_params marks) s) (start census_params b) s k
-
--- one cell more, below the cells of its size
-module _ {w : ChainWalk} {p : Params} {r : Bool} (words marks : List ℕ) (b : Block) (k : ℕ) (l : k < w.left)
-    (e : w ≡ first_cell census_params (view words) b) (ep : p ≡ census_params) (f : r ≡ frees_cell p marks b.0 w.size k) where
-  inside : k < cell_count census_params w.size
-  inside = omega (arith, l, walk_count words b e)
-
-  pub count_yes : r ≡ true → length (swept_of marks b.0 w.size (k + 1)) ≡ suc (length (swept_of marks b.0 w.size k))
-  count_yes y = ap length (swept_yes marks b.0 w.size k inside ep f y)
-
-  pub count_no : r ≡ false → length (swept_of marks b.0 w.size (k + 1)) ≡ length (swept_of marks b.0 w.size k)
-  count_no z = ap length (swept_no marks b.0 w.size k inside ep f z)
-
-pub swept_count_end : {w : ChainWalk} (words marks : List ℕ) (b : Block) (k n : ℕ) → w ≡ first_cell census_params (view words) b
-    → k ≡ w.left → n ≡ length (swept_of marks b.0 w.size k) → n ≡ length (chain_swept words marks b.0)
-swept_count_end words marks b k n e q c = c ∙ ap length (rw q (swept_first words marks b e))
 
 -- a loop that prints them: of the rows of the lowest n₀ cells, those of the lowest k are left
 pub record SweptLeft (marks : List ℕ) (b s n₀ k : ℕ) (p q : Page) : Type 0 where
@@ -339,44 +317,17 @@ pub passing_all : (f : ℕ → Bool) (n : ℕ) → passing f n 0 ≡ filter f (u
 unfolding passing
 passing_all f n = refl
 
--- ---- what such a loop counts
+-- ---- what is counted over them
 
--- g summed up
-unfoldable pub total : (ℕ → ℕ) → List ℕ → ℕ
-total g [] = 0
-total g (b ∷ bs) = g b + total g bs
-
--- m is counted before i: with what is left from i on that is all, and it is at most k for each number passed
-pub record Counted (f : ℕ → Bool) (g : ℕ → ℕ) (n k i m : ℕ) : Type 0 where
-  pub all : m + total g (passing f n i) ≡ total g (filter f (up_to n))
-  pub few : m ≤ i * k
-
-pub counted_start : (f : ℕ → Bool) (g : ℕ → ℕ) (n k : ℕ) → Counted f g n k 0 0
-counted_start f g n k = record { all = omega (arith, ap (total g) (passing_all f n)); few = omega arith }
-
-module _ (f : ℕ → Bool) (g : ℕ → ℕ) (n k i m : ℕ) (c : Counted f g n k i m) where
-  module _ {x : ℕ} (small : (b : ℕ) → g b ≤ k) (l : i < n) (e : x ≡ g i) where
-    next_few : m + x ≤ suc i * k
-    next_few = rw (suc-mul i k) (omega (arith, c.few, small i))
-
-    pub counted_room : m + x ≤ n * k
-    counted_room = omega (arith, next_few, mul-le-mul_right {m = suc i} {n = n} k l)
-
-    pub counted_yes : f i ≡ true → Counted f g n k (i + 1) (m + x)
-    unfolding total
-    counted_yes y =
-        record { all = omega (arith, ap (total g) (passing_yes f n i l y), c.all); few = rw (add-one i) next_few }
-
-  pub counted_no : i < n → f i ≡ false → Counted f g n k (i + 1) m
-  counted_no l z =
-      record {
-        all = omega (arith, ap (total g) (passing_no f n i l z), c.all);
-        few = rw (add-one i, suc-mul i k) (omega (arith, c.few));
-      }
-
-  pub counted_end : n ≤ i → m ≡ total g (filter f (up_to n))
-  unfolding total
-  counted_end l = omega (arith, ap (total g) (passing_end f n i l), c.all)
+-- those that pass, by the library's word
+same_filter : (f : ℕ → Bool) (xs : List ℕ) → kept_by f xs ≡ filter f xs
+unfolding filter
+same_filter f [] = refl
+same_filter f (x ∷ xs) = go (f x) (same_filter f xs)
+  where
+    go : (b : Bool) → kept_by f xs ≡ filter f xs → (if b then (x ∷ kept_by f xs) else kept_by f xs) ≡ (if b then (x ∷ filter f xs) else filter f xs)
+    go true e = ap (λ (ys : List ℕ). x ∷ ys) e
+    go false e = e
 
 -- ---- what such a loop prints: the text g b for each b
 
@@ -478,15 +429,41 @@ flatten_append [] ys = refl
 flatten_append (x ∷ xs) ys = rw (flatten_append xs ys) (sym (append_assoc x (flatten xs) (flatten ys)))
 
 module _ (words states marks heap : List ℕ) where
-  pub total_cells : (bs : List ℕ) → total (cells_in words marks heap) bs ≡ length (flat_map (free_rows (tables_read words states marks) heap) bs)
-  unfolding total flat_map free_rows tables_read printed_chain
+  pub total_cells : (bs : List ℕ) → sum_by (cells_in words marks heap) bs ≡ length (flat_map (free_rows (tables_read words states marks) heap) bs)
+  unfolding flat_map free_rows tables_read printed_chain
   total_cells [] = refl
-  total_cells (b ∷ bs) = rw (total_cells bs, length-append, length-map)
+  total_cells (b ∷ bs) = rw (sum_by-cons, total_cells bs, length-append, length-map)
 
   pub texts_cells : (bs : List ℕ) → texts (cell_text words marks heap) bs ≡ flatten (flat_map (free_rows (tables_read words states marks) heap) bs)
   unfolding flatten flat_map free_rows tables_read printed_chain
   texts_cells [] = refl
   texts_cells (b ∷ bs) = rw (texts_cells bs) (sym (flatten_append (free_rows (tables_read words states marks) heap b) _))
+
+-- how many there are, over the blocks that are occupied, and that they are few
+few_cells : (words marks heap bs : List ℕ) → sum_by (cells_in words marks heap) bs ≤ length bs * 4096
+few_cells words marks heap [] = omega arith
+few_cells words marks heap (b ∷ bs) =
+    rw (sum_by-cons, suc-mul) (omega (arith, few_cells words marks heap bs, printed_few words marks heap b))
+
+abbrev pub occupied_kept : List ℕ → List ℕ
+occupied_kept states = kept_by (is_occupied states) (range_with_len 0 4)
+
+occupied_same : (states : List ℕ) → occupied_kept states ≡ occupied_in states
+unfolding occupied_in up_to
+occupied_same states = same_filter (is_occupied states) (up_to 4)
+
+pub cells_fit : (words states marks heap : List ℕ) → sum_by (cells_in words marks heap) (occupied_kept states) < 2 ^ 64
+cells_fit words states marks heap =
+    omega (
+      arith,
+      few_cells words marks heap (occupied_kept states),
+      length-filter (is_occupied states) (range_with_len 0 4),
+      count_by-le-length (is_occupied states) (range_with_len 0 4),
+    )
+
+pub cells_counted : (words states marks heap : List ℕ) {n : ℕ} → n ≡ sum_by (cells_in words marks heap) (occupied_kept states)
+    → n ≡ length (flat_map (free_rows (tables_read words states marks) heap) (occupied_in states))
+cells_counted words states marks heap e = e ∙ rw (occupied_same states) (total_cells words states marks heap (occupied_in states))
 
 -- ---- the whole listing
 

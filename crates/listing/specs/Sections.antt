@@ -3,8 +3,8 @@
 use Rattle.std.specs.Prelude.{Bool, not, List, [], ◌∷◌, map, ℕ, eqb, get_or}
 use Rattle.model.specs.Base.{filter}
 use Rattle.model.specs.Tables.{Tables, tables_of, view}
-use Rattle.model.specs.Block.{state_unallocated}
-use Rattle.model.specs.Block.{sweep_chain}
+use Rattle.model.specs.declared.ChainWalk.{ChainWalk}
+use Rattle.model.specs.Block.{state_unallocated, chain_from, sweep_chain}
 use Rattle.model.specs.Census.{census_params, decimal, spaced, section, up_to, occupied}
 use Rattle.model.specs.Census.{block_row, free_section}
 
@@ -25,6 +25,10 @@ free_text words states marks heap = section (102 ∷ 114 ∷ 101 ∷ 101 ∷ [])
 -- the rows of cells of the block b
 unfoldable pub cell_rows : ℕ → List ℕ → List (List ℕ)
 cell_rows b cells = map (λ a. spaced (decimal b ∷ decimal a ∷ [])) cells
+
+-- the cells that a walk along a free chain still meets
+unfoldable pub cells_of : List ℕ → ChainWalk → List ℕ
+cells_of h w = chain_from w.left census_params h w.block.0 w.size w.at.0
 
 -- ---- the cells of one block that a sweep would free
 

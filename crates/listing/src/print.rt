@@ -1,15 +1,14 @@
 // The bytes of a listing, put one behind the other on a page.
 ghost use mathlib.Core.List.{[], ◌∷◌, ◌++◌, flatten};
-ghost use Rattle.std.specs.Prelude.{◌≡◌, ◌+◌, ◌<◌};
-ghost use Rattle.model.specs.Census.{digits, decimal, spaced, section, letter};
+ghost use Rattle.std.specs.Prelude.{◌≡◌};
+ghost use Rattle.model.specs.Census.{decimal, spaced, section, letter};
 ghost use Rattle.listing.specs.Print.{Puts, refused_rows};
 
+use itoa::Buffer;
 use model::{ABANDONED, IN_GC};
 
-// A number below 2^64 has no more digits.
-const MOST_DIGITS: usize = 20;
-
 // A lent buffer, and the place in it of the next byte. What does not fit is not written, and the place then stops at the end.
+// No ghost field says that it stops there: `Puts` speaks of any place, so no contract and no test would be shorter.
 #[derive(Drop)]
 pub struct Page<'a> {
     pub bytes: &'a mut [u8],
@@ -41,26 +40,12 @@ impl<'a> Page<'a> {
         }
     }
 
-    // The last k digits at most; the high ones come first.
-    fn some_digits(&mut self, k: usize, n: usize)
-        ensures { Puts self.old self.new (digits k n) }
-    {
-        if k == 0 {
-            return;
-        }
-        if n < 10 {
-            self.byte(digit(n));
-            return;
-        }
-        self.some_digits(k - 1, n / 10);
-        self.byte(digit(n % 10));
-    }
-
-    // A number, and a space or a newline behind it.
+    // A number, and a space or a newline behind it. No `write!`, which would be no plainer: its contract promises the text where it answers
+    // Ok, and that answer would have to be told apart.
     fn number_then(&mut self, n: usize, b: u8)
         ensures { Puts self.old self.new (decimal n ++ (b ∷ [])) }
     {
-        self.some_digits(MOST_DIGITS, n);
+        self.text(Buffer::new().format(n).as_bytes());
         self.byte(b);
     }
 
@@ -114,13 +99,6 @@ impl<'a> Page<'a> {
         self.head(b"refused", refused.len());
         self.refused_rows(refused);
     }
-}
-
-fn digit(n: usize) -> u8
-    requires { n < 10 }
-    ensures { result ≡ 48 + n }
-{
-    b'0' + n as u8
 }
 
 // The letter of a set of lists: A U C local, a u c abandoned, g in-gc.

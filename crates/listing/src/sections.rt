@@ -20,7 +20,7 @@ impl<'a> Standing<'a> {
     fn is_occupied(&self, b: Block) -> bool
         ensures { result ≡ is_occupied self.now.states.now b.0 }
     {
-        states::state(self.states, b.0) != 0
+        states::state(self.states, b.0) != states::UNALLOCATED
     }
 
     fn count_blocks(&self) -> usize
@@ -31,7 +31,7 @@ impl<'a> Standing<'a> {
             .count()
     }
 
-    // The set of the list that the block names; 0 if it names none, as the definition that it equals has it.
+    // The set of the list that the block names. No Option: `set_named` of specs/ is 0 where it names none, and the letter is printed by that.
     #[tactic(auto, unfolding(model::specs::Sound::list_named, model::specs::Sound::set_named))]
     fn set_named(&self, b: Block) -> usize
         ensures { result ≡ set_named (view self.now.words.now) b.0 }
@@ -53,7 +53,7 @@ impl<'a> Standing<'a> {
         page.block_row(b.0, state, size, list, holder);
     }
 
-    // Three loops over the blocks: a traversal that takes a closure would promise, of any closure, as much in more words.
+    // Two loops over the occupied blocks, this and `cell_rows`: one that takes a closure would promise, of any closure, as much in more words.
     fn block_rows(&self, page: &mut Page<'_>)
         ensures { Puts page.old page.new (flatten (map (block_row (tables_read self.now.words.now self.now.states.now [])) (occupied_in self.now.states.now))) }
     {
@@ -72,7 +72,7 @@ impl<'a> Standing<'a> {
         self.block_rows(page);
     }
 
-    // Whether the block is on list U, u or g.
+    // Whether the block is on list U, u or g: by the letter, as the definition has it.
     fn awaits_sweep(&self, b: Block) -> bool
         ensures { result ≡ awaits_sweep (view self.now.words.now) b.0 }
     {
@@ -80,36 +80,33 @@ impl<'a> Standing<'a> {
         matches!(list, b'U' | b'u' | b'g')
     }
 
-    // The choice, of which cells are printed for a block, is made here and in `rows_of`.
+    // Which cells are printed for a block is chosen here and in `rows_of`: one that gave them to a closure would be longer than both.
     fn count_of(&self, b: Block) -> usize
         ensures { result ≡ length (printed_chain (tables_read self.now.words.now [] self.now.marks.now) self.now.heap.now b.0) }
     {
         if self.awaits_sweep(b) {
-            return chain::count_swept(self.words, self.marks, b);
+            return chain::count_swept(self, b);
         }
-        chain::count(self.words, self.heap, b)
+        chain::count(self, b)
     }
 
     fn rows_of(&self, page: &mut Page<'_>, b: Block)
         ensures { Puts page.old page.new (flatten (free_rows (tables_read self.now.words.now [] self.now.marks.now) self.now.heap.now b.0)) }
     {
         if self.awaits_sweep(b) {
-            chain::rows_swept(page, self.words, self.marks, b);
+            chain::rows_swept(page, self, b);
             return;
         }
-        chain::rows(page, self.words, self.heap, b);
+        chain::rows(page, self, b);
     }
 
     fn count_cells(&self) -> usize
         ensures { result ≡ length (flat_map (free_rows (tables_read self.now.words.now self.now.states.now self.now.marks.now) self.now.heap.now) (occupied_in self.now.states.now)) }
     {
-        let mut n: usize = 0;
-        for block in 0..BLOCKS {
-            if self.is_occupied(Block(block)) {
-                n += self.count_of(Block(block));
-            }
-        }
-        n
+        (0..BLOCKS)
+            .filter(|block| self.is_occupied(Block(*block)))
+            .map(|block| self.count_of(Block(block)))
+            .sum()
     }
 
     fn cell_rows(&self, page: &mut Page<'_>)
@@ -126,7 +123,7 @@ impl<'a> Standing<'a> {
     pub(crate) fn free_section(&self, page: &mut Page<'_>)
         ensures { Puts page.old page.new (free_text self.now.words.now self.now.states.now self.now.marks.now self.now.heap.now) }
     {
-        if tables::phase(self.words) == 1 {
+        if tables::phase(self.words) == tables::MARKING {
             page.head(b"free", 0);
             return;
         }

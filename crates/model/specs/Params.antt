@@ -96,6 +96,28 @@ head_words = 2958
 abbrev pub block_tables : ℕ
 block_tables = 7
 
+-- these tables by number, in their order
+abbrev pub table_next : ℕ
+table_next = 0
+
+abbrev pub table_prev : ℕ
+table_prev = 1
+
+abbrev pub table_free : ℕ
+table_free = 2
+
+abbrev pub table_size : ℕ
+table_size = 3
+
+abbrev pub table_list : ℕ
+table_list = 4
+
+abbrev pub table_tls : ℕ
+table_tls = 5
+
+abbrev pub table_cells : ℕ
+table_cells = 6
+
 unfoldable pub word_count : Params → ℕ
 word_count p = head_words + block_tables * p.blocks
 

@@ -1,7 +1,7 @@
 -- "Side metadata", "Pointers to lists" and "Phases": all that calls keep outside the heap.
 -- The words are lent in one slice, one table after the other; `view` takes it apart and `flat` puts it together again.
 use Rattle.std.specs.Prelude.{if◌then◌else◌, ℕ, ◌+◌, ◌-◌, ◌*◌, ◌/◌, List, ◌∷◌, ◌++◌, ltb, length, take, drop, get_or, set}
-use Rattle.model.specs.Params.{lists, holders, parts, phase_word, bound_words, released_words, head_words, block_tables}
+use Rattle.model.specs.Params.{lists, holders, parts, phase_word, bound_words, released_words, head_words, block_tables, table_next, table_prev, table_free, table_size, table_list, table_tls, table_cells}
 
 pub record Words : Type 0 where
   -- of each list: its first and its last block, by start address
@@ -43,13 +43,13 @@ view ws =
       phase = get_or ws phase_word 0;
       bound = part bound_words holders ws;
       released = part released_words parts ws;
-      next = block_table (blocks_in ws) 0 ws;
-      prev = block_table (blocks_in ws) 1 ws;
-      free = block_table (blocks_in ws) 2 ws;
-      size = block_table (blocks_in ws) 3 ws;
-      list = block_table (blocks_in ws) 4 ws;
-      tls = block_table (blocks_in ws) 5 ws;
-      cells = block_table (blocks_in ws) 6 ws;
+      next = block_table (blocks_in ws) table_next ws;
+      prev = block_table (blocks_in ws) table_prev ws;
+      free = block_table (blocks_in ws) table_free ws;
+      size = block_table (blocks_in ws) table_size ws;
+      list = block_table (blocks_in ws) table_list ws;
+      tls = block_table (blocks_in ws) table_tls ws;
+      cells = block_table (blocks_in ws) table_cells ws;
     }
 
 unfoldable pub flat : Words → List ℕ
@@ -84,25 +84,25 @@ unfoldable pub put_released : ℕ → ℕ → List ℕ → List ℕ
 put_released i v ws = put_in released_words parts i v ws
 
 unfoldable pub put_next : ℕ → ℕ → List ℕ → List ℕ
-put_next i v ws = put_block_word 0 i v ws
+put_next i v ws = put_block_word table_next i v ws
 
 unfoldable pub put_prev : ℕ → ℕ → List ℕ → List ℕ
-put_prev i v ws = put_block_word 1 i v ws
+put_prev i v ws = put_block_word table_prev i v ws
 
 unfoldable pub put_free : ℕ → ℕ → List ℕ → List ℕ
-put_free i v ws = put_block_word 2 i v ws
+put_free i v ws = put_block_word table_free i v ws
 
 unfoldable pub put_size : ℕ → ℕ → List ℕ → List ℕ
-put_size i v ws = put_block_word 3 i v ws
+put_size i v ws = put_block_word table_size i v ws
 
 unfoldable pub put_list : ℕ → ℕ → List ℕ → List ℕ
-put_list i v ws = put_block_word 4 i v ws
+put_list i v ws = put_block_word table_list i v ws
 
 unfoldable pub put_tls : ℕ → ℕ → List ℕ → List ℕ
-put_tls i v ws = put_block_word 5 i v ws
+put_tls i v ws = put_block_word table_tls i v ws
 
 unfoldable pub put_cells : ℕ → ℕ → List ℕ → List ℕ
-put_cells i v ws = put_block_word 6 i v ws
+put_cells i v ws = put_block_word table_cells i v ws
 
 -- "Tables are all that calls keep outside the heap: state bytes, block and list words, mark bits, phase, bound holders,
 -- released marks."

@@ -2,9 +2,10 @@
 ghost use Rattle.std.specs.Prelude.{◌≡◌};
 ghost use Rattle.model.specs.declared.Unserved.TheVariants.{Refused};
 ghost use Rattle.model.specs.Calls.{refusal_number, refused};
+ghost use Rattle.model.specs.RunCalls.{said_words};
 ghost use Rattle.model.specs.Answers.{reply_of, count_reply, alloc_reply, mark_reply, release_reply, classes_reply, said_of};
 
-use crate::{Refusal, Released, Said, Served, Unserved, Verdict};
+use crate::{ANSWER_WORDS, Refusal, Released, Said, Served, Unserved, Verdict};
 
 // Document 01's number of a refusal.
 impl From<Refusal> for usize {
@@ -48,6 +49,7 @@ impl From<Refusal> for Said {
     }
 }
 
+// One for each kind of answer: they share the arm of a refusal, and a trait for the other arm would be no plainer than the arm.
 impl From<Result<(), Refusal>> for Said {
     ghost from_gives = { λ x said. said ≡ said_of (reply_of x) };
 
@@ -147,6 +149,23 @@ impl From<Result<Verdict, Refusal>> for Said {
                 ..Said::default()
             },
             Err(refusal) => Said::from(refusal),
+        }
+    }
+}
+
+// What the words of an answer in a row of calls say.
+impl From<[usize; ANSWER_WORDS]> for Said {
+    ghost from_gives = { λ words x. said_words x ≡ words };
+
+    #[tactic(auto, unfolding(crate::specs::RunCalls::said_words))]
+    fn from(words: [usize; ANSWER_WORDS]) -> Said {
+        let [number, first, second, third, fourth] = words;
+        Said {
+            number,
+            first,
+            second,
+            third,
+            fourth,
         }
     }
 }

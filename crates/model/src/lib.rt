@@ -4,7 +4,7 @@
 mod answers;
 mod host;
 
-// An address of the heap; 0 means none.
+// An address of the heap; 0 means none, as in the words of the tables, so it is no Option.
 #[derive(Clone, Copy, Debug, PartialEq, Eq)]
 pub struct Address(pub usize);
 
@@ -45,9 +45,23 @@ pub struct Params {
     pub eager: bool,
     // the rows of the class table: row n stands at n − 1, and those from `count` on are not read
     pub rows: [Row; ROWS],
-    // how many rows are given; 0 for the classes of document 01
+    // how many rows are given; 0 for the classes of document 01. An array and a count, since nothing comes from the heap
     pub count: usize,
 }
+
+// Document 01's bounds on parameters and requests. MAX_BYTES is the largest power of two that it asks for, too; the heap ends at HEAP_END at
+// the latest.
+pub const MIN_BYTES: usize = 4096;
+
+pub const MAX_BYTES: usize = 65536;
+
+pub const MAX_BLOCKS: usize = 1024;
+
+pub const MAX_ALIGN: usize = 64;
+
+pub const MAX_OFFSET: usize = 65536;
+
+pub const HEAP_END: usize = 1 << 47;
 
 // Numbers of the layout: specs/Params.antt has the same names, in small letters.
 //
@@ -135,7 +149,8 @@ pub enum Refusal {
     BadClasses,
 }
 
-// An alloc that was served: where the object may start, its cell's size, whether the offer was used, how many blocks were swept.
+// An alloc that was served: where the object may start, its cell's size, whether the offer was used, how many blocks were swept. The flag
+// is one of 01's four answers, and says nothing of the others.
 #[derive(Clone, Copy, Debug, PartialEq, Eq)]
 pub struct Served {
     pub address: Address,
@@ -160,7 +175,8 @@ pub struct Released {
     pub swept: usize,
 }
 
-// What the check of a class table says: accepted, the least bad count of words, or the first unfit row (02, R-5).
+// What the check of a class table says: accepted, the least bad count of words, or the first unfit row (02, R-5). No Result: each of the
+// three is an answer, and what the check refuses is another thing.
 #[derive(Clone, Copy, Debug, PartialEq, Eq)]
 pub enum Verdict {
     Accepted,
@@ -168,8 +184,8 @@ pub enum Verdict {
     BadRow(usize),
 }
 
-// What any call says, as numbers: 0 or its refusal's number, and the answer's numbers in order, zeros after. C is told these, so it is no
-// Result.
+// What any call says, as numbers: 0 or its refusal's number, and the answer's numbers in order, zeros after. No Result: C is told these
+// numbers, and the programs print them.
 #[derive(Clone, Copy, Debug, Default, PartialEq, Eq)]
 pub struct Said {
     pub number: usize,
@@ -178,6 +194,9 @@ pub struct Said {
     pub third: usize,
     pub fourth: usize,
 }
+
+// How many these numbers are: the words of an answer in a row of calls (02).
+pub const ANSWER_WORDS: usize = 5;
 
 // The parameters as a C host gives them: each as a number, a flag as 0 or 1.
 #[derive(Clone, Copy)]

@@ -1,7 +1,7 @@
 -- The tests of an alloc and its whole call: one law for each way out. Plain values alone stand here. Assumes nothing.
 use Rattle.std.specs.Prelude.{if◌then◌else◌, Result, ⊤, Ok, Err, Option, None, Some, ok_or}
 use Prim.Native.Nat.{ℕ, ◌<◌, ◌≤◌}
-use mathlib.Core.Path.{◌≡◌, refl, sym, ap, ◌∙◌, subst}
+use mathlib.Core.Path.{◌≡◌, refl, sym, ap, ◌∙◌}
 use mathlib.Core.Bool.{Bool, true, false}
 use mathlib.Core.List.{List}
 use native.Mathlib.Omega.{arith}
@@ -11,15 +11,12 @@ use borrow.Author.Tests.{lt-ltb, le-ltb, ltb-true}
 use Rattle.model.specs.declared.Params.{Params}
 use Rattle.model.specs.declared.Block.{Block}
 use Rattle.model.specs.declared.Refusal.{Refusal}
-use Rattle.model.specs.declared.Served.{Served}
-use Rattle.model.specs.declared.Unserved.{Unserved}
 use Rattle.model.specs.declared.Refusal.TheVariants.{BadRequest, TooBig, BadOffer}
 use Rattle.model.specs.Tables.{Words, Tables, tables_of, view}
 use Rattle.model.specs.SizeClasses.{bin_of, raised}
 use Rattle.model.specs.FreeListAllocator.{find_block}
 use Rattle.model.specs.Sound.{state_of}
 use Rattle.model.specs.Calls.{Reply, refused, good_request, too_big, good_offer, take_plan, and_then, request_tests, call_tests, plan_passed, carried, Call, alloc}
-use Rattle.model.specs.Answers.{alloc_reply}
 use Rattle.model.specs.Promise.{lend}
 use Rattle.laws.proofs.Params.{good_bounds}
 use Rattle.laws.proofs.Below.{and_left}
@@ -27,10 +24,8 @@ use Rattle.laws.proofs.Tables.{sized_view}
 use Rattle.laws.proofs.Classes.{Chosen, chosen, request, fits_raised}
 use Rattle.laws.proofs.Tests.{alloc_passed}
 use Rattle.native_ms.specs.Raised.{raised_to}
-use Rattle.native_ms.specs.declared.free_list_allocator.Short.TheVariants.{Ends, Searches}
-use Rattle.native_ms.specs.Checked.{lent_tests, bin_after, Serves}
-use Rattle.native_ms.specs.ShortWay.{Shortly}
-use Rattle.native_ms.specs.Ending.{stepped, shown, Does, ServedBy, Ready}
+use Rattle.native_ms.specs.Checked.{lent_tests, bin_after}
+use Rattle.native_ms.specs.Ending.{stepped, shown, Does, ServedBy, Ready, Shiftable}
 use Rattle.native_ms.specs.Places.{Known, Offered}
 use Rattle.native_ms.proofs.Tests.{opened, open_known, step_refused, step_passed}
 use Rattle.native_ms.proofs.SpaceCalls.{bound_low, bound_high}
@@ -150,25 +145,34 @@ module _ (p : Params) (w st ms h : List ℕ) (holder size align offset : ℕ) (o
     passing : (call_tests p T C ≡ Ok tt) × (bin ≡ bin_of p (raised p size align))
     passing = bin_yes (call_tests p T C) (bin_of p (raised p size align)) (sym z ∙ ek ms)
 
-    pub call_ready : lent_tests p (lend w st ms h) ≡ Ok tt → Ready p (view w) holder bin align offset
+    pub call_ready : lent_tests p (lend w st ms h) ≡ Ok tt → Ready p (view w)
     call_ready e =
         let o = opened p w st ms h e in
-        let a = alloc_passed p T holder size align offset offer passing.0 in
-        let r = request p size align offset a.good in
         let B = good_bounds p o.parts.good in
         record {
-          good = o.parts.good;
-          holder_from = bound_low (view w) holder a.bound;
-          holder_to = bound_high (view w) holder a.bound;
-          bin_low = omega (arith, passing.1, (chosen p B o.classes (raised p size align) (fits_raised p size align a.small)).to);
-          shift =
-              record {
-                align_from = omega (arith, r.align_from, B.min_low);
-                align_to = omega (arith, r.align_to, B.max_high);
-                offset_low = r.offset_low;
-              };
           heads = sound_low p B T (sized_view p.blocks w o.parts.words).free o.sane;
           cells = sound_cells p B T o.sane;
+        }
+
+    pub call_holder : (1 ≤ holder) × (holder ≤ 8)
+    call_holder =
+        let a = alloc_passed p T holder size align offset offer passing.0 in
+        (bound_low (view w) holder a.bound, bound_high (view w) holder a.bound)
+
+    pub call_bin : lent_tests p (lend w st ms h) ≡ Ok tt → bin < 49
+    call_bin e =
+        let o = opened p w st ms h e in
+        let a = alloc_passed p T holder size align offset offer passing.0 in
+        omega (arith, passing.1, (chosen p (good_bounds p o.parts.good) o.classes (raised p size align) (fits_raised p size align a.small)).to)
+
+    pub call_shift : lent_tests p (lend w st ms h) ≡ Ok tt → Shiftable align offset
+    call_shift e =
+        let B = good_bounds p (opened p w st ms h e).parts.good in
+        let r = request p size align offset (alloc_passed p T holder size align offset offer passing.0).good in
+        record {
+          align_from = omega (arith, r.align_from, B.min_low);
+          align_to = omega (arith, r.align_to, B.max_high);
+          offset_low = r.offset_low;
         }
 
     pub call_known : lent_tests p (lend w st ms h) ≡ Ok tt → Known p (length w) (length ms) (length h)
@@ -191,38 +195,3 @@ module _ (p : Params) (w st ms h : List ℕ) (holder size align offset : ℕ) (o
     call_served e =
         e ∙ ap (λ (n : ℕ). shown (carried p h (take_plan p align offset (find_block p holder n offer T)))) passing.1
         ∙ step_passed p T h C (sym passing.0) refl
-
--- ---- the short way
-
-ends_same : {a b : Result Served Unserved} → Ends a ≡ Ends b → a ≡ b
-ends_same e = cc
-
-ends_not : {a : Result Served Unserved} {bin : ℕ} → Ends a ≡ Searches bin → ⊥
-ends_not e = let z : ◌≡◌ {A = ℕ} 0 1 = cc in absurd (omega arith)
-
-module _ (p : Params) (w st h : List ℕ) (c : Call) (n : ℕ) where
-  pub short_ended : {answer : Result Served Unserved} {w₁ h₁ : List ℕ}
-      → ((ms : List ℕ) → Does p (tables_of (view w) st ms) h c (alloc_reply answer) (tables_of (view w₁) st ms) h₁)
-      → Shortly p w st h c n (Ends answer) w₁ h₁
-  short_ended {answer} {w₁} {h₁} d =
-      record {
-        ends =
-            λ a e ms.
-            subst (λ (x : Result Served Unserved). Does p (tables_of (view w) st ms) h c (alloc_reply x) (tables_of (view w₁) st ms) h₁) (ends_same e) (d ms);
-        searches = λ bin e. absurd (ends_not e);
-        words = λ bin e. absurd (ends_not e);
-        heap = λ bin e. absurd (ends_not e);
-      }
-
--- what the short way left is still what was lent
-pub short_passed : (p : Params) (st ms : List ℕ) {w w₁ h h₁ : List ℕ} → w₁ ≡ w → h₁ ≡ h → lent_tests p (lend w st ms h) ≡ Ok tt
-    → lent_tests p (lend w₁ st ms h₁) ≡ Ok tt
-short_passed p st ms ew eh e = rw (ew, eh) e
-
-pub short_serves : (p : Params) (st : List ℕ) (c : Call) (n bin : ℕ) {w w₁ : List ℕ} → w₁ ≡ w → Serves p (view w) st c n bin
-    → Serves p (view w₁) st c n bin
-short_serves p st c n bin ew s = subst (λ (x : List ℕ). Serves p (view x) st c n bin) (sym ew) s
-
-pub short_then : (p : Params) (st ms : List ℕ) (c : Call) {w w₁ h h₁ : List ℕ} {r : Reply} {t : Tables} {h₂ : List ℕ} → w₁ ≡ w → h₁ ≡ h
-    → Does p (tables_of (view w₁) st ms) h₁ c r t h₂ → Does p (tables_of (view w) st ms) h c r t h₂
-short_then p st ms c ew eh d = rw (← ew, ← eh) d

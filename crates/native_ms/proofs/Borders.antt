@@ -1,14 +1,19 @@
 -- From border to border (02, R-5): up to the next border every row covers what it covers at a, so counts are bad as a is. And the loops
 -- over rows. Assumes nothing.
-use Prim.Native.Nat.{ℕ, suc, ◌+◌, ◌-◌, ◌*◌, ◌/◌, ◌<◌, ◌≤◌}
+use Rattle.std.specs.Prelude.{Option, Some, None, position}
+use Rattle.std.specs.List.{position_from}
+use Rattle.std.proofs.lemmas.List.{get_or-take}
+use Rattle.std.proofs.lemmas.List.Quantifiers.{position-Some}
+use Rattle.std.proofs.lemmas.Iterator.Adapters.{position_from-zero}
+use Prim.Native.Nat.{ℕ, zero, suc, ◌+◌, ◌-◌, ◌*◌, ◌/◌, ◌<◌, ◌≤◌, min}
 use mathlib.Core.Path.{◌≡◌, sym, ap, ◌∙◌, subst}
 use mathlib.Core.Bool.{Bool, true, false, not}
-use mathlib.Core.List.{List}
-use mathlib.Core.Logic.{◌⊎◌, inl, inr, ◌≢◌}
+use mathlib.Core.List.{List, [], ◌∷◌}
+use mathlib.Core.Logic.{◌⊎◌, inl, inr, ⊎_elim, ◌≢◌}
 use native.Mathlib.Omega.{arith}
 use lib.Dec.{eqb, leb}
-use native.Mathlib.Nat.{mul_comm, eq-zero-or-pos}
-use lib.ListN.{length, get_or, set, replicate, length-set, length-replicate, get_or-eq_default}
+use native.Mathlib.Nat.{mul_comm, eq-zero-or-pos, not-suc-le-zero, le_of_suc-le-suc}
+use lib.ListN.{length, get_or, set, take, replicate, length-set, length-replicate, get_or-eq_default}
 use lib.Seq.{get_or-set_same, get_or-set_other}
 use borrow.Author.Count.{below_more}
 use borrow.Author.Tests.{eqb-true, eqb-false, leb-true, leb-false, ne_eqb}
@@ -68,6 +73,18 @@ pub row_next : (p : Params) (i : ℕ) → row_at p (i + 1) ≡ get_or p.rows i n
 unfolding row_at
 row_next p i = let e : (i + 1) - 1 ≡ i = omega arith in ap (λ (n : ℕ). get_or p.rows n no_row) e
 
+-- where there is no first that passes, none does
+none_passes : (f : Row → Bool) (rows : List Row) (i : ℕ) → position_from f i rows ≡ None → (k : ℕ) → k < length rows → f (get_or rows k no_row) ≡ false
+none_passes f [] i e k l = absurd (not-suc-le-zero l)
+none_passes f (r ∷ rows) i e k l =
+    ⊎_elim (λ t. let q : ◌≡◌ {A = Option ℕ} (Some i) None = rw t at e in cc)
+    (λ t. place k l t (λ j y. none_passes f rows (i + 1) (rw t at e) j y))
+    (test (f r))
+  where
+    place : (k : ℕ) → k < suc (length rows) → f r ≡ false → ((j : ℕ) → j < length rows → f (get_or rows j no_row) ≡ false) → f (get_or (r ∷ rows) k no_row) ≡ false
+    place zero l t rest = t
+    place (suc k) l t rest = rest k (le_of_suc-le-suc l)
+
 -- ---- a loop that looks at one after the other, which are counted from 1: none of the first n passes
 
 module _ (g : ℕ → Bool) (count n : ℕ) (before : (k : ℕ) → k < n → g k ≡ false) where
@@ -81,6 +98,28 @@ module _ (g : ℕ → Bool) (count n : ℕ) (before : (k : ℕ) → k < n → g 
 
   pub none_of : ((k : ℕ) → n ≤ k → k < count → g k ≡ false) → 0 ≡ least_from count 1 from_one
   none_of past = sym (none_least from_one count 1 (λ m a b. by_lt (m - 1) n (λ l. before (m - 1) l) (λ l. past (m - 1) l (omega arith))))
+
+-- ---- the rows that are given
+
+module _ (rows : List Row) (count : ℕ) {some : List Row} (e : some ≡ take (min count 48) rows) (all : length some ≡ min count 48) where
+  pub row_given : (k : ℕ) → k < min count 48 → get_or some k no_row ≡ get_or rows k no_row
+  row_given k l = ap (λ (rs : List Row). get_or rs k no_row) e ∙ get_or-take (min count 48) rows k no_row l
+
+  module _ (f : Row → Bool) where
+    -- the first of them that passes, if any does, is named by its number
+    pub first_row : {r : Option ℕ} (n : ℕ) → r ≡ position f some → r ≡ Some n → n + 1 ≡ least_from count 1 (λ k. f (get_or rows (k - 1) no_row))
+    first_row n q z =
+        let p = position-Some f some n no_row (sym q ∙ z) in
+        first_of (λ k. f (get_or rows k no_row)) count n (λ k l. ap f (sym (row_given k (omega (arith, p.0)))) ∙ p.2 k l) (omega (arith, p.0))
+        (ap f (sym (row_given n (omega (arith, p.0)))) ∙ p.1)
+
+    pub no_first_row : {r : Option ℕ} → r ≡ position f some → r ≡ None → ((k : ℕ) → 48 ≤ k → k < count → f (get_or rows k no_row) ≡ false)
+        → 0 ≡ least_from count 1 (λ k. f (get_or rows (k - 1) no_row))
+    no_first_row q z past =
+        let p = sym (position_from-zero f some) ∙ sym q ∙ z in
+        none_of (λ k. f (get_or rows k no_row)) count (min count 48)
+        (λ k l. ap f (sym (row_given k l)) ∙ none_passes f some 0 p k (omega arith))
+        (λ k a b. past k (omega arith) b)
 
 -- no count of words falls in a row past the list
 pub covers_past : (rows : List Row) (words n : ℕ) → length rows ≤ n → covers (get_or rows n no_row) words ≡ false

@@ -9,7 +9,7 @@ use native.Mathlib.Nat.{div-zero, mul-le-mul_right, suc-mul, div-mul-le_self}
 use native.Mathlib.Omega.{arith}
 use lib.Dec.{ltb}
 use lib.ListN.{length, get_or, set}
-use borrow.Author.Tests.{ne_eqb, eq-eqb, ltb-true, lt-ltb}
+use borrow.Author.Tests.{ltb-true, lt-ltb}
 use Rattle.model.specs.declared.Params.{Params}
 use Rattle.model.specs.Params.{good_params, start}
 use Rattle.model.specs.Memory.{load, store, zeroed}
@@ -121,11 +121,11 @@ module _ (p : Params) (kept : ℕ → Bool) (from s k : ℕ) (h₀ : List ℕ) (
 
 -- ---- a whole sweep
 
-pub swept_by : (p : Params) (kept : ℕ → ℕ → Bool) (b : ℕ) {s n from r linked : ℕ} {t₁ t₂ : Words} {h₁ : List ℕ} (t : Words) (h : List ℕ)
+pub swept_by : (p : Params) (kept : ℕ → ℕ → Bool) (b : ℕ) {s n from r linked : ℕ} {t₁ : Words} {h₁ : List ℕ} (t : Words) (h : List ℕ)
     → s ≡ get_or t.size b 0 → n ≡ cell_count p s → from ≡ start p b → Built p (cells_down (kept s) from s n) h r linked h₁
-    → t₁ ≡ set_free b r t → t₂ ≡ set_cells b linked t₁ → SweptBy p kept b t h t₂ h₁
-swept_by p kept b t h es en ef l e₁ e₂ =
-    record { words = rw (e₂, e₁, l.linked.head, l.count, en, ef, es); heap = rw (l.linked.heap, en, ef, es) }
+    → t₁ ≡ set_cells b linked (set_free b r t) → SweptBy p kept b t h t₁ h₁
+swept_by p kept b t h es en ef l e₁ =
+    record { words = rw (e₁, l.linked.head, l.count, en, ef, es); heap = rw (l.linked.heap, en, ef, es) }
 
 pub swept : (p : Params) (ms : List ℕ) (b : ℕ) (f : Bool) {t t₁ : Words} {h h₁ : List ℕ} → f ≡ simple p
     → SweptBy p (kept_by f p ms) b t h t₁ h₁ → Swept p ms b t h t₁ h₁
@@ -142,9 +142,9 @@ cleared b t st e₁ e₂ e₃ e₄ e₅ e₆ e₇ es = record { words = rw (e₇
 
 -- ---- taking a cell
 
-module _ (p : Params) (b : ℕ) {cell s n link less : ℕ} (t : Words) (h : List ℕ) (ec : cell ≡ get_or t.free b 0)
-    (es : s ≡ get_or t.size b 0) (en : n ≡ get_or t.cells b 0) (el : link ≡ load p h cell) (eo : less ≡ n - 1) where
-  pub take : {t₁ t₂ : Words} {h₁ : List ℕ} → t₁ ≡ set_free b link t → t₂ ≡ set_cells b less t₁ → h₁ ≡ zeroed p h cell s
-      → took (record { at = record { 0 = cell }; size = s }) t₂ h₁ ≡ take_free p b t h
-  unfolding take_free
-  take e₁ e₂ eh = rw (e₂, e₁, eh, eo, en, el, ec, es)
+pub take : (p : Params) (b : ℕ) {cell s n link head less : ℕ} {t₁ : Words} {h₁ : List ℕ} (t : Words) (h : List ℕ) → cell ≡ get_or t.free b 0
+    → s ≡ get_or t.size b 0 → n ≡ get_or t.cells b 0 → link ≡ load p h cell → (head ≡ link) × (less ≡ n - 1)
+    → t₁ ≡ set_cells b less (set_free b head t) → h₁ ≡ zeroed p h cell s
+    → took (record { at = record { 0 = cell }; size = s }) t₁ h₁ ≡ take_free p b t h
+unfolding take_free
+take p b t h ec es en el (eh, eo) e₁ ez = rw (e₁, ez, eo, eh, en, el, ec, es)

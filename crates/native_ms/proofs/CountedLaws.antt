@@ -2,16 +2,16 @@
 -- Each law is one way on or out of a walk. Assumes nothing.
 use Rattle.std.specs.Prelude.{if◌then◌else◌}
 use Rattle.std.proofs.Common.{Option, Some, None}
-use Prim.Native.Nat.{ℕ, zero, suc, ◌+◌, ◌-◌, ◌*◌, ◌/◌, ◌<◌, ◌≤◌}
+use Prim.Native.Nat.{ℕ, zero, suc, min, ◌+◌, ◌*◌, ◌/◌, ◌<◌, ◌≤◌}
 use mathlib.Core.Path.{◌≡◌, refl, sym, ap, ◌∙◌}
 use mathlib.Core.Bool.{Bool, true, false}
 use mathlib.Core.List.{List, [], ◌∷◌, map}
-use Rattle.std.proofs.lemmas.List.{get_or-map}
+use Rattle.std.proofs.lemmas.List.{get_or-map, get_or-take, length-take}
 use native.Mathlib.Nat.{add-zero, zero-add, suc-mul, mul-le-mul, not-suc-le-zero}
 use native.Mathlib.Numerals.{add-one}
 use native.Mathlib.Omega.{arith}
 use lib.Dec.{eqb}
-use lib.ListN.{length, get_or}
+use lib.ListN.{length, get_or, take, drop}
 use borrow.Author.Tests.{eq-eqb, ne_eqb, eqb-true}
 use Rattle.model.specs.declared.Params.{Params}
 use Rattle.model.specs.Base.{all_below, sum_below}
@@ -91,9 +91,17 @@ module _ (p : Params) (next : List ℕ) (a k : ℕ) {r : Option ℕ} (e : r ≡ 
 
 -- ---- 48 lists, from bin 1 up
 
--- where list k starts, by what it is lent as
-pub starts_at : {X : Type 0} (f : X → ℕ) (xs : List X) (k : ℕ) {x : X} {a : ℕ} → k < length xs → x ≡ get_or xs k x → a ≡ f x → a ≡ get_or (map f xs) k 0
-starts_at f xs k {x} h e ea = ea ∙ ap f e ∙ sym (get_or-map f xs k x 0 h)
+-- where the list of bin k + 1 starts, by what it is lent as: the list k of those from bin 1 on
+starts_at : {X : Type 0} (f : X → ℕ) (xs : List X) (k : ℕ) {x : X} {a : ℕ} → k < length (drop 1 xs) → x ≡ get_or (drop 1 xs) k x → a ≡ f x
+    → a ≡ get_or (map f xs) (k + 1) 0
+starts_at f [] k h e ea = absurd (not-suc-le-zero h)
+starts_at f (y ∷ ys) k {x} h e ea = rw (add-one k) (ea ∙ ap f e ∙ sym (get_or-map f ys k x 0 h))
+
+pub starts_in : {X : Type 0} (f : X → ℕ) (xs : List X) (n k : ℕ) {x : X} {a : ℕ} → k < length (take n (drop 1 xs))
+    → x ≡ get_or (take n (drop 1 xs)) k x → a ≡ f x → a ≡ get_or (map f xs) (k + 1) 0
+starts_in f xs n k {x} h e =
+    let low : k < min n (length (drop 1 xs)) = simp length-take at h in
+    starts_at f xs k (omega arith) (e ∙ get_or-take n (drop 1 xs) k x (omega arith))
 
 module _ (p : Params) (next firsts : List ℕ) where
   ends_at : ℕ → Bool
@@ -107,24 +115,19 @@ module _ (p : Params) (next firsts : List ℕ) where
   bins_none zero h = refl
   bins_none (suc k) h = absurd (not-suc-le-zero h)
 
-  pub bins_bad : (n k : ℕ) {r : Option ℕ} {a : ℕ} → 1 ≤ k → k ≤ n → a ≡ get_or firsts k 0 → r ≡ counted_from p.blocks p next 0 a → r ≡ None
+  pub bins_bad : (n k : ℕ) {r : Option ℕ} {a : ℕ} → k < n → a ≡ get_or firsts (k + 1) 0 → r ≡ counted_from p.blocks p next 0 a → r ≡ None
       → None ≡ counted_bins n p next firsts 0
   unfolding counted_bins ends_at
-  bins_bad n zero s l ea e h = absurd (not-suc-le-zero s)
-  bins_bad n (suc k) {a = a} s l ea e h =
-      rw (all_below_off n ends_at k l (rw (add-one k, ← ea) (walk_no p next a p.blocks e h)))
+  bins_bad n k {a = a} l ea e h = rw (all_below_off n ends_at k l (rw (← ea) (walk_no p next a p.blocks e h)))
 
-  pub bins_step : (k n : ℕ) {r : Option ℕ} {a m : ℕ} → 1 ≤ k → Some n ≡ counted_bins (k - 1) p next firsts 0 → a ≡ get_or firsts k 0
-      → r ≡ counted_from p.blocks p next 0 a → r ≡ Some m → Some (n + m) ≡ counted_bins (k + 1 - 1) p next firsts 0
+  pub bins_step : (k n : ℕ) {r : Option ℕ} {a m : ℕ} → Some n ≡ counted_bins k p next firsts 0 → a ≡ get_or firsts (k + 1) 0
+      → r ≡ counted_from p.blocks p next 0 a → r ≡ Some m → Some (n + m) ≡ counted_bins (k + 1) p next firsts 0
   unfolding counted_bins all_below sum_below ends_at walked_at
-  bins_step zero n s i ea e h = absurd (not-suc-le-zero s)
-  bins_step (suc k) n {r} {a} {m} s i ea e h =
-      let d : suc k - 1 ≡ k = omega arith in
-      let d' : suc k + 1 - 1 ≡ suc k = omega arith in
+  bins_step k n {r} {a} {m} i ea e h =
       let y = walk_yes p next a p.blocks e h in
-      let before = counted_yes (all_below k ends_at) n (0 + sum_below k walked_at) (rw d at i) in
+      let before = counted_yes (all_below k ends_at) n (0 + sum_below k walked_at) i in
       let sum : n + m ≡ 0 + (m + sum_below k walked_at) = omega (arith, before.same) in
-      rw (d', add-one k, ← ea, y.good, before.good, ← y.same, sum)
+      rw (add-one k, ← ea, y.good, before.good, ← y.same, sum)
 
 -- ---- pages used, from the count of all bins
 

@@ -18,7 +18,7 @@ use Rattle.model.specs.Tables.{Words, view, set_phase, set_released}
 use Rattle.model.specs.BlockList.{push, remove}
 use Rattle.model.specs.Block.{state_unallocated}
 use Rattle.model.specs.Events.{Event, swept, event_heap, events_heap, is_sweep, is_release, sweeps, releases}
-use Rattle.model.specs.Global.{Freed, freed, is_bound, has_released, all_released, is_last, sweep_block, sweep_all, recycle_from, recycle_bin, recycle_blocks, swept_eagerly, eagerly}
+use Rattle.model.specs.Global.{Freed, freed, has_released, all_released, is_last, sweep_block, sweep_all, recycle_from, recycle_bin, recycle_blocks, swept_eagerly, eagerly}
 use Rattle.laws.proofs.Below.{and_both}
 use Rattle.laws.proofs.Base.{if_cases, if_true}
 use Rattle.laws.proofs.Frame.{each_keeps}
@@ -45,9 +45,9 @@ module _ (w : List ℕ) (last part : ℕ) where
   unfolding has_released set_released set_phase
   with_other n e = e ∙ ap (λ (x : ℕ). eqb x 1) (sym (get_or-set_other (view w).released last part 1 0 n))
 
-  pub bound_with : {b : Bool} → b ≡ is_bound (view w) part → b ≡ is_bound (after_part last (view w)) part
-  unfolding is_bound set_released set_phase
-  bound_with e = e
+pub same_bound : (w : Words) (part : ℕ) → (after_part part w).bound ≡ w.bound
+unfolding set_released set_phase
+same_bound w part = refl
 
 pub last_is_lem : (w : Words) (part : ℕ) {r : Bool} → r ≡ all_released (after_part part w) → r ≡ is_last part w
 unfolding is_last

@@ -5,7 +5,7 @@ use mathlib.Core.Path.{◌≡◌, refl, sym, ◌∙◌}
 use mathlib.Core.Logic.{◌⊎◌, inl, inr}
 use mathlib.Core.Bool.{Bool, true, false, not, ◌||◌}
 use mathlib.Core.List.{List, [], ◌∷◌}
-use Prim.Native.Nat.{ℕ, suc, ◌+◌, ◌-◌, ◌/◌, ◌≤◌, ◌<◌, ◌*◌}
+use Prim.Native.Nat.{ℕ, suc, ◌+◌, ◌-◌, ◌/◌, ◌≤◌, ◌<◌}
 use native.Mathlib.Nat.{div-le_self}
 use native.Mathlib.Omega.{arith}
 use lib.Dec.{eqb, leb}
@@ -28,6 +28,7 @@ use Rattle.laws.proofs.Params.{good_bounds}
 use Rattle.laws.proofs.Tables.{by_lt, sized_view}
 use Rattle.laws.proofs.Tests.{clash}
 use Rattle.native_ms.specs.Checked.{lent_tests}
+use Rattle.native_ms.specs.SoundLent.{Lengths}
 use Rattle.native_ms.specs.FewCells.{FewCells, cells_in}
 use Rattle.native_ms.proofs.Heads.{each_sound, clear_none}
 use Rattle.native_ms.proofs.Tests.{Open, opened}
@@ -104,14 +105,11 @@ module _ (p : Params) (w s m h : List ℕ) (bin : ℕ) {r : Result ⊤ Refusal} 
     o : Open p w s m h
     o = opened p w s m h (sym e ∙ z)
 
-    pub ask_good : good_params p ≡ true
-    ask_good = o.parts.good
+    pub ask_lengths : Lengths p w s
+    ask_lengths = record { good = o.parts.good; words = o.parts.words; states = o.parts.states }
 
     pub ask_few : FewCells (view w)
     ask_few = few_cells p (tables_of (view w) s m) h o.parts.good o.whole (sized_view p.blocks w o.parts.words).cells
-
-    pub ask_long : length w ≡ 2958 + 7 * p.blocks
-    ask_long = o.parts.words
 
     pub ask_low : bin < 1 → refused BadRequest ≡ ask p (lend w s m h) (free_cells bin)
     unfolding ask

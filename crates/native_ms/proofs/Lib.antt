@@ -23,9 +23,11 @@ pub mod Heads
 pub mod Ending
 pub mod Abandoned
 pub mod Releases
+pub mod Each
 pub mod EagerLaws
 pub mod SpaceCalls
 pub mod AllocCall
 pub mod SoundLent
 pub mod FreeCountLaws
 pub mod RunLaws
+pub mod Powers

@@ -13,16 +13,17 @@ use lib.ListN.{length, get_or, get_or-eq_default}
 use Rattle.model.specs.declared.Params.{Params}
 use Rattle.model.specs.Base.{any_below}
 use Rattle.model.specs.Params.{heap_bytes, in_heap, word_count, start, biased}
-use Rattle.model.specs.Tables.{Words, set_free, set_size, set_tls, set_cells}
+use Rattle.model.specs.Tables.{Words, view, set_free, set_size, set_tls, set_cells}
 use Rattle.model.specs.Memory.{store, bytes_of, overwrite, bit_of, marked}
 use Rattle.model.specs.Block.{cells_down, link_all, cell_count, init_block, init_chain}
 use Rattle.laws.proofs.Params.{Bounds, good_bounds, in_heap_yes, start_in, mod_through}
 use Rattle.laws.proofs.Memory.{length_store}
+use Rattle.laws.proofs.Tables.{sized_view}
 use Rattle.laws.proofs.Marks.{heap_lines, marked_inside}
 use Rattle.laws.proofs.Cells.{cells_down_kept, cells_down_freed, length_all}
 use Rattle.native_ms.specs.Block.{kept_by, Linked, Built, Initialised, SweptBy}
 use Rattle.native_ms.specs.Bits.{bit_at, any_bit, Run}
-use Rattle.native_ms.specs.Places.{Known, WholeWords, Standing, Sweepable, Places, Inside, ByBits, Extends, Reach, Tells}
+use Rattle.native_ms.specs.Places.{Known, WholeWords, Standing, Places, Inside, ByBits, Extends, Reach, Tells}
 
 pub test_by_mask : (v i : ℕ) → eqb (bit_and (v / 2 ^ i) 1) 1 ≡ bit_of v i
 unfolding bit_of
@@ -254,24 +255,24 @@ module _ (p : Params) {words heap b : ℕ} (r : Standing p words heap b) where
         fits = omega (arith, block_inside b p.blocks p.bytes r.block, div-mul-le_self p.bytes s, r.whole);
       }
 
-  pub initialised : (s tls : ℕ) {v n : ℕ} {t₁ t₂ t₃ t₄ : Words} {h₁ : List ℕ} (t : Words) (h : List ℕ) → n ≡ p.bytes / s
+  pub initialised : (s tls : ℕ) {v n : ℕ} {t₁ t₂ t₃ : Words} {h₁ : List ℕ} (t : Words) (h : List ℕ) → n ≡ p.bytes / s
       → Linked p (cells_down (λ a. false) (p.base + b * p.bytes) s (p.bytes / s)) h v h₁
-      → t₁ ≡ set_free b v t → t₂ ≡ set_size b s t₁ → t₃ ≡ set_tls b tls t₂ → t₄ ≡ set_cells b n t₃ → Initialised p b s tls t h t₄ h₁
-  unfolding init_block init_chain cell_count
-  initialised s tls t h en l e₁ e₂ e₃ e₄ =
+      → t₁ ≡ set_cells b n (set_free b v t) → t₂ ≡ set_size b s t₁ → t₃ ≡ set_tls b tls t₂ → Initialised p b s tls t h t₃ h₁
+  unfolding init_block init_chain cell_count set_free set_size set_tls set_cells
+  initialised s tls t h en l e₁ e₂ e₃ =
       let from : start p b ≡ p.base + b * p.bytes = start_in p b r.block in
       record {
-        words = rw (e₄, e₃, e₂, e₁, l.head, from, en, length_all (p.base + b * p.bytes) s (p.bytes / s));
+        words = rw (e₃, e₂, e₁, l.head, from, en, length_all (p.base + b * p.bytes) s (p.bytes / s));
         heap = rw (l.heap, from);
       }
 
-  pub swept_in_lem : (kept : ℕ → ℕ → Bool) {s v linked : ℕ} {t₁ t₂ : Words} {h₁ : List ℕ} (t : Words) (h : List ℕ)
+  pub swept_in_lem : (kept : ℕ → ℕ → Bool) {s v linked : ℕ} {t₁ : Words} {h₁ : List ℕ} (t : Words) (h : List ℕ)
       → s ≡ get_or t.size b 0 → Built p (cells_down (kept s) (p.base + b * p.bytes) s (p.bytes / s)) h v linked h₁
-      → t₁ ≡ set_free b v t → t₂ ≡ set_cells b linked t₁ → SweptBy p kept b t h t₂ h₁
+      → t₁ ≡ set_cells b linked (set_free b v t) → SweptBy p kept b t h t₁ h₁
   unfolding cell_count
-  swept_in_lem kept t h es l e₁ e₂ =
+  swept_in_lem kept t h es l e₁ =
       let from : start p b ≡ p.base + b * p.bytes = start_in p b r.block in
-      record { words = rw (e₂, e₁, l.linked.head, l.count, from, es); heap = rw (l.linked.heap, from, es) }
+      record { words = rw (e₁, l.linked.head, l.count, from, es); heap = rw (l.linked.heap, from, es) }
 
   pub block_words_lem : b * p.bytes % 8 ≡ 0
   block_words_lem = mod_through (b * p.bytes) p.bytes 8 (mul-mod_left b p.bytes) (good_bounds p r.good).bytes_words
@@ -287,31 +288,6 @@ words_known p e = e
 
 -- ---- a sweep
 
-pub sweep_standing : (p : Params) {words marks heap b s : ℕ} → Sweepable p words marks heap b s → Standing p words heap b
-sweep_standing p r = record { good = r.lent.good; count = r.lent.count; whole = r.lent.whole; block = r.block }
-
--- the bits at the starts of its cells are there
-pub sweep_inside : (p : Params) {words marks heap b s : ℕ} → Sweepable p words marks heap b s
-    → Inside p marks heap (b * p.bytes) s (p.bytes / s) (b * p.bytes / 8)
-sweep_inside p {words} {marks} {heap} {b} {s} r =
-    let i = sweep_standing p r in
-    let c = block_places p i s r.cells.word in
-    record { cells = c; lines = r.lent.lines; aligned = r.cells.aligned; ends = omega (arith, c.fits, block_words_lem p i) }
-
--- and so are all that the brute-force sweep asks for
-pub sweep_reach : (p : Params) {words marks heap b s up : ℕ} → Sweepable p words marks heap b s → up ≡ biased p.lower
-    → Reach p marks heap (b * p.bytes) s (p.bytes / s) up
-sweep_reach p {words} {marks} {heap} {b} {s} r e =
-    let i = sweep_standing p r in
-    record {
-      cells = block_places p i s r.cells.word;
-      lines = r.lent.lines;
-      aligned = r.cells.aligned;
-      starts = block_words_lem p i;
-      high = r.cells.high;
-      lower = e;
-    }
-
 -- a block with a size is there
 sized_there : (l : List ℕ) (b n : ℕ) → length l ≡ n → (get_or l b 0 ≡ 0 → ⊥) → b < n
 sized_there l b n e ne = go (dec_lt b n)
@@ -320,11 +296,26 @@ sized_there l b n e ne = go (dec_lt b n)
     go (yes y) = y
     go (no y) = absurd (ne (get_or-eq_default l 0 {n = b} (omega (arith, e, y))))
 
-pub sweepable : (p : Params) {words marks heap s : ℕ} (t : Words) (b : ℕ) → Known p words marks heap → length t.size ≡ p.blocks
-    → s ≡ get_or t.size b 0 → WholeWords s → Sweepable p words marks heap b (get_or t.size b 0)
-sweepable p t b k len es ww =
+-- one with cells of whole words too
+pub sized_standing : (p : Params) (words : List ℕ) {marks heap b s : ℕ} → Known p (length words) marks heap → s ≡ get_or (view words).size b 0
+    → WholeWords s → Standing p (length words) heap b
+sized_standing p words {b = b} k es ww =
     record {
-      lent = k;
-      block = sized_there t.size b p.blocks len (λ z. omega (arith, ww.word, es, z));
-      cells = rw es at ww;
+      good = k.good;
+      count = k.count;
+      whole = k.whole;
+      block = sized_there (view words).size b p.blocks (sized_view _ words (words_known p k.count)).size (λ z. omega (arith, ww.word, es, z));
+    }
+
+-- all that a sweep asks for is there
+pub sweep_reach : (p : Params) {words marks heap b s : ℕ} → Known p words marks heap → Standing p words heap b → WholeWords s
+    → Reach p marks heap (b * p.bytes) s (p.bytes / s) (biased p.lower)
+sweep_reach p {b = b} {s = s} k r ww =
+    record {
+      cells = block_places p r s ww.word;
+      lines = k.lines;
+      aligned = ww.aligned;
+      starts = block_words_lem p r;
+      high = ww.high;
+      lower = refl;
     }

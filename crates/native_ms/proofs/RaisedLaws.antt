@@ -3,51 +3,45 @@
 use Rattle.std.specs.Prelude.{Some, None}
 use Prim.Native.Nat.{ℕ, ◌+◌, ◌-◌, ◌%◌, ◌^◌, ◌<◌, ◌≤◌}
 use mathlib.Core.Path.{◌≡◌, sym, ◌∙◌}
-use mathlib.Core.Bool.{Bool, true, false}
-use mathlib.Core.Logic.{◌⊎◌, inl, inr}
+use mathlib.Core.Bool.{Bool, true, false, ◌&&◌}
+use mathlib.Core.Logic.{◌⊎◌, inl, inr, ⊎_elim}
 use native.Mathlib.Nat.{mod-lt, mod_self, mod-eq_of_lt}
 use native.Mathlib.Omega.{arith}
-use lib.Dec.{eqb}
-use borrow.Author.Tests.{le-leb, lt-leb, lt-ltb, le-ltb, eq-eqb, ne_eqb, eqb-true}
+use lib.Dec.{eqb, leb, ltb}
+use borrow.Author.Tests.{leb-true, ltb-true, ltb-false, lt-ltb, le-ltb, eq-eqb, ne_eqb, eqb-true}
 use Rattle.model.specs.declared.Address.{Address}
 use Rattle.model.specs.declared.Params.{Params}
 use Rattle.model.specs.SizeClasses.{raised, shift, align_allocation}
 use Rattle.model.specs.Calls.{too_big}
-use Rattle.laws.proofs.Requests.{not_too_big}
+use Rattle.laws.proofs.Below.{test, and_four}
+use Rattle.laws.proofs.Requests.{raised_size, raised_more}
 use Rattle.native_ms.specs.Raised.{raised_to, shifted_to}
 
 module _ (p : Params) (size align : ℕ) where
-  pub raised_past : too_big p size align ≡ true → None ≡ raised_to p size align
-  unfolding raised_to
-  raised_past e = rw e
+  raised_sum : raised p size align ≡ size + (align - p.min)
+  raised_sum = ⊎_elim (λ t. raised_more p size align (ltb-true p.min align t)) (λ t. raised_size p size align (ltb-false p.min align t) ∙ omega (arith, ltb-false p.min align t)) (test (ltb p.min align))
 
-  pub raised_in : {r : ℕ} → r ≡ raised p size align → r ≤ p.bytes → Some r ≡ raised_to p size align
-  unfolding raised_to
-  raised_in e h = rw (not_too_big p size align e h, e)
+  pub raised_past : p.bytes < size + (align - p.min) → None ≡ raised_to p size align
+  unfolding raised_to too_big
+  raised_past h = rw (lt-ltb p.bytes (raised p size align) (omega (arith, h, raised_sum)))
 
-module _ (region align offset : ℕ) where
-  pub shifted_none : align < 1 → None ≡ shifted_to region align offset
+  pub raised_in : {r : ℕ} → r ≡ size + (align - p.min) → r ≤ p.bytes → Some r ≡ raised_to p size align
+  unfolding raised_to too_big
+  raised_in e h = rw (le-ltb p.bytes (raised p size align) (omega (arith, e, h, raised_sum)), e, ← raised_sum)
+
+module _ (region align offset : ℕ) {may : Bool} (e : may ≡ (leb 1 align && leb align 64 && ltb region (2 ^ 47) && leb offset 65536)) where
+  pub shifted_none : may ≡ false → None ≡ shifted_to region align offset
   unfolding shifted_to
-  shifted_none h = rw (lt-leb 1 align h)
+  shifted_none z = rw (sym e ∙ z)
 
-  module _ (a : 1 ≤ align) where
-    pub shifted_wide : 64 < align → None ≡ shifted_to region align offset
-    unfolding shifted_to
-    shifted_wide h = rw (le-leb 1 align a, lt-leb align 64 h)
+  pub shift_ranges : may ≡ true → (0 < align) × (align ≤ 64) × (region < 2 ^ 47) × (offset ≤ 65536)
+  shift_ranges z =
+      let r = and_four (leb 1 align) (leb align 64) (ltb region (2 ^ 47)) (leb offset 65536) (sym e ∙ z) in
+      (leb-true 1 align r.0, leb-true align 64 r.1, ltb-true region (2 ^ 47) r.2, leb-true offset 65536 r.3)
 
-    module _ (b : align ≤ 64) where
-      pub shifted_far : 2 ^ 47 ≤ region → None ≡ shifted_to region align offset
-      unfolding shifted_to
-      shifted_far h = rw (le-leb 1 align a, le-leb align 64 b, le-ltb region (2 ^ 47) h)
-
-      module _ (c : region < 2 ^ 47) where
-        pub shifted_off : 65536 < offset → None ≡ shifted_to region align offset
-        unfolding shifted_to
-        shifted_off h = rw (le-leb 1 align a, le-leb align 64 b, lt-ltb region (2 ^ 47) c, lt-leb offset 65536 h)
-
-        pub shifted_at : {r : Address} → offset ≤ 65536 → r.0 ≡ align_allocation region align offset → Some r ≡ shifted_to region align offset
-        unfolding shifted_to
-        shifted_at h e = rw (le-leb 1 align a, le-leb align 64 b, lt-ltb region (2 ^ 47) c, le-leb offset 65536 h, ← e)
+  pub shifted_at : may ≡ true → {r : Address} → r.0 ≡ align_allocation region align offset → Some r ≡ shifted_to region align offset
+  unfolding shifted_to
+  shifted_at z q = rw (sym e ∙ z, ← q)
 
 -- ---- whether MIN divides
 

@@ -127,3 +127,7 @@ joined p kept s at n k l x y = let z : k + (n - k) ≡ n = omega (arith, l) in r
 -- the cells with a place below the heap: those behind them have none
 pub below_past : (x s : ℕ) → 8 ≤ s → x < 64 → 64 ≤ x + (64 - x + (s - 1)) / s * s
 below_past x s word l = omega (arith, lt-div-mul-add {a = 64 - x + (s - 1)} {b = s} (omega (arith, word)), l, word)
+
+-- the bits at the cells' starts lie in marks too
+pub reach_inside : (p : Params) {marks heap at s n up : ℕ} → Reach p marks heap at s n up → Inside p marks heap at s n (at / 8)
+reach_inside p r = record { cells = r.cells; lines = r.lines; aligned = r.aligned; ends = omega (arith, r.cells.fits) }

@@ -1,14 +1,14 @@
--- The laws of `run`: an entry read, a call made on what passed the first tests, answers laid one behind the other, and that what passed
--- the first tests passes them again after each call. Leans on soundness (`sound_kept`); assumes nothing.
-use Rattle.std.specs.Prelude.{if◌then◌else◌, Option, Some, None, Result, ⊤, Ok, Err}
+-- The laws of `run`: an entry read, a call made on what the first tests said, answers laid one behind the other, and that the first tests
+-- say the same again after each call. Leans on soundness (`sound_kept`); assumes nothing.
+use Rattle.std.specs.Prelude.{if◌then◌else◌, Option, Some, None, Result, Ok, Err}
 use Prim.Native.Nat.{ℕ, zero, suc, ◌+◌, ◌-◌, ◌*◌, ◌/◌, ◌%◌, ◌≤◌, ◌<◌}
 use mathlib.Core.Path.{◌≡◌, refl, sym, ap, ◌∙◌, subst}
 use mathlib.Core.Bool.{true}
 use mathlib.Core.List.{List, [], ◌∷◌, ◌++◌}
-use native.Mathlib.Nat.{not-suc-le-zero}
+use native.Mathlib.Nat.{not-suc-le-zero, le_of_suc-le-suc}
 use native.Mathlib.Omega.{arith}
 use lib.Dec.{eqb}
-use lib.ListN.{length, get_or, set, length-append}
+use lib.ListN.{length, get_or, set, take, drop, length-append}
 use borrow.Author.Tests.{eq-eqb, ne_eqb}
 use Rattle.model.specs.declared.Params.{Params}
 use Rattle.model.specs.declared.Said.{Said}
@@ -26,36 +26,67 @@ use Rattle.model.specs.Promise.{lend}
 use Rattle.model.specs.Refusals.{SoundKept}
 use Rattle.model.specs.Exports.{offered_by}
 use Rattle.model.specs.RunCalls.{call_at, made, said_words, words_of, RowRan, run_from, lists_fit, run_result, run_calls}
+use Rattle.std.proofs.lemmas.List.{get_or-take, get_or-drop, drop-drop}
+use Rattle.std.specs.Simd.{first_chunks}
 use Rattle.laws.proofs.Memory.{overwrite_nil, overwrite_set}
 use Rattle.soundness.proofs.Kept.{sound_kept}
 use Rattle.native_ms.specs.Checked.{lent_tests}
 use Rattle.native_ms.specs.Ending.{Does}
-use Rattle.native_ms.specs.RunLoop.{entry_call, ran, laid, refused_reply, refused_from}
+use Rattle.native_ms.specs.RunLoop.{entry_call, Tested, ran, laid, refused_reply, refused_from}
 use Rattle.native_ms.proofs.Tests.{opened, lent_refused, lent_passed}
 
 -- ---- an entry, by its kind
 
-abbrev call_by : List ℕ → ℕ → ℕ → Option Call
-call_by calls i kind =
-    if eqb kind 1 then Some (bind (get_or calls (i + 1) 0))
-    else if eqb kind 2 then Some (destroy (get_or calls (i + 1) 0))
-    else if eqb kind 3 then Some (alloc (get_or calls (i + 1) 0) (get_or calls (i + 2) 0) (get_or calls (i + 3) 0) (get_or calls (i + 4) 0) (offered_by (get_or calls (i + 5) 0)))
+-- the call that six words name
+abbrev call_by : (kind a b c d e : ℕ) → Option Call
+call_by kind a b c d e =
+    if eqb kind 1 then Some (bind a)
+    else if eqb kind 2 then Some (destroy a)
+    else if eqb kind 3 then Some (alloc a b c d (offered_by e))
     else if eqb kind 4 then Some prepare
-    else if eqb kind 5 then Some (mark (get_or calls (i + 1) 0) (get_or calls (i + 2) 0))
-    else if eqb kind 6 then Some (release (get_or calls (i + 1) 0))
+    else if eqb kind 5 then Some (mark a b)
+    else if eqb kind 6 then Some (release a)
     else if eqb kind 7 then Some shared_release
     else None
 
-pub kind_is : (calls : List ℕ) (i kind : ℕ) → get_or calls i 0 ≡ kind → call_by calls i kind ≡ call_at calls i
-unfolding call_at
-kind_is calls i kind e = let z : i + 0 ≡ i = omega arith in rw (z, e)
+-- with the kind k in place of its first word
+abbrev call_with : List ℕ → ℕ → Option Call
+call_with call k = call_by k (get_or call 1 0) (get_or call 2 0) (get_or call 3 0) (get_or call 4 0) (get_or call 5 0)
 
-pub kind_none : (calls : List ℕ) (i : ℕ) {kind : ℕ} → get_or calls i 0 ≡ kind
+pub kind_is : (call : List ℕ) (kind : ℕ) → get_or call 0 0 ≡ kind → call_with call kind ≡ call_at call 0
+unfolding call_at
+kind_is call kind e = ap (call_with call) (sym e)
+
+pub kind_none : (call : List ℕ) {kind : ℕ} → get_or call 0 0 ≡ kind
     → (kind ≡ 1 → ⊥) → (kind ≡ 2 → ⊥) → (kind ≡ 3 → ⊥) → (kind ≡ 4 → ⊥) → (kind ≡ 5 → ⊥) → (kind ≡ 6 → ⊥) → (kind ≡ 7 → ⊥)
-    → None ≡ call_at calls i
-kind_none calls i {kind} e a b c d f g h =
-    let q : None ≡ call_by calls i kind = rw (ne_eqb kind 1 a, ne_eqb kind 2 b, ne_eqb kind 3 c, ne_eqb kind 4 d, ne_eqb kind 5 f, ne_eqb kind 6 g, ne_eqb kind 7 h) in
-    q ∙ kind_is calls i kind e
+    → None ≡ call_at call 0
+kind_none call {kind} e a b c d f g h =
+    let q : None ≡ call_with call kind = rw (ne_eqb kind 1 a, ne_eqb kind 2 b, ne_eqb kind 3 c, ne_eqb kind 4 d, ne_eqb kind 5 f, ne_eqb kind 6 g, ne_eqb kind 7 h) in
+    q ∙ kind_is call kind e
+
+-- ---- a list of calls, six words each
+
+row_words : (k : ℕ) (calls : List ℕ) (i : ℕ) (none : List ℕ) → i < k → get_or (first_chunks 6 k calls) i none ≡ take 6 (drop (6 * i) calls)
+row_words zero calls i none l = absurd (not-suc-le-zero l)
+row_words (suc k) calls zero none l = refl
+row_words (suc k) calls (suc i) none l =
+    let e : 6 * suc i ≡ 6 + 6 * i = omega arith in
+    row_words k (drop 6 calls) i none (le_of_suc-le-suc l) ∙ ap (take 6) (drop-drop (6 * i) 6 calls ∙ ap (λ (n : ℕ). drop n calls) (sym e))
+
+row_word : (calls : List ℕ) (j k : ℕ) → k < 6 → get_or (take 6 (drop j calls)) k 0 ≡ get_or calls (j + k) 0
+row_word calls j k l = get_or-take 6 (drop j calls) k 0 l ∙ get_or-drop j calls k 0
+
+call_in : (calls : List ℕ) (j : ℕ) → call_at (take 6 (drop j calls)) 0 ≡ call_at calls j
+unfolding call_at
+call_in calls j =
+    let w : (n : ℕ) → n < 6 → get_or (take 6 (drop j calls)) n 0 ≡ get_or calls (j + n) 0 = row_word calls j in
+    λ x. call_by (w 0 (omega arith) x) (w 1 (omega arith) x) (w 2 (omega arith) x) (w 3 (omega arith) x) (w 4 (omega arith) x) (w 5 (omega arith) x)
+
+-- what a row asks is the call that stands at its place in the list
+pub row_call : (calls : List ℕ) (rows : List (List ℕ)) (i : ℕ) (none : List ℕ) {entry : Option Call} → entry ≡ call_at (get_or rows i none) 0
+    → rows ≡ first_chunks 6 (length calls / 6) calls → i < length calls / 6 → entry ≡ call_at calls (6 * i)
+row_call calls rows i none e f l =
+    e ∙ ap (λ (x : List (List ℕ)). call_at (get_or x i none) 0) f ∙ ap (λ (row : List ℕ). call_at row 0) (row_words (length calls / 6) calls i none l) ∙ call_in calls (6 * i)
 
 -- ---- a call on what passed the first tests
 
@@ -84,6 +115,13 @@ module _ (p : Params) (l : Lent) where
       → outcome said l ≡ outcome_of (made p l (entry_call entry))
   unfolding entry_call made outcome_of
   entry_none e q = rw e (ap (λ (z : Said). outcome z l) q)
+
+-- where the first tests refuse
+pub call_refused : (p : Params) (w s m h : List ℕ) (ask : Ask) {x : Refusal} {said : Said} → lent_tests p (lend w s m h) ≡ Err x
+    → said ≡ said_of (refused x) → outcome said (lend w s m h) ≡ outcome_of (call p (lend w s m h) (call_of ask))
+call_refused p w s m h ask {x = x} e f =
+    let q = lent_refused p w s m h (call_of ask) (sym e) refl in
+    same (call p (lend w s m h) (call_of ask)) f q.reply q.lent
 
 -- ---- what passed the first tests passes them again after an entry
 
@@ -116,6 +154,31 @@ module _ (p : Params) (w s m h : List ℕ) (e : lent_tests p (lend w s m h) ≡ 
       made_sound p (lend w s m h) c o.fit o.whole in
       tests_passed p (lend w' s' m' h') (fits_kept p w s m h w' s' m' h' lw ls lm lh o.fit) o.classes
       (subst (λ (l : Lent). sound_on p (tables_in l) l.heap ≡ true) (sym (lent_of (made p (lend w s m h) c) q)) g)
+
+-- where they refuse, an entry is told so, and nothing changes
+made_refused : (p : Params) (w s m h : List ℕ) (x : Refusal) (e : lent_tests p (lend w s m h) ≡ Err x) (c : Option Call)
+    → made p (lend w s m h) c ≡ record { reply = refused_reply x c; lent = lend w s m h }
+unfolding made refused_reply
+made_refused p w s m h x e (Some c) =
+    let q = lent_refused p w s m h c (sym e) refl in
+    sym (λ i. record { reply = q.reply i; lent = q.lent i })
+made_refused p w s m h x e None = refl
+
+-- the first tests say of what an entry left what they said before
+pub tests_kept : {A : Type 0} (r : Result A Refusal) (of : A → Params) (p : Params) (w s m h : List ℕ) → Tested r of p (lend w s m h)
+    → (c : Option Call) {said : Said} {w' s' m' h' : List ℕ}
+    → length w' ≡ length w → length s' ≡ length s → length m' ≡ length m → length h' ≡ length h
+    → outcome said (lend w' s' m' h') ≡ outcome_of (made p (lend w s m h) c) → Tested r of p (lend w' s' m' h')
+tests_kept (Ok a) of p w s m h e c lw ls lm lh q = (e.0, passed_kept p w s m h e.1 c lw ls lm lh q)
+tests_kept (Err x) of p w s m h e c lw ls lm lh q =
+    ap (lent_tests p) (lent_of (made p (lend w s m h) c) q ∙ ap (λ (r : Returned). r.lent) (made_refused p w s m h x e c)) ∙ e
+
+-- so every entry of a list is, from the word i on
+module _ (x : Refusal) (calls : List ℕ) (p : Params) (w s m h : List ℕ) (e : lent_tests p (lend w s m h) ≡ Err x) where
+  pub run_refuses : (n i : ℕ) → run_from n p (lend w s m h) calls i ≡ ran (refused_from n x calls i) (lend w s m h)
+  unfolding run_from refused_from
+  run_refuses zero i = refl
+  run_refuses (suc n) i = rw (made_refused p w s m h x e (call_at calls i), run_refuses n (i + 6))
 
 -- ---- answers laid one behind the other
 
@@ -191,53 +254,6 @@ module _ (p : Params) (calls : List ℕ) where
       let k : n - i ≡ 0 = omega (arith, z) in
       rw k (ap (λ (x : List ℕ). ran x l) (overwrite_nil to answers))
 
--- ---- where the first tests refuse
-
-pub refuse_asks : (refusal : Refusal) {entry : Option Ask} {ask : Ask} {said : Said} → entry ≡ Some ask → said ≡ said_of (refused refusal)
-    → said ≡ said_of (refused_reply refusal (entry_call entry))
-unfolding entry_call refused_reply
-refuse_asks refusal e q = rw e q
-
-pub refuse_none : (refusal : Refusal) {entry : Option Ask} {said : Said} → entry ≡ None → said ≡ said_of (refused BadLine)
-    → said ≡ said_of (refused_reply refusal (entry_call entry))
-unfolding entry_call refused_reply
-refuse_none refusal e q = rw e q
-
-module _ (x : Refusal) (calls : List ℕ) where
-  pub refuse_round : (n i : ℕ) (answers : List ℕ) {answers' : List ℕ} {said : Said} → i < n
-      → said ≡ said_of (refused_reply x (call_at calls (6 * i))) → answers' ≡ overwrite (5 * i) (said_words said) answers
-      → overwrite (5 * (i + 1)) (refused_from (n - (i + 1)) x calls (6 * (i + 1))) answers' ≡ overwrite (5 * i) (refused_from (n - i) x calls (6 * i)) answers
-  unfolding refused_from
-  refuse_round n i answers z q a =
-      let k : n - i ≡ suc (n - (i + 1)) = omega (arith, z) in
-      let f : 6 * (i + 1) ≡ 6 * i + 6 = omega arith in
-      let t : 5 * (i + 1) ≡ 5 * i + 5 = omega arith in
-      rw (k, f, t, a, q) (said_laid (said_of (refused_reply x (call_at calls (6 * i)))) (refused_from (n - (i + 1)) x calls (6 * i + 6)) (5 * i) answers)
-
-  pub refuse_end : (n i from to : ℕ) (answers : List ℕ) → n ≤ i → overwrite to (refused_from (n - i) x calls from) answers ≡ answers
-  unfolding refused_from
-  refuse_end n i from to answers z = let k : n - i ≡ 0 = omega (arith, z) in rw k (overwrite_nil to answers)
-
-  length_refused : (n i : ℕ) → length (refused_from n x calls i) ≡ 5 * n
-  unfolding refused_from
-  length_refused zero i = refl
-  length_refused (suc n) i =
-      let said : Said = said_of (refused_reply x (call_at calls i)) in
-      length-append (said_words said) (refused_from n x calls (i + 6)) ∙ omega (arith, length_said said, length_refused n (i + 6))
-
-  module _ (p : Params) (w s m h : List ℕ) (e : lent_tests p (lend w s m h) ≡ Err x) where
-    made_refused : (c : Option Call) → made p (lend w s m h) c ≡ record { reply = refused_reply x c; lent = lend w s m h }
-    unfolding made refused_reply
-    made_refused (Some c) =
-        let q = lent_refused p w s m h c (sym e) refl in
-        sym (λ i. record { reply = q.reply i; lent = q.lent i })
-    made_refused None = refl
-
-    run_refuses : (n i : ℕ) → run_from n p (lend w s m h) calls i ≡ ran (refused_from n x calls i) (lend w s m h)
-    unfolding run_from refused_from
-    run_refuses zero i = refl
-    run_refuses (suc n) i = rw (made_refused (call_at calls i), run_refuses n (i + 6))
-
 -- ---- `run` whole
 
 length_answers : (n : ℕ) (p : Params) (l : Lent) (calls : List ℕ) (i : ℕ) → length (run_from n p l calls i).answers ≡ 5 * n
@@ -272,12 +288,3 @@ module _ (p : Params) (l : Lent) (calls answers : List ℕ) where
       run_done q =
           let r : RowRan = run_from (length calls / 6) p l calls 0 in
           run_ran (q ∙ ap (λ (x : List ℕ). ran x r.lent) (overwrite_all r.answers answers (length_answers (length calls / 6) p l calls 0 ∙ sym y)))
-
-pub run_refused : (p : Params) (w s m h calls answers : List ℕ) (x : Refusal) {r : Result ⊤ Refusal} {answers' : List ℕ}
-    → length calls % 6 ≡ 0 → length answers ≡ 5 * (length calls / 6) → r ≡ lent_tests p (lend w s m h) → r ≡ Err x
-    → answers' ≡ overwrite 0 (refused_from (length calls / 6) x calls 0) answers
-    → run_result (answered []) answers' (lend w s m h) ≡ run_calls p (lend w s m h) calls answers
-run_refused p w s m h calls answers x z y e f a =
-    let n : ℕ = length calls / 6 in
-    let q : overwrite 0 (refused_from n x calls 0) answers ≡ refused_from n x calls 0 = overwrite_all (refused_from n x calls 0) answers (length_refused x calls n 0 ∙ sym y) in
-    run_ran p (lend w s m h) calls answers z y (ap (λ (b : List ℕ). ran b (lend w s m h)) (a ∙ q) ∙ sym (run_refuses x calls p w s m h (sym e ∙ f) n 0))

@@ -10,33 +10,13 @@ use lib.ListN.{get_or}
 use borrow.Author.Tests.{eq-eqb, ne_eqb}
 use Rattle.model.specs.declared.Params.{Params}
 use Rattle.model.specs.Base.{filter}
-use Rattle.model.specs.Params.{block_at, list_of, local_sets, available, unswept, consumed}
+use Rattle.model.specs.Params.{block_at, available, unswept, consumed}
 use Rattle.model.specs.Tables.{Words}
 use Rattle.model.specs.BlockList.{popped, pop, push}
 use Rattle.model.specs.Events.{event_heap, events_heap, is_sweep, sweeps}
 use Rattle.model.specs.FreeListAllocator.{found, find_free_block_with, recycle_local_blocks}
 use Rattle.native_ms.specs.Block.{Swept}
-use Rattle.native_ms.specs.Space.{ListNumber}
 use Rattle.native_ms.specs.Closing.{Filed, skimmed, reached, closed}
-
--- ---- list numbers
-
-module _ (owner bin : ℕ) (ho : owner < 28) (hb : bin < 49) {r : ℕ} where
-  pub number_available : r ≡ list_of owner bin → ListNumber r (available owner bin)
-  unfolding available list_of
-  number_available e = record { same = e; low = omega arith }
-
-  pub number_unswept : r ≡ list_of (owner + 1) bin → ListNumber r (unswept owner bin)
-  unfolding unswept list_of
-  number_unswept e = record { same = e; low = omega arith }
-
-  pub number_consumed : r ≡ list_of (owner + 2) bin → ListNumber r (consumed owner bin)
-  unfolding consumed list_of
-  number_consumed e = record { same = e; low = omega arith }
-
-pub sets_low : (h : ℕ) {o : ℕ} → h ≤ 8 → o ≡ local_sets h → o < 28
-unfolding local_sets
-sets_low h l e = omega arith
 
 -- an address that is not 0 is none
 pub not_none : {a : ℕ} → 0 < a → a ≡ 0 → ⊥

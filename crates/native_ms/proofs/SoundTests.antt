@@ -17,6 +17,7 @@ use Rattle.model.specs.Block.{is_cell}
 use Rattle.model.specs.Global.{is_holder, is_bound, has_released, all_released}
 use Rattle.model.specs.Sound.{owner_empty}
 use Rattle.laws.proofs.Below.{and_second, all_below_off, all_below_from}
+use Rattle.laws.proofs.Tables.{by_lt}
 use Rattle.std.specs.Option.{option_eq}
 use Rattle.std.proofs.Common.{Option, None, Some}
 use Rattle.native_ms.specs.SoundWalk.{block_fits, unused, unused_if_fit, stands_on, last_is, pass_from, passes, parts_sound}
@@ -249,6 +250,27 @@ module _ (w : Words) where
   pub none_due : {r : Bool} (k : ℕ) → 9 ≤ k → NoneDue k → r ≡ has_released w 0 → r ≡ all_released w
   unfolding all_released
   none_due k l h q = q ∙ sym (and_yes (has_released w 0) (all_below_from 8 not_due (λ i m. h i (omega arith))))
+
+-- where `t` has the bounds of w, and maybe other parts have released
+module _ (w t : Words) (same : t.bound ≡ w.bound) (k : ℕ) {b : Bool} (eb : b ≡ is_bound w k) where
+  bound_same : b ≡ is_bound t k
+  unfolding is_bound
+  bound_same = eb ∙ ap (λ (l : List ℕ). is_holder k && eqb (get_or l (k - 1) 0) 1) (sym same)
+
+  next_passed : (not (is_bound t k) || has_released t k) ≡ true → NoneDue t k → NoneDue t (k + 1)
+  next_passed e h i l =
+      by_lt (suc i) k (h i)
+      (λ far. let d : k ≡ suc i = omega arith in subst (λ (x : ℕ). (not (is_bound t x) || has_released t x) ≡ true) d e)
+
+  pub then_unbound : b ≡ false → NoneDue t k → NoneDue t (k + 1)
+  then_unbound z = next_passed (sym (due_off t k bound_same z))
+
+  module _ {r : Bool} (z : b ≡ true) (er : r ≡ has_released t k) where
+    pub then_passed : r ≡ true → NoneDue t k → NoneDue t (k + 1)
+    then_passed y = next_passed (sym (due_on t k bound_same z er) ∙ y)
+
+  pub then_due : {r : Bool} → 1 ≤ k → b ≡ true → r ≡ has_released t k → k ≤ 8 → r ≡ false → false ≡ all_released t
+  then_due from z er = one_due t k from (due_on t k bound_same z er)
 
 -- ---- all of it
 

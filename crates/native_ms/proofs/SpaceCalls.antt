@@ -2,11 +2,11 @@
 use Rattle.std.specs.Prelude.{Result, ⊤, Ok, Err}
 use Prim.Native.Nat.{ℕ, suc, ◌+◌, ◌-◌, ◌*◌, ◌/◌, ◌%◌, ◌^◌, ◌<◌, ◌≤◌}
 use mathlib.Core.Path.{◌≡◌, refl, sym, ap, ◌∙◌}
-use mathlib.Core.Bool.{Bool, true, false, ◌&&◌, ◌||◌}
+use mathlib.Core.Bool.{Bool, true, false, ◌&&◌}
 use mathlib.Core.List.{List, [], ◌∷◌, map}
 use native.Mathlib.Omega.{arith}
 use native.Mathlib.Numerals.{add-one}
-use lib.Dec.{eqb, ltb, leb}
+use lib.Dec.{ltb, leb}
 use lib.ListN.{length, get_or, set, replicate, length-replicate}
 use borrow.Author.Tests.{eq-eqb, ne_eqb, leb-true, lt-ltb, le-ltb, lt-leb, le-leb}
 use Rattle.model.specs.declared.Params.{Params}
@@ -21,8 +21,8 @@ use Rattle.model.specs.Events.{releases, events_heap}
 use Rattle.model.specs.Global.{phase_running, phase_marking, fresh_words, fresh_tables, is_holder, is_bound, has_released, bind_holder, destroy_holder, abandon_blocks, unmarked_state, prepared, mark_place, Freed, freed, release_holder, sweep_later, eagerly, part_released, merged}
 use Rattle.model.specs.Sound.{state_of}
 use Rattle.model.specs.Classes.{classes_fit}
-use Rattle.model.specs.Calls.{answered, refused, Call, bind, destroy, prepare, mark, release, shared_release, good_object, may_leave, may_release, phase_test, bind_tests, leave_tests, mark_tests, release_tests, shared_tests, call_tests, release_plan, plan_passed, finish, carried, set_up}
-use Rattle.laws.proofs.Below.{and_left, and_right, or_left}
+use Rattle.model.specs.Calls.{answered, refused, Call, bind, destroy, prepare, mark, release, shared_release, good_object, phase_test, bind_tests, leave_tests, mark_tests, release_tests, shared_tests, call_tests, release_plan, plan_passed, finish, carried, set_up}
+use Rattle.laws.proofs.Below.{and_left, and_right}
 use Rattle.laws.proofs.Params.{good_bounds, start_in, block_small}
 use Rattle.laws.proofs.Tables.{flat_view}
 use Rattle.laws.proofs.Tests.{bind_passed, leave_passed, release_passed}
@@ -58,10 +58,6 @@ bound_low t n e = holder_low n (sym (bound_holder t n e)) refl
 pub bound_high : (t : Words) (n : ℕ) → is_bound t n ≡ true → n ≤ 8
 bound_high t n e = holder_high n (sym (bound_holder t n e)) refl
 
-pub sets_low : (n : ℕ) {r : ℕ} → n ≤ 8 → r ≡ local_sets n → r ≤ 27
-unfolding local_sets
-sets_low n h e = omega arith
-
 -- ---- bind
 
 pub bind_low : (t : Words) (n : ℕ) {r : Result ⊤ Refusal} → r ≡ bind_tests t n → r ≡ Ok tt → 1 ≤ n
@@ -79,17 +75,6 @@ unfolding call_tests
 bind_refused t n e z p s m h = step_refused p (tables_of t s m) h (bind n) e z
 
 -- ---- destroy
-
-or_none_first : {a b : Bool} → a ≡ false → (a || b) ≡ b
-or_none_first z = rw z
-
-pub leave_running : (t : Words) {f : ℕ} → f ≡ t.phase → f ≡ 0 → true ≡ may_leave t
-unfolding may_leave
-leave_running t {f} e q = sym (or_left _ (eq-eqb t.phase 0 (sym e ∙ q)))
-
-pub leave_else : (t : Words) {f : ℕ} → f ≡ t.phase → (f ≡ 0 → ⊥) → eqb f 1 ≡ may_leave t
-unfolding may_leave
-leave_else t {f} e q = ap (λ (k : ℕ). eqb k 1) e ∙ sym (or_none_first (ne_eqb t.phase 0 (λ z. q (e ∙ z))))
 
 pub leaves_bound : (t : Words) (n : ℕ) {r : Result ⊤ Refusal} → r ≡ leave_tests t n → r ≡ Ok tt → (1 ≤ n) × (n ≤ 8)
 leaves_bound t n e z = let b = (leave_passed t n (sym e ∙ z)).1 in (bound_low t n b, bound_high t n b)
@@ -242,14 +227,6 @@ module _ (p : Params) (s : List ℕ) (place b : ℕ) {x : Bool} (ex : x ≡ in_h
             rw (← ex, z, eq-eqb (place % 8) 0 q, lt-ltb b p.blocks l, ← ev, ne_eqb v 0 n, ← ea, er)
 
 -- ---- releases
-
-pub may_marking : (t : Words) {f : ℕ} → f ≡ t.phase → f ≡ 1 → true ≡ may_release t
-unfolding may_release
-may_marking t {f} e q = sym (or_left _ (eq-eqb t.phase 1 (sym e ∙ q)))
-
-pub may_else : (t : Words) {f : ℕ} → f ≡ t.phase → (f ≡ 1 → ⊥) → eqb f 2 ≡ may_release t
-unfolding may_release
-may_else t {f} e q = ap (λ (k : ℕ). eqb k 2) e ∙ sym (or_none_first (ne_eqb t.phase 1 (λ z. q (e ∙ z))))
 
 pub already_none : (t : Words) (n : ℕ) {a : Bool} → a ≡ is_holder n → a ≡ false → false ≡ (is_holder n && has_released t n)
 already_none t n e z = rw (← e, z)

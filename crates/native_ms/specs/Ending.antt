@@ -1,8 +1,8 @@
 -- How a whole search, and the end of a call that serves, meet the machine's. What is promised of the allocator's last steps.
-use Rattle.std.specs.Prelude.{if◌then◌else◌, ℕ, ◌+◌, ◌^◌, ◌<◌, ◌≤◌, ◌≡◌, Bool, true, List, eqb, get_or, set, Option}
+use Rattle.std.specs.Prelude.{if◌then◌else◌, ℕ, ◌+◌, ◌^◌, ◌<◌, ◌≤◌, ◌≡◌, Bool, List, eqb, get_or, set, Option}
 use Rattle.model.specs.declared.Params.{Params}
 use Rattle.model.specs.declared.Block.{Block}
-use Rattle.model.specs.Params.{good_params, bins, holders, local_sets, available}
+use Rattle.model.specs.Params.{local_sets, available}
 use Rattle.model.specs.Tables.{Words, Tables}
 use Rattle.model.specs.SizeClasses.{cell_bytes}
 use Rattle.model.specs.BlockList.{push}
@@ -66,13 +66,7 @@ pub record Shiftable (align offset : ℕ) : Type 0 where
   pub align_to : align ≤ 64
   pub offset_low : offset ≤ 65536
 
--- What the serving of a request leans on: its numbers are in their ranges, no free head is so high that its shift would not fit a
--- word, and those of blocks are cells
-pub record Ready (p : Params) (t : Words) (holder bin align offset : ℕ) : Type 0 where
-  pub good : good_params p ≡ true
-  pub holder_from : 1 ≤ holder
-  pub holder_to : holder ≤ holders
-  pub bin_low : bin < bins
-  pub shift : Shiftable align offset
+-- What the serving of a request leans on: no free head is so high that its shift would not fit a word, and those of blocks are cells
+pub record Ready (p : Params) (t : Words) : Type 0 where
   pub heads : (b : ℕ) → get_or t.free b 0 < 2 ^ 47
   pub cells : (b : ℕ) → b < p.blocks → (get_or t.free b 0 ≡ 0 → ⊥) → HeadCell p t b

@@ -12,7 +12,6 @@ pub mod SoundWalk
 pub mod Closing
 pub mod Ending
 pub mod Checked
-pub mod ShortWay
 pub mod Abandoned
 pub mod Released
 pub mod Eager

@@ -55,12 +55,6 @@ pub record Offered (p : Params) (bin : ℕ) (offer : Option Block) : Type 0 wher
   pub block : (b : Block) → offer ≡ Some b → b.0 < p.blocks
   pub class : Classed p bin
 
--- the block b, with cells of s bytes, can be swept
-pub record Sweepable (p : Params) (words marks heap b s : ℕ) : Type 0 where
-  pub lent : Known p words marks heap
-  pub block : b < p.blocks
-  pub cells : WholeWords s
-
 -- n cells of s bytes, a word or more each, from the heap offset `at` on lie in a heap of `heap` bytes, all of it lent
 pub record Places (p : Params) (heap at s n : ℕ) : Type 0 where
   pub good : good_params p ≡ true

@@ -1,12 +1,12 @@
 -- Releases of blocks with their counts: what the code is seen by, beside the machine's events.
-use Rattle.std.specs.Prelude.{if◌then◌else◌, ℕ, List, eqb, get_or, set}
+use Rattle.std.specs.Prelude.{if◌then◌else◌, ℕ, ◌≡◌, Bool, List, eqb, get_or, set}
 use Rattle.model.specs.declared.Params.{Params}
 use Rattle.model.specs.Base.{each_below}
 use Rattle.model.specs.Tables.{Words}
 use Rattle.model.specs.BlockList.{remove}
 use Rattle.model.specs.Block.{state_unallocated, state_unmarked, clear_block}
 use Rattle.model.specs.Events.{releases}
-use Rattle.model.specs.Global.{Freed, freed, release_bin}
+use Rattle.model.specs.Global.{Freed, freed, release_bin, has_released}
 
 -- how many blocks were released, and words and states then
 pub record Out : Type 0 where
@@ -29,3 +29,7 @@ attempt_release p list b w st =
 -- the bins below n of one owner
 unfoldable pub released_bins : Params → ℕ → ℕ → Words → List ℕ → Freed
 released_bins p owner n w st = each_below n (release_bin p owner) (freed w st)
+
+-- what is told of each part is whether it has released in the words w
+abbrev pub TellsReleased : (ℕ → Bool → Type 0) → Words → Type 0
+TellsReleased says w = (part : ℕ) (told : Bool) → says part told → told ≡ has_released w part

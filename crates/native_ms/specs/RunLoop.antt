@@ -1,8 +1,10 @@
 -- `run` as its loops make it: what an entry of its list asks, and answers laid one behind the other.
-use Rattle.std.specs.Prelude.{ℕ, zero, suc, ◌+◌, List, [], ◌++◌, Option, Some, None, option_map}
+use Rattle.std.specs.Prelude.{◌≡◌, ℕ, zero, suc, ◌+◌, List, [], ◌++◌, Option, Some, None, option_map, Result, Ok, Err, MatchResult}
+use Rattle.model.specs.declared.Params.{Params}
 use Rattle.model.specs.declared.Refusal.{Refusal}
 use Rattle.model.specs.declared.Refusal.TheVariants.{BadLine}
 use Rattle.model.specs.Params.{Lent}
+use Rattle.native_ms.specs.Checked.{lent_tests}
 use Rattle.model.specs.Memory.{overwrite}
 use Rattle.model.specs.Calls.{Reply, refused, Call}
 use Rattle.model.specs.Answers.{call_of}
@@ -12,6 +14,10 @@ use Rattle.model.specs.declared.Ask.{Ask}
 -- the call that an entry asks for
 unfoldable pub entry_call : Option Ask → Option Call
 entry_call = option_map call_of
+
+-- what the first tests say of what is lent: it passes, and here is something that has these parameters, or their refusal
+abbrev pub Tested : {A : Type 0} → Result A Refusal → (A → Params) → Params → Lent → Type 0
+Tested tested of p l = MatchResult tested (λ passed. (of passed ≡ p) × (lent_tests p l ≡ Ok tt)) (λ refusal. lent_tests p l ≡ Err refusal)
 
 abbrev pub ran : List ℕ → Lent → RowRan
 ran answers l = record { answers = answers; lent = l }

@@ -1,5 +1,5 @@
 -- What the contracts of the test of tables say of the slices that it is lent.
-use Rattle.std.specs.Prelude.{ℕ, ◌+◌, ◌*◌, ◌^◌, ◌<◌, ◌≤◌, ◌≡◌, Bool, true, List, eqb, length, get_or}
+use Rattle.std.specs.Prelude.{ℕ, ◌+◌, ◌*◌, ◌<◌, ◌≡◌, Bool, true, List, eqb, length, get_or}
 use Rattle.model.specs.declared.Params.{Params}
 use Rattle.model.specs.Base.{all_below}
 use Rattle.model.specs.Params.{good_params, bins, sets, head_words, block_tables}
@@ -9,12 +9,6 @@ pub record Lengths (p : Params) (ws st : List ℕ) : Type 0 where
   pub good : good_params p ≡ true
   pub words : length ws ≡ head_words + block_tables * p.blocks
   pub states : length st ≡ p.blocks
-
--- and the block size is 2 ^ log
-pub record Ready (p : Params) (log : ℕ) (ws st : List ℕ) : Type 0 where
-  pub lent : Lengths p ws st
-  pub power : p.bytes ≡ 2 ^ log
-  pub low : log ≤ 16
 
 unfoldable pub zero_at : List ℕ → ℕ → ℕ → Bool
 zero_at ws from i = eqb (get_or ws (from + i) 0) 0

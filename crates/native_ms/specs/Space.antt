@@ -1,14 +1,9 @@
 -- Tests and steps of the space's calls that the machine has no name for.
-use Rattle.std.specs.Prelude.{ℕ, ◌+◌, ◌<◌, ◌≡◌, Bool, ◌&&◌, ltb, leb, replicate}
+use Rattle.std.specs.Prelude.{ℕ, ◌+◌, Bool, ◌&&◌, ltb, leb, replicate}
 use Rattle.model.specs.declared.Params.{Params}
-use Rattle.model.specs.Params.{start, lists, parts, abandoned, in_gc}
+use Rattle.model.specs.Params.{start, parts, abandoned, in_gc}
 use Rattle.model.specs.Tables.{Words, set_phase, with_released}
 use Rattle.model.specs.Global.{phase_running, abandon_blocks}
-
--- r is the number of a list
-pub record ListNumber (r list : ℕ) : Type 0 where
-  pub same : r ≡ list
-  pub low : r < lists
 
 -- an address lies in the block b
 unfoldable pub in_block : Params → ℕ → ℕ → Bool

@@ -1,7 +1,6 @@
 // Where blocks stand, which block an address lies in, and how lists are numbered.
-ghost use Rattle.std.specs.Prelude.{◌≡◌, true, ◌+◌, ◌<◌, ◌≤◌};
-ghost use Rattle.model.specs.Params.{good_params, start, block_at, in_heap, is_start, bins, sets, lists, holders, list_of, list_word, local_sets, in_gc, available, unswept, consumed};
-ghost use Rattle.native_ms.specs.Space.{ListNumber};
+ghost use Rattle.std.specs.Prelude.{◌≡◌, true, ◌<◌, ◌≤◌};
+ghost use Rattle.model.specs.Params.{good_params, start, block_at, in_heap, is_start, bins, sets, lists, holders, parts, list_of, list_word, local_sets, in_gc, available, unswept, consumed};
 
 use model::{Address, BINS, Block, Params};
 
@@ -61,78 +60,103 @@ pub(crate) struct BlockStart {
     ghost some: { 0 < at.0 },
 }
 
-// The number of a list, from its set and its bin.
+// A bin, by its number.
+#[derive(Clone, Copy)]
+pub(crate) struct Bin {
+    pub number: usize,
+    ghost low: { number < bins },
+}
+
+// A list, by its number.
+#[derive(Clone, Copy)]
+pub(crate) struct ListNumber {
+    pub at: usize,
+    ghost low: { at < lists },
+}
+
+impl ListNumber {
+    // The word that a block holds for the list.
+    #[tactic(auto, unfolding(model::specs::Params::list_word))]
+    pub(crate) fn word(self) -> usize
+        ensures { result ≡ list_word self.at }
+    {
+        1 + self.at
+    }
+}
+
+// The list of a set and a bin.
 #[tactic(auto, unfolding(model::specs::Params::list_of))]
-pub(crate) fn list_of(set: usize, bin: usize) -> usize
-    requires { (set < sets) × (bin < bins) }
-    ensures { result ≡ list_of set bin }
+fn list_of(set: usize, bin: Bin) -> ListNumber
+    requires { set < sets }
+    ensures { result.at ≡ list_of set bin.number }
 {
-    BINS * set + bin
+    ListNumber {
+        at: BINS * set + bin.number,
+    }
 }
 
-// The word that a block holds for the list.
-#[tactic(auto, unfolding(model::specs::Params::list_word))]
-pub(crate) fn list_word(list: usize) -> usize
-    requires { list < lists }
-    ensures { result ≡ list_word list }
-{
-    1 + list
-}
-
-// The first of a holder's three sets.
-#[tactic(auto, unfolding(model::specs::Params::local_sets))]
-pub(crate) fn local_sets(holder: usize) -> usize
-    requires { (1 ≤ holder) × (holder ≤ holders) }
-    ensures { result ≡ local_sets holder }
-{
-    3 * (holder - 1)
-}
-
-// Three functions that differ in 0, 1 and 2, not one with a kind: each has its list's name in 01, and that is all its calls say.
-// The owner's list of blocks that may have free cells.
-pub(crate) fn available(owner: usize, bin: usize) -> usize
-    requires { (owner < in_gc + 1) × (bin < bins) }
-    ensures { ListNumber result (available owner bin) }
-{
-    list_of(owner, bin)
-}
-
-// Its list of blocks that wait for a sweep.
-pub(crate) fn unswept(owner: usize, bin: usize) -> usize
-    requires { (owner < in_gc + 1) × (bin < bins) }
-    ensures { ListNumber result (unswept owner bin) }
-{
-    list_of(owner + 1, bin)
-}
-
-// Its list of blocks with no free cell.
-pub(crate) fn consumed(owner: usize, bin: usize) -> usize
-    requires { (owner < in_gc + 1) × (bin < bins) }
-    ensures { ListNumber result (consumed owner bin) }
-{
-    list_of(owner + 2, bin)
-}
-
-// The three lists of one owner and bin, by their numbers.
+// The three lists of one owner and bin.
 #[derive(Clone, Copy)]
 pub(crate) struct Lists {
-    pub available: usize,
-    pub unswept: usize,
-    pub consumed: usize,
-    ghost available_low: { available < lists },
-    ghost unswept_low: { unswept < lists },
-    ghost consumed_low: { consumed < lists },
+    pub available: ListNumber,
+    pub unswept: ListNumber,
+    pub consumed: ListNumber,
 }
 
-pub(crate) fn lists_of(owner: usize, bin: usize) -> Lists
-    requires { (owner < in_gc + 1) × (bin < bins) }
-    ensures available { result.available ≡ available owner bin }
-    ensures unswept { result.unswept ≡ unswept owner bin }
-    ensures consumed { result.consumed ≡ consumed owner bin }
-{
-    Lists {
-        available: available(owner, bin),
-        unswept: unswept(owner, bin),
-        consumed: consumed(owner, bin),
+// Who has lists: a holder, abandoned or in-gc, by the first of its three sets.
+#[derive(Clone, Copy)]
+pub(crate) struct Owner {
+    pub set: usize,
+    ghost low: { set ≤ in_gc },
+}
+
+impl Owner {
+    // Its lists of blocks that may have free cells, that wait for a sweep, and that have no free cell.
+    #[tactic(auto, unfolding(model::specs::Params::available, model::specs::Params::unswept, model::specs::Params::consumed))]
+    pub(crate) fn lists(self, bin: Bin) -> Lists
+        ensures available { result.available.at ≡ available self.set bin.number }
+        ensures unswept { result.unswept.at ≡ unswept self.set bin.number }
+        ensures consumed { result.consumed.at ≡ consumed self.set bin.number }
+    {
+        Lists {
+            available: list_of(self.set, bin),
+            unswept: list_of(self.set + 1, bin),
+            consumed: list_of(self.set + 2, bin),
+        }
+    }
+}
+
+// A part of a release, by its number: a holder, or the shared part at 0.
+#[derive(Clone, Copy)]
+pub(crate) struct Part {
+    pub number: usize,
+    ghost low: { number < parts },
+}
+
+// A holder, by its number.
+#[derive(Clone, Copy)]
+pub(crate) struct Holder {
+    pub number: usize,
+    ghost from: { 1 ≤ number },
+    ghost to: { number ≤ holders },
+}
+
+impl Holder {
+    // The owner of its lists.
+    #[tactic(auto, unfolding(model::specs::Params::local_sets))]
+    pub(crate) fn owner(self) -> Owner
+        ensures { result.set ≡ local_sets self.number }
+    {
+        Owner {
+            set: 3 * (self.number - 1),
+        }
+    }
+
+    pub(crate) fn part(self) -> Part
+        ensures { result.number ≡ self.number }
+    {
+        Part {
+            number: self.number,
+        }
     }
 }

@@ -6,25 +6,20 @@ mod chain;
 mod known;
 mod marks;
 
-ghost use Rattle.std.specs.Prelude.{◌≡◌, true, false, ◌||◌, ◌-◌, ◌*◌, ◌/◌, ◌^◌, ◌≤◌, ◌<◌, eqb, length, get_or};
+ghost use Rattle.std.specs.Prelude.{◌≡◌, Bool, true, false, ◌||◌, ◌*◌, ◌/◌, ◌^◌, ◌≤◌, ◌<◌, eqb, length, get_or};
 ghost use Rattle.model.specs.Params.{word_count, lower_ok, biased};
 ghost use Rattle.model.specs.Tables.{view};
 ghost use Rattle.model.specs.Block.{simple, cell_count, cells_down, is_cell};
 ghost use Rattle.native_ms.specs.Block.{kept_by, Room, Built, SweptBy, Swept, Initialised, Cleared, took, take_free};
-ghost use Rattle.native_ms.specs.Places.{Known, WholeWords, Standing, Sweepable, Takeable};
+ghost use Rattle.native_ms.specs.Places.{Known, WholeWords, Standing, Takeable, Reach, Extends};
 
 use crate::address::Space;
-use crate::block::chain::{Chain, Span};
+use crate::block::chain::{Begin, Chain, Span};
 use crate::memory;
 use model::{Address, Block, Params};
+pub(crate) use words::states::{MARKED, UNALLOCATED, UNMARKED};
+use words::tables::Table;
 use words::{bytes, states, tables};
-
-// State bytes. Bytes and no enum: the tables may hold any, and each is tested against these.
-pub(crate) const UNALLOCATED: u8 = 0;
-
-pub(crate) const UNMARKED: u8 = 255;
-
-pub(crate) const MARKED: u8 = 254;
 
 // The cell that was taken.
 #[derive(Clone, Copy)]
@@ -33,7 +28,17 @@ pub(crate) struct Taken {
     pub size: usize,
 }
 
+// A cell whose marks are read: low and small enough for the places in it to be numbers.
+#[derive(Clone, Copy)]
+pub(crate) struct Cell {
+    pub at: Address,
+    pub size: usize,
+    ghost low: { at.0 ≤ 2 ^ 50 },
+    ghost small: { size ≤ 65536 },
+}
+
 // L + 64, so that all else is unsigned.
+#[tactic(auto, using(crate::proofs::Lower::sum_fits, crate::proofs::Lower::sum_back, crate::proofs::Lower::sum_low))]
 pub(crate) fn biased(l: i64) -> usize
     requires { lower_ok l ≡ true }
     ensures { result ≡ biased l }
@@ -49,54 +54,104 @@ pub(crate) fn is_simple(p: Params) -> bool
     !p.offsets && p.min == p.max && p.unified
 }
 
-// Whether a sweep keeps the cell.
-pub(crate) fn cell_is_marked(
-    space: &Space,
-    simple: bool,
-    marks: &[u8],
-    cell: Address,
-    size: usize,
-) -> bool
-    requires { (cell.0 ≤ 2 ^ 50) × (size ≤ 65536) }
-    ensures { result ≡ kept_by simple space.now.p marks.now size cell.0 }
-{
-    if simple {
-        return memory::is_marked(space, marks, cell);
+// A sweep, by the cells that it keeps and by its own way through a block whose cells are of whole words.
+pub(crate) trait Sweeper {
+    ghost simple: { Bool };
+
+    // Whether it keeps the cell.
+    fn keeps(space: &Space, marks: &[u8], cell: Cell) -> bool
+        ensures { result ≡ kept_by simple space.now.p marks.now cell.size cell.at.0 };
+
+    // Links the cells of the span that it doesn't keep.
+    fn link(space: &Space, marks: &[u8], heap: &mut [u8], span: Span) -> Chain
+        requires { Reach space.now.p (length marks.now) (length heap.old) span.at span.size span.count (biased space.now.p.lower) }
+        ensures { Extends space.now.p (kept_by simple space.now.p marks.now span.size) span.size span.at span.count 0 heap.old result.head result.count heap.new };
+}
+
+// Frees each whole cell with no mark at its start.
+pub(crate) struct SimpleSweep;
+
+impl Sweeper for SimpleSweep {
+    ghost simple = { true };
+
+    #[tactic(auto, unfolding(crate::specs::Block::kept_by))]
+    fn keeps(space: &Space, marks: &[u8], cell: Cell) -> bool {
+        memory::is_marked(space, marks, cell.at)
     }
-    marks::any_marked(space, marks, cell, size)
+
+    fn link(space: &Space, marks: &[u8], heap: &mut [u8], span: Span) -> Chain {
+        let begin = Begin {
+            span,
+            first: span.at / 8,
+            head: 0,
+        };
+        chain::link_by_bit(space, marks, heap, begin)
+    }
+}
+
+// Frees each whole cell with no mark at any of its places.
+pub(crate) struct NaiveBruteForceSweep;
+
+impl Sweeper for NaiveBruteForceSweep {
+    ghost simple = { false };
+
+    #[tactic(auto, unfolding(crate::specs::Block::kept_by))]
+    fn keeps(space: &Space, marks: &[u8], cell: Cell) -> bool {
+        marks::any_marked(space, marks, cell)
+    }
+
+    fn link(space: &Space, marks: &[u8], heap: &mut [u8], span: Span) -> Chain {
+        chain::link_brute(space, marks, heap, span, up_by(space))
+    }
+}
+
+// L + 64 of good parameters.
+#[tactic(auto, using(crate::proofs::Lower::lower_good, crate::proofs::Lower::lower_back))]
+fn up_by(space: &Space) -> usize
+    ensures { result ≡ biased space.now.p.lower }
+{
+    biased(space.p.lower)
+}
+
+// Whether the sweep that the parameters choose keeps the cell.
+pub(crate) fn cell_is_marked(space: &Space, marks: &[u8], cell: Cell) -> bool
+    ensures { result ≡ kept_by (simple space.now.p) space.now.p marks.now cell.size cell.at.0 }
+{
+    if is_simple(space.p) {
+        return SimpleSweep::keeps(space, marks, cell);
+    }
+    NaiveBruteForceSweep::keeps(space, marks, cell)
 }
 
 // How many whole cells of this size a block has; the short tail is none.
+#[tactic(auto, using(crate::proofs::Chains::count_none), unfolding(model::specs::Block::cell_count))]
 pub(crate) fn cell_count(p: Params, size: usize) -> usize
     ensures { result ≡ cell_count p size }
 {
-    if size == 0 {
-        return 0;
-    }
-    p.bytes / size
+    p.bytes.checked_div(size).unwrap_or(0)
 }
 
-// Links those of the cells that the sweep finds unmarked, each to the one below it: `count` cells of `size` bytes from `from` on.
-fn link_unmarked(
-    p: Params,
-    simple: bool,
+// Links those of the cells that the sweep doesn't keep, each to the one below it: `count` cells of `size` bytes from `from` on.
+// Beside `link_unkept`, which writes at heap offsets that are known to be there: here each place is tested, for cells of any size speed being what
+// the other is for.
+fn link_unmarked<S: Sweeper>(
+    space: &Space,
     marks: &[u8],
     heap: &mut [u8],
     from: Address,
     size: usize,
     count: usize,
 ) -> Chain
-    requires { Room p from.0 size count }
-    ensures { Built p (cells_down (kept_by simple p marks.now size) from.0 size count) heap.old result.head result.count heap.new }
+    requires { Room space.now.p from.0 size count }
+    ensures { Built space.now.p (cells_down (kept_by S.simple space.now.p marks.now size) from.0 size count) heap.old result.head result.count heap.new }
 {
-    let space = Space { p };
     let mut last: usize = 0;
     let mut linked: usize = 0;
     for seen in 0..count {
-        let cell = from.0 + seen * size;
-        if !cell_is_marked(&space, simple, marks, Address(cell), size) {
-            memory::store(p, heap, Address(cell), last);
-            last = cell;
+        let at = Address(from.0 + seen * size);
+        if !S::keeps(space, marks, Cell { at, size }) {
+            memory::store(space.p, heap, at, last);
+            last = at.0;
             linked += 1;
         }
     }
@@ -106,26 +161,6 @@ fn link_unmarked(
     }
 }
 
-// Either sweep, of any block of any words.
-fn sweep_by(
-    space: &Space,
-    simple: bool,
-    words: &mut [usize],
-    marks: &[u8],
-    heap: &mut [u8],
-    b: Block,
-)
-    ensures { SweptBy space.now.p (kept_by simple space.now.p marks.now) b.0 (view words.old) heap.old (view words.new) heap.new }
-{
-    let i = b.0;
-    let size = tables::size(words, i);
-    let count = cell_count(space.p, size);
-    let from = space.start(b);
-    let chain = link_unmarked(space.p, simple, marks, heap, from, size, count);
-    tables::set_free(words, i, chain.head);
-    tables::set_cells(words, i, chain.count);
-}
-
 // Whether cells of this size are of whole words, as in sound tables they are: then those of a block lie in the heap, word by word.
 fn is_whole_words(size: usize) -> bool
     ensures { result ≡ true → WholeWords size }
@@ -133,78 +168,55 @@ fn is_whole_words(size: usize) -> bool
     8 <= size && size <= 65536 && size % 8 == 0
 }
 
-// Frees each whole cell with no mark at its start.
-fn simple_sweep(p: Params, words: &mut [usize], marks: &[u8], heap: &mut [u8], b: Block)
-    requires { Sweepable p (length words.old) (length marks.now) (length heap.old) b.0 (get_or (view words.old).size b.0 0) }
-    ensures { SweptBy p (kept_by true p marks.now) b.0 (view words.old) heap.old (view words.new) heap.new }
+// Frees each whole cell of the block that the sweep doesn't keep.
+fn sweep_by<S: Sweeper>(space: &Space, words: &mut [usize], marks: &[u8], heap: &mut [u8], b: Block)
+    requires { Known space.now.p (length words.old) (length marks.now) (length heap.old) }
+    ensures { SweptBy space.now.p (kept_by S.simple space.now.p marks.now) b.0 (view words.old) heap.old (view words.new) heap.new }
 {
-    let blocks = p.blocks;
-    let size = known::size(words, blocks, b);
-    let span = Span::of_block(&Space { p }, b, size);
-    let chain = chain::link_by_bit(p, marks, heap, span, span.at / 8, 0);
-    known::set_free(words, blocks, b, chain.head);
-    known::set_cells(words, blocks, b, chain.count);
-}
-
-// L + 64 of good parameters.
-fn up_by(space: &Space) -> usize
-    ensures { result ≡ biased space.now.p.lower }
-{
-    biased(space.p.lower)
-}
-
-// Frees each whole cell with no mark at any of its places.
-fn naive_brute_force_sweep(p: Params, words: &mut [usize], marks: &[u8], heap: &mut [u8], b: Block)
-    requires { Sweepable p (length words.old) (length marks.now) (length heap.old) b.0 (get_or (view words.old).size b.0 0) }
-    ensures { SweptBy p (kept_by false p marks.now) b.0 (view words.old) heap.old (view words.new) heap.new }
-{
-    let blocks = p.blocks;
-    let size = known::size(words, blocks, b);
-    let space = Space { p };
-    let span = Span::of_block(&space, b, size);
-    let up = up_by(&space);
-    let chain = chain::link_brute(p, marks, heap, span, up);
-    known::set_free(words, blocks, b, chain.head);
-    known::set_cells(words, blocks, b, chain.count);
+    let blocks = space.p.blocks;
+    let size = known::cells_of(words, blocks, b).size;
+    let chain = if is_whole_words(size) {
+        let span = Span::of_block(space, b, size);
+        S::link(space, marks, heap, span)
+    } else {
+        let count = cell_count(space.p, size);
+        let from = space.start(b);
+        link_unmarked::<S>(space, marks, heap, from, size, count)
+    };
+    known::set_chain(words, blocks, b, chain);
 }
 
 // The sweep that the parameters choose.
-pub(crate) fn sweep(p: Params, words: &mut [usize], marks: &[u8], heap: &mut [u8], b: Block)
-    requires { Known p (length words.old) (length marks.now) (length heap.old) }
-    ensures { Swept p marks.now b.0 (view words.old) heap.old (view words.new) heap.new }
+pub(crate) fn sweep(space: &Space, words: &mut [usize], marks: &[u8], heap: &mut [u8], b: Block)
+    requires { Known space.now.p (length words.old) (length marks.now) (length heap.old) }
+    ensures { Swept space.now.p marks.now b.0 (view words.old) heap.old (view words.new) heap.new }
 {
-    let size = known::size(words, p.blocks, b);
-    let simple = is_simple(p);
-    if !is_whole_words(size) {
-        sweep_by(&Space { p }, simple, words, marks, heap, b);
+    if is_simple(space.p) {
+        sweep_by::<SimpleSweep>(space, words, marks, heap, b);
         return;
     }
-    if simple {
-        simple_sweep(p, words, marks, heap, b);
-        return;
-    }
-    naive_brute_force_sweep(p, words, marks, heap, b);
+    sweep_by::<NaiveBruteForceSweep>(space, words, marks, heap, b);
 }
 
 // Makes the block one of whole cells of this size, all free, for a holder.
 pub(crate) fn init_block(
-    p: Params,
+    space: &Space,
     words: &mut [usize],
     heap: &mut [u8],
     b: Block,
     size: usize,
     tls: usize,
 )
-    requires { (Standing p (length words.old) (length heap.old) b.0) × (8 ≤ size) }
-    ensures { Initialised p b.0 size tls (view words.old) heap.old (view words.new) heap.new }
+    requires { (Standing space.now.p (length words.old) (length heap.old) b.0) × (8 ≤ size) }
+    ensures { Initialised space.now.p b.0 size tls (view words.old) heap.old (view words.new) heap.new }
 {
-    let blocks = p.blocks;
-    let span = Span::of_block(&Space { p }, b, size);
-    let head = chain::link_cells(p, heap, span);
-    known::set_free(words, blocks, b, head);
-    known::set_size(words, blocks, b, size);
-    known::set_tls(words, blocks, b, tls);
-    known::set_cells(words, blocks, b, span.count);
+    let blocks = space.p.blocks;
+    let span = Span::of_block(space, b, size);
+    let head = chain::link_cells(space, heap, span);
+    let count = span.count;
+    known::set_chain(words, blocks, b, Chain { head, count });
+    known::set_word(words, blocks, Table::Size, b, size);
+    known::set_word(words, blocks, Table::Tls, b, tls);
 }
 
 // Release: all words of the block and its state are 0 again.
@@ -223,7 +235,8 @@ pub(crate) fn clear_block(words: &mut [usize], states: &mut [u8], b: Block)
 }
 
 // A whole cell of `size` bytes of the block b stands at a. The division is last and a short one, of numbers that are small by then.
-// One test a line: `inside` is reckoned between them, and each refusal has a law of its own.
+// A ladder: joined by `&&` it would be no plainer, since `inside` is reckoned between the tests, from what they leave.
+#[tactic(auto, using(crate::proofs::Limits::bytes_few, crate::proofs::SoundTests::cell_none, crate::proofs::SoundTests::cell_before, crate::proofs::SoundTests::cell_large, crate::proofs::SoundTests::cell_past, crate::proofs::SoundTests::cell_here))]
 pub(crate) fn is_cell(space: &Space, b: Block, size: usize, a: Address) -> bool
     ensures { result ≡ is_cell space.now.p b.0 size a.0 }
 {
@@ -260,37 +273,28 @@ pub(crate) fn block_alloc(space: &Space, words: &mut [usize], heap: &mut [u8], b
     ensures { took result (view words.new) heap.new ≡ take_free space.now.p b.0 (view words.old) heap.old }
 {
     let blocks = space.p.blocks;
-    let cell = known::free(words, blocks, b);
-    let size = known::size(words, blocks, b);
-    let counted = known::cells(words, blocks, b);
-    let rest = counted.saturating_sub(1);
-    let link = memory::load(space.p, heap, Address(cell));
-    known::set_free(words, blocks, b, link);
-    known::set_cells(words, blocks, b, rest);
-    memory::zero(space.p, heap, Address(cell), size);
-    Taken {
-        at: Address(cell),
-        size,
-    }
+    let cells = known::cells_of(words, blocks, b);
+    let size = cells.size;
+    let at = Address(cells.free.head);
+    let link = memory::load(space.p, heap, at);
+    known::set_chain(words, blocks, b, cells.free.behind(link));
+    memory::zero(space.p, heap, at, size);
+    Taken { at, size }
 }
 
 // The same of a block whose free head is known to be a cell of it: no place is tested again.
-pub(crate) fn take_head(p: Params, words: &mut [usize], heap: &mut [u8], b: Block) -> Taken
-    requires { Takeable p (view words.old) (length words.old) (length heap.old) b.0 }
-    ensures { took result (view words.new) heap.new ≡ take_free p b.0 (view words.old) heap.old }
+// Beside `block_alloc`, not one function that is given the two steps on the heap: a trait of these would be longer than what they share.
+pub(crate) fn take_head(space: &Space, words: &mut [usize], heap: &mut [u8], b: Block) -> Taken
+    requires { Takeable space.now.p (view words.old) (length words.old) (length heap.old) b.0 }
+    ensures { took result (view words.new) heap.new ≡ take_free space.now.p b.0 (view words.old) heap.old }
 {
-    let blocks = p.blocks;
-    let cell = known::free(words, blocks, b);
-    let size = known::size(words, blocks, b);
-    let counted = known::cells(words, blocks, b);
-    let left = counted.saturating_sub(1);
-    let at = cell - p.base;
-    let next = bytes::read(heap, at, 8);
-    known::set_free(words, blocks, b, next);
-    known::set_cells(words, blocks, b, left);
-    bytes::fill(heap, at, size);
-    Taken {
-        at: Address(cell),
-        size,
-    }
+    let blocks = space.p.blocks;
+    let cells = known::cells_of(words, blocks, b);
+    let size = cells.size;
+    let at = Address(cells.free.head);
+    let offset = at.0 - space.p.base;
+    let next = bytes::read(heap, offset, 8);
+    known::set_chain(words, blocks, b, cells.free.behind(next));
+    bytes::fill(heap, offset, size);
+    Taken { at, size }
 }

@@ -1,7 +1,7 @@
-// The four list operations, on table words: a list is a number below 1,470, a link is an address, 0 for none.
+// The four list operations, on table words: a list is one of the 1,470, a link is an address, 0 for none.
 // They are right on any words; that lists are sound is nothing they need.
-ghost use Rattle.std.specs.Prelude.{◌≡◌, ℕ, ◌<◌, length, map};
-ghost use Rattle.model.specs.Params.{bins, last_bin, lists};
+ghost use Rattle.std.specs.Prelude.{◌≡◌, ℕ, length, map};
+ghost use Rattle.model.specs.Params.{bins, last_bin};
 ghost use Rattle.model.specs.Tables.{view};
 ghost use Rattle.model.specs.BlockList.{popped, push, pop, remove, relabel, link, walk};
 ghost use Rattle.model.specs.Calls.{pages};
@@ -11,42 +11,40 @@ ghost use Rattle.native_ms.specs.Links.{word_of};
 ghost use Rattle.native_ms.specs.Moved.{moved, append_moves};
 ghost use Rattle.native_ms.specs.Records.{with_record, record_at, beside, on_record, beside_popped, pop_on, beside_both, append_on, firsts};
 
-use crate::address::{BlockStart, Space};
-use crate::{address, params};
-use model::{Address, BINS, BLOCK_TABLES, Block, HEAD_WORDS, LAST_BIN, Params, Refusal};
+use crate::address::{BlockStart, ListNumber, Space};
+use crate::params;
+use model::{Address, BINS, BLOCK_TABLES, Block, HEAD_WORDS, Params, Refusal};
 use words::tables;
 
 // Adds the block at the head of the list.
-pub(crate) fn push(space: &Space, w: &mut [usize], list: usize, b: Block)
-    requires { list < lists }
-    ensures { view w.new ≡ push space.now.p list b.0 (view w.old) }
+pub(crate) fn push(space: &Space, w: &mut [usize], list: ListNumber, b: Block)
+    ensures { view w.new ≡ push space.now.p list.at b.0 (view w.old) }
 {
     let start = space.start(b);
     let own = start.0;
-    let word = address::list_word(list);
-    let head = tables::first(w, list);
+    let word = list.word();
+    let head = tables::first(w, list.at);
     if head == 0 {
         tables::set_next(w, b.0, 0);
         tables::set_prev(w, b.0, 0);
-        tables::set_first(w, list, own);
-        tables::set_last(w, list, own);
+        tables::set_first(w, list.at, own);
+        tables::set_last(w, list.at, own);
         tables::set_list(w, b.0, word);
     } else {
         let old = space.block_at(Address(head));
         tables::set_next(w, b.0, head);
         tables::set_prev(w, old.0, own);
         tables::set_prev(w, b.0, 0);
-        tables::set_first(w, list, own);
+        tables::set_first(w, list.at, own);
         tables::set_list(w, b.0, word);
     }
 }
 
 // Takes the head of the list off, and says where it starts: None for an empty list.
-pub(crate) fn pop(space: &Space, w: &mut [usize], list: usize) -> Option<BlockStart>
-    requires { list < lists }
-    ensures { popped (word_of result) (view w.new) ≡ pop space.now.p list (view w.old) }
+pub(crate) fn pop(space: &Space, w: &mut [usize], list: ListNumber) -> Option<BlockStart>
+    ensures { popped (word_of result) (view w.new) ≡ pop space.now.p list.at (view w.old) }
 {
-    let head = tables::first(w, list);
+    let head = tables::first(w, list.at);
     if head == 0 {
         return None;
     }
@@ -54,15 +52,15 @@ pub(crate) fn pop(space: &Space, w: &mut [usize], list: usize) -> Option<BlockSt
     let top = space.block_at(at);
     let next = tables::next(w, top.0);
     if next == 0 {
-        tables::set_first(w, list, 0);
-        tables::set_last(w, list, 0); // the head was the last too
+        tables::set_first(w, list.at, 0);
+        tables::set_last(w, list.at, 0); // the head was the last too
         tables::set_next(w, top.0, 0);
         tables::set_prev(w, top.0, 0);
         Some(BlockStart { at })
     } else {
         let follower = space.block_at(Address(next));
-        let word = address::list_word(list);
-        tables::set_first(w, list, next);
+        let word = list.word();
+        tables::set_first(w, list.at, next);
         tables::set_prev(w, follower.0, 0);
         tables::set_list(w, follower.0, word);
         tables::set_next(w, top.0, 0);
@@ -72,27 +70,26 @@ pub(crate) fn pop(space: &Space, w: &mut [usize], list: usize) -> Option<BlockSt
 }
 
 // Takes the block out of the list. Its own words stay.
-pub(crate) fn remove(space: &Space, w: &mut [usize], list: usize, b: Block)
-    requires { list < lists }
-    ensures { view w.new ≡ remove space.now.p list b.0 (view w.old) }
+pub(crate) fn remove(space: &Space, w: &mut [usize], list: ListNumber, b: Block)
+    ensures { view w.new ≡ remove space.now.p list.at b.0 (view w.old) }
 {
     let prev = tables::prev(w, b.0);
     let next = tables::next(w, b.0);
-    let word = address::list_word(list);
+    let word = list.word();
     let before = space.block_at(Address(prev));
     let behind = space.block_at(Address(next));
     if prev == 0 {
         if next == 0 {
-            tables::set_first(w, list, 0);
-            tables::set_last(w, list, 0);
+            tables::set_first(w, list.at, 0);
+            tables::set_last(w, list.at, 0);
         } else {
             tables::set_prev(w, behind.0, 0);
-            tables::set_first(w, list, next);
+            tables::set_first(w, list.at, next);
             tables::set_list(w, behind.0, word);
         }
     } else if next == 0 {
         tables::set_next(w, before.0, 0);
-        tables::set_last(w, list, prev);
+        tables::set_last(w, list.at, prev);
         tables::set_list(w, before.0, word);
     } else {
         tables::set_next(w, before.0, next);
@@ -100,12 +97,13 @@ pub(crate) fn remove(space: &Space, w: &mut [usize], list: usize, b: Block)
     }
 }
 
-// Each block from the one at `at` on gets the list's word.
-pub(crate) fn relabel(space: &Space, w: &mut [usize], list: usize, at: Address)
-    requires { list < lists }
-    ensures { view w.new ≡ relabel space.now.p.blocks space.now.p list at.0 (view w.old) }
+// Each block from the one at `at` on gets the list's word. Like `count_from`, `count_blocks`, `release_blocks` (global.rt) and `recycle_list`
+// (global/eager.rt) a walk with its own loop: one that is given its step would promise a relation over all turns, no plainer than the
+// equation that each of these promises. Those that only count have another end and another test each, so that an iterator would serve one.
+fn relabel(space: &Space, w: &mut [usize], list: ListNumber, at: Address)
+    ensures { view w.new ≡ relabel space.now.p.blocks space.now.p list.at at.0 (view w.old) }
 {
-    let word = address::list_word(list);
+    let word = list.word();
     let mut link = at.0;
     for _ in 0..space.p.blocks {
         if link == 0 {
@@ -118,22 +116,22 @@ pub(crate) fn relabel(space: &Space, w: &mut [usize], list: usize, at: Address)
 }
 
 // The list `other`, which is not empty, is put behind the list.
-pub(crate) fn link(space: &Space, w: &mut [usize], list: usize, other: usize)
-    ensures { view w.new ≡ link space.now.p list other (view w.old) }
+fn link(space: &Space, w: &mut [usize], list: ListNumber, other: ListNumber)
+    ensures { view w.new ≡ link space.now.p list.at other.at (view w.old) }
 {
-    let first = tables::first(w, other);
-    let last = tables::last(w, other);
-    let own_last = tables::last(w, list);
-    let own_first = tables::first(w, list);
+    let first = tables::first(w, other.at);
+    let last = tables::last(w, other.at);
+    let own_last = tables::last(w, list.at);
+    let own_first = tables::first(w, list.at);
     if own_first == 0 {
-        tables::set_first(w, list, first);
-        tables::set_last(w, list, last);
+        tables::set_first(w, list.at, first);
+        tables::set_last(w, list.at, last);
     } else {
         let before = space.block_at(Address(own_last));
         let behind = space.block_at(Address(first));
         tables::set_next(w, before.0, first);
         tables::set_prev(w, behind.0, own_last);
-        tables::set_last(w, list, last);
+        tables::set_last(w, list.at, last);
     }
 }
 
@@ -153,19 +151,18 @@ fn count_from(space: &Space, w: &[usize], at: Address) -> usize
 }
 
 // Moves the blocks of the list `other` behind those of the list, and says how many they are.
-pub(crate) fn append(space: &Space, w: &mut [usize], list: usize, other: usize) -> usize
-    requires { list < lists }
-    ensures { moved result (view w.new) ≡ append_moves space.now.p list other (view w.old) }
+pub(crate) fn append(space: &Space, w: &mut [usize], list: ListNumber, other: ListNumber) -> usize
+    ensures { moved result (view w.new) ≡ append_moves space.now.p list.at other.at (view w.old) }
 {
-    let first = tables::first(w, other);
+    let first = tables::first(w, other.at);
     if first == 0 {
         return 0;
     }
     let count = count_from(space, w, Address(first)); // before link, which leads the last block on
     link(space, w, list, other);
     relabel(space, w, list, Address(first));
-    tables::set_first(w, other, 0);
-    tables::set_last(w, other, 0);
+    tables::set_first(w, other.at, 0);
+    tables::set_last(w, other.at, 0);
     count
 }
 
@@ -179,60 +176,58 @@ pub struct BlockList {
 }
 
 // The record's ends stand at the list's number in the words, so that the operations on numbers work on them.
-fn put_record(w: &mut [usize], number: usize, given: BlockList)
-    ensures { view w.new ≡ with_record number given (view w.old) }
+fn put_record(w: &mut [usize], list: ListNumber, given: BlockList)
+    ensures { view w.new ≡ with_record list.at given (view w.old) }
 {
     let first = given.first;
     let last = given.last;
-    tables::set_first(w, number, first.0);
-    tables::set_last(w, number, last.0);
+    tables::set_first(w, list.at, first.0);
+    tables::set_last(w, list.at, last.0);
 }
 
 // The record with the ends that stand at the list's number.
-fn record_at(w: &[usize], number: usize, given: BlockList) -> BlockList
-    ensures { result ≡ record_at number given.size (view w.now) }
+fn record_at(w: &[usize], list: ListNumber, given: BlockList) -> BlockList
+    ensures { result ≡ record_at list.at given.size (view w.now) }
 {
-    let first = Address(tables::first(w, number));
-    let last = Address(tables::last(w, number));
+    let first = Address(tables::first(w, list.at));
+    let last = Address(tables::last(w, list.at));
     let mut here = given;
     here.first = first;
     here.last = last;
     here
 }
 
-// The four operations on the records that the caller lends. The words keep their ends too, at the lists' numbers.
+// The four operations on the records that the caller lends. The words keep their ends too, at the lists' numbers. Each is its three
+// steps: a function that is given the step in the middle would promise a record of four parts, no plainer.
 impl BlockList {
-    pub(crate) fn push(&mut self, space: &Space, w: &mut [usize], number: usize, b: Block)
-        requires { number < lists }
-        ensures { beside self.new (view w.new) ≡ on_record number (push space.now.p number b.0) self.old (view w.old) }
+    pub(crate) fn push(&mut self, space: &Space, w: &mut [usize], list: ListNumber, b: Block)
+        ensures { beside self.new (view w.new) ≡ on_record list.at (push space.now.p list.at b.0) self.old (view w.old) }
     {
-        put_record(w, number, *self);
-        push(space, w, number, b);
-        *self = record_at(w, number, *self);
+        put_record(w, list, *self);
+        push(space, w, list, b);
+        *self = record_at(w, list, *self);
     }
 
     pub(crate) fn pop(
         &mut self,
         space: &Space,
         w: &mut [usize],
-        number: usize,
+        list: ListNumber,
     ) -> Option<BlockStart>
-        requires { number < lists }
-        ensures { beside_popped self.new (popped (word_of result) (view w.new)) ≡ pop_on space.now.p number self.old (view w.old) }
+        ensures { beside_popped self.new (popped (word_of result) (view w.new)) ≡ pop_on space.now.p list.at self.old (view w.old) }
     {
-        put_record(w, number, *self);
-        let at = pop(space, w, number);
-        *self = record_at(w, number, *self);
+        put_record(w, list, *self);
+        let at = pop(space, w, list);
+        *self = record_at(w, list, *self);
         at
     }
 
-    pub(crate) fn remove(&mut self, space: &Space, w: &mut [usize], number: usize, b: Block)
-        requires { number < lists }
-        ensures { beside self.new (view w.new) ≡ on_record number (remove space.now.p number b.0) self.old (view w.old) }
+    pub(crate) fn remove(&mut self, space: &Space, w: &mut [usize], list: ListNumber, b: Block)
+        ensures { beside self.new (view w.new) ≡ on_record list.at (remove space.now.p list.at b.0) self.old (view w.old) }
     {
-        put_record(w, number, *self);
-        remove(space, w, number, b);
-        *self = record_at(w, number, *self);
+        put_record(w, list, *self);
+        remove(space, w, list, b);
+        *self = record_at(w, list, *self);
     }
 
     pub(crate) fn append(
@@ -240,17 +235,16 @@ impl BlockList {
         other: &mut BlockList,
         space: &Space,
         w: &mut [usize],
-        number: usize,
-        theirs: usize,
+        list: ListNumber,
+        theirs: ListNumber,
     ) -> usize
-        requires { number < lists }
         ensures { beside_both self.new other.new (moved result (view w.new))
-            ≡ append_on space.now.p number theirs self.old other.old (view w.old) }
+            ≡ append_on space.now.p list.at theirs.at self.old other.old (view w.old) }
     {
-        put_record(w, number, *self);
+        put_record(w, list, *self);
         put_record(w, theirs, *other);
-        let blocks = append(space, w, number, theirs);
-        *self = record_at(w, number, *self);
+        let blocks = append(space, w, list, theirs);
+        *self = record_at(w, list, *self);
         *other = record_at(w, theirs, *other);
         blocks
     }
@@ -308,8 +302,8 @@ fn count_bins<L: Starts>(space: &Space, w: &[usize], lists: &[L]) -> Option<usiz
     ensures { result ≡ counted_bins last_bin space.now.p (view w.now).next (map L.first_of lists.now) 0 }
 {
     let mut met: usize = 0;
-    for bin in 1..=LAST_BIN {
-        let first = lists[bin].first();
+    for list in &lists[1..] {
+        let first = list.first();
         met += count_blocks(space, w, first)?;
     }
     Some(met)

@@ -1,11 +1,11 @@
 // The tests of the calls, in the order of document 01's refusals: what every call tests first, and then each its own. The
 // definitions of these names stand in the model's Calls.antt.
-ghost use Rattle.std.specs.Prelude.{◌≡◌, true, ◌&&◌, List, ℕ, ◌<◌, ◌≤◌, ◌^◌, length};
+ghost use Rattle.std.specs.Prelude.{◌≡◌, true, ◌&&◌, ◌||◌, List, ℕ, ◌<◌, ◌≤◌, ◌^◌, length, eqb};
 ghost use Rattle.model.specs.Params.{good_params, head_words, fits, minus_lower};
 ghost use Rattle.model.specs.Tables.{Words, view, tables_of};
 ghost use Rattle.model.specs.SizeClasses.{bin_of, raised};
 ghost use Rattle.model.specs.Global.{is_holder, has_released};
-ghost use Rattle.model.specs.Calls.{alloc, good_offer, good_object, may_leave, may_release, phase_test, bind_tests, leave_tests, bound_tests, request_tests, mark_tests, release_tests, shared_tests, call_tests};
+ghost use Rattle.model.specs.Calls.{alloc, good_offer, good_object, phase_test, bind_tests, leave_tests, bound_tests, request_tests, mark_tests, release_tests, shared_tests, call_tests};
 ghost use Rattle.model.specs.Promise.{lend};
 ghost use Rattle.native_ms.specs.Space.{in_block};
 ghost use Rattle.native_ms.specs.SoundLent.{Lengths};
@@ -63,7 +63,7 @@ pub(crate) fn check_lent(
     Ok(())
 }
 
-// ---- phase and holder
+// ---- phase and holder: each call's tests stand by themselves, as 01 lists them; what two of them share is a line
 
 pub(crate) fn check_phase(w: &[usize], phase: usize) -> Result<(), Refusal>
     ensures { result ≡ phase_test (view w.now) phase }
@@ -87,21 +87,19 @@ pub(crate) fn check_bind(w: &[usize], holder: usize) -> Result<(), Refusal>
     Ok(())
 }
 
-// A holder may leave while Running or Marking. Like `may_release`, but another sentence of 01: phases as parameters would be no plainer.
-fn may_leave(w: &[usize]) -> bool
-    ensures { result ≡ may_leave (view w.now) }
+// Whether the phase is one of the two.
+fn phase_in(w: &[usize], one: usize, other: usize) -> bool
+    ensures { result ≡ (eqb (view w.now).phase one || eqb (view w.now).phase other) }
 {
     let f = tables::phase(w);
-    if f == global::RUNNING {
-        return true;
-    }
-    f == global::MARKING
+    f == one || f == other
 }
 
+// A holder may leave while Running or Marking.
 pub(crate) fn check_leave(w: &[usize], holder: usize) -> Result<(), Refusal>
     ensures { result ≡ leave_tests (view w.now) holder }
 {
-    if !may_leave(w) {
+    if !phase_in(w, global::RUNNING, global::MARKING) {
         return Err(Refusal::WrongPhase);
     }
     if !global::is_bound(w, holder) {
@@ -147,34 +145,34 @@ fn good_offer(p: Params, st: &[u8], offer: Option<Block>) -> bool
 }
 
 // The tests of what is asked for.
-fn check_request(p: Params, st: &[u8], request: Request) -> Result<usize, Refusal>
-    requires { (good_params p ≡ true) × (length st.now ≡ p.blocks) }
-    ensures { (w : Words) (m : List ℕ) → result ≡ bin_after (request_tests p (tables_of w st.now m) request.size request.align request.offset request.offer) (bin_of p (raised p request.size request.align)) }
+fn check_request(space: &Space, st: &[u8], request: Request) -> Result<usize, Refusal>
+    requires { length st.now ≡ space.now.p.blocks }
+    ensures { (w : Words) (m : List ℕ) → result ≡ bin_after (request_tests space.now.p (tables_of w st.now m) request.size request.align request.offset request.offer) (bin_of space.now.p (raised space.now.p request.size request.align)) }
 {
-    if !allocator::good_request(p, request.size, request.align, request.offset) {
+    if !allocator::good_request(space, request.size, request.align, request.offset) {
         return Err(Refusal::BadRequest);
     }
-    let size = allocator::get_maximum_aligned_size(p, request.size, request.align).ok_or(
+    let size = allocator::get_maximum_aligned_size(space.p, request.size, request.align).ok_or(
         Refusal::TooBig,
     )?;
-    if !good_offer(p, st, request.offer) {
+    if !good_offer(space.p, st, request.offer) {
         return Err(Refusal::BadOffer);
     }
-    Ok(size_class::bin_of(p, size))
+    Ok(size_class::bin_of(space.p, size))
 }
 
 pub(crate) fn check_alloc(
-    p: Params,
+    space: &Space,
     w: &[usize],
     st: &[u8],
     holder: usize,
     request: Request,
 ) -> Result<usize, Refusal>
-    requires { Lengths p w.now st.now }
-    ensures { (m : List ℕ) → result ≡ bin_after (call_tests p (tables_of (view w.now) st.now m) (alloc holder request.size request.align request.offset request.offer)) (bin_of p (raised p request.size request.align)) }
+    requires { Lengths space.now.p w.now st.now }
+    ensures { (m : List ℕ) → result ≡ bin_after (call_tests space.now.p (tables_of (view w.now) st.now m) (alloc holder request.size request.align request.offset request.offer)) (bin_of space.now.p (raised space.now.p request.size request.align)) }
 {
     check_bound(w, holder)?;
-    check_request(p, st, request)
+    check_request(space, st, request)
 }
 
 // ---- mark
@@ -243,29 +241,16 @@ pub(crate) fn check_mark(
 
 // ---- releases
 
-fn may_release(w: &[usize]) -> bool
-    ensures { result ≡ may_release (view w.now) }
-{
-    let f = tables::phase(w);
-    if f == global::MARKING {
-        return true;
-    }
-    f == global::RELEASING
-}
-
 fn released_already(w: &[usize], holder: usize) -> bool
     ensures { result ≡ (is_holder holder && has_released (view w.now) holder) }
 {
-    if !global::is_holder(holder) {
-        return false;
-    }
-    global::has_released(w, holder)
+    global::is_holder(holder) && global::has_released(w, holder)
 }
 
 pub(crate) fn check_release(w: &[usize], holder: usize) -> Result<(), Refusal>
     ensures { result ≡ release_tests (view w.now) holder }
 {
-    if !may_release(w) {
+    if !phase_in(w, global::MARKING, global::RELEASING) {
         return Err(Refusal::WrongPhase);
     }
     if released_already(w, holder) {
@@ -280,7 +265,7 @@ pub(crate) fn check_release(w: &[usize], holder: usize) -> Result<(), Refusal>
 pub(crate) fn check_shared_release(w: &[usize]) -> Result<(), Refusal>
     ensures { result ≡ shared_tests (view w.now) }
 {
-    if !may_release(w) {
+    if !phase_in(w, global::MARKING, global::RELEASING) {
         return Err(Refusal::WrongPhase);
     }
     if global::has_released(w, 0) {

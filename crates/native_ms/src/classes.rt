@@ -1,5 +1,5 @@
 // A customer's class table (02, R-5): whether its rows are accepted, and what is named if they are not.
-ghost use Rattle.std.specs.Prelude.{◌≡◌, true, MatchOption, ◌≢◌, ◌+◌, ◌/◌, ◌<◌, ◌≤◌};
+ghost use Rattle.std.specs.Prelude.{◌≡◌, true, not, position, MatchOption, ◌≢◌, ◌+◌, ◌/◌, ◌<◌, ◌≤◌};
 ghost use Rattle.model.specs.SizeClasses.{no_rows};
 ghost use Rattle.model.specs.Classes.{row_fits, bad_count, bad_row, classes_fit};
 ghost use Rattle.model.specs.Calls.{check_classes};
@@ -44,22 +44,23 @@ fn border(row: Row, at: usize, next: usize) -> usize
 }
 
 // What stands at a count of words, before `end`.
-#[tactic(auto, using(crate::proofs::Limits::rows_few, laws::proofs::Below::sum_start, laws::proofs::Below::sum_up), unfolding(model::specs::Base::flag))]
+#[tactic(auto, using(laws::proofs::Below::sum_start, laws::proofs::Below::sum_up), unfolding(model::specs::Base::flag))]
 fn survey(space: &Space, at: usize, end: usize) -> Stretch
     requires { at < end }
     ensures { Surveyed space.now.p at end result.rows result.next }
 {
     let mut over = 0;
     let mut next = end;
-    for n in 0..space.p.count {
-        over += usize::from(size_class::covers(space.p.rows[n], at));
-        next = border(space.p.rows[n], at, next);
+    let rows = size_class::given(&space.p.rows, space.p.count);
+    for row in rows {
+        over += usize::from(size_class::covers(*row, at));
+        next = border(*row, at, next);
     }
     Stretch { rows: over, next }
 }
 
 // The least count of words that falls in no row or in more than one, if any does. It goes from border to border, since up to the
-// next one every count falls in the same rows.
+// next one every count falls in the same rows: no `for`, which would look at each count (speed, docs/SPEED.md).
 #[tactic(auto, using(crate::proofs::Limits::bytes_few))]
 fn bad_count(space: &Space) -> Option<usize>
     ensures { MatchOption result (bad_count space.now.p ≡ 0) (λ n. (n ≡ bad_count space.now.p) × (n ≢ 0)) }
@@ -84,17 +85,20 @@ fn row_fits(p: Params, row: Row) -> bool
     0 < row.from && row.from <= row.to && row.to <= row.cell && row.cell <= p.bytes / 8
 }
 
-// The first row that is unfit, counted from 1, if any is.
-#[tactic(auto, using(crate::proofs::Limits::rows_few))]
+// The first of these rows that is unfit.
+fn first_unfit(p: Params, rows: &[Row]) -> Option<usize>
+    ensures { result ≡ position (λ r. not (row_fits p r)) rows.now }
+{
+    rows.iter().position(|row| !row_fits(p, *row))
+}
+
+// The same of the rows that are given, counted from 1.
 fn bad_row(space: &Space) -> Option<usize>
     ensures { MatchOption result (bad_row space.now.p ≡ 0) (λ n. (n ≡ bad_row space.now.p) × (n ≢ 0)) }
 {
-    for n in 0..space.p.count {
-        if !row_fits(space.p, space.p.rows[n]) {
-            return Some(n + 1);
-        }
-    }
-    None
+    let rows = size_class::given(&space.p.rows, space.p.count);
+    let first = first_unfit(space.p, rows)?;
+    Some(first + 1)
 }
 
 // Whether the rows are accepted. Without rows nothing is looked at.
@@ -106,19 +110,20 @@ pub(crate) fn classes_fit(space: &Space) -> bool
 }
 
 // The cells of the rows in words, by bin; 0 for a bin without a row.
-#[tactic(auto, using(crate::proofs::Limits::rows_few))]
 fn row_sizes(space: &Space) -> [usize; BINS]
     requires { (classes_fit space.now.p ≡ true) × (space.now.p.count ≢ 0) }
     ensures { Sizes space.now.p result }
 {
     let mut sizes = [0; BINS];
-    for n in 0..space.p.count {
-        sizes[n + 1] = space.p.rows[n].cell;
+    let rows = size_class::given(&space.p.rows, space.p.count);
+    for (n, row) in rows.iter().enumerate() {
+        sizes[n + 1] = row.cell;
     }
     sizes
 }
 
-// The cells of all bins in words.
+// The cells of all bins in words. That the rows are accepted is asked for from the test of the tables down to here, one after the other: a type
+// that holds it would be made and taken apart at each step.
 pub(crate) fn class_sizes(space: &Space) -> [usize; BINS]
     requires { classes_fit space.now.p ≡ true }
     ensures { Sizes space.now.p result }

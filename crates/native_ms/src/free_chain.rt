@@ -6,11 +6,13 @@ ghost use Rattle.model.specs.Tables.{view};
 ghost use Rattle.model.specs.Block.{first_cell, more_cells, next_cell, cell_count, cell_at, frees_cell};
 
 use crate::address::Space;
+use crate::block::Cell;
 use crate::{block, memory, params};
 use model::{Address, Block, ChainWalk, Params};
 use words::tables;
 
-// No Iterator and no methods: the walk is a public record of `model` that definitions compute with, and the heap is lent to each turn.
+// Steps and no Iterator, for hosts: the walk is a public record of `model` that definitions compute with, by rule of the project, and holds no
+// reference, so that the heap is lent to each turn. listing makes an Iterator of them.
 // The walk at the block's free head.
 #[tactic(auto, unfolding(model::specs::Block::first_cell))]
 pub fn first(p: Params, words: &[usize], b: Block) -> ChainWalk
@@ -51,6 +53,7 @@ pub fn next(p: Params, heap: &[u8], walk: ChainWalk) -> ChainWalk
 }
 
 // Where the i-th whole cell of a block with cells of `size` bytes stands, from 0, if it has one.
+#[tactic(auto, using(crate::proofs::Chains::cell_far))]
 fn cell(p: Params, b: Block, size: usize, i: usize) -> Option<Address>
     ensures { MatchOption result ((good_params p && ltb i (cell_count p size)) ≡ false) (λ at. ((good_params p && ltb i (cell_count p size)) ≡ true) × (at.0 ≡ start p b.0 + i * size)) }
 {
@@ -61,7 +64,7 @@ fn cell(p: Params, b: Block, size: usize, i: usize) -> Option<Address>
     }
 }
 
-// The same, and 0 if there is none, as the definition that it equals has it.
+// The same, and 0 if there is none: by a rule of the project it equals its definition, which has no Option.
 #[tactic(auto, unfolding(model::specs::Block::cell_at))]
 pub fn cell_at(p: Params, b: Block, size: usize, i: usize) -> Address
     ensures { result.0 ≡ cell_at p b.0 size i }
@@ -70,13 +73,12 @@ pub fn cell_at(p: Params, b: Block, size: usize, i: usize) -> Address
 }
 
 // Whether a sweep by these marks frees it.
-#[tactic(auto, using(crate::proofs::Chains::frees_kept), unfolding(model::specs::Block::frees_cell))]
+#[tactic(auto, using(crate::proofs::Chains::frees_kept, crate::proofs::Chains::cell_fits, laws::proofs::Below::and_left), unfolding(model::specs::Block::frees_cell))]
 pub fn frees_cell(p: Params, marks: &[u8], b: Block, size: usize, i: usize) -> bool
     ensures { result ≡ frees_cell p marks.now b.0 size i }
 {
     let Some(at) = cell(p, b, size, i) else {
         return false;
     };
-    let simple = block::is_simple(p);
-    !block::cell_is_marked(&Space { p }, simple, marks, at, size)
+    !block::cell_is_marked(&Space { p }, marks, Cell { at, size })
 }

@@ -1,7 +1,6 @@
 // Whether each block's free count is the length of its chain (02, R-7: part of soundness), and the total free cells of a bin. The walk
 // along a chain takes as many steps as are counted, which were held to the block's cells before.
-ghost use Rattle.std.specs.Prelude.{◌≡◌, true, ◌||◌, List, ℕ, ◌+◌, ◌*◌, ◌<◌, ◌≤◌, eqb, length, get_or};
-ghost use Rattle.model.specs.Params.{head_words, block_tables};
+ghost use Rattle.std.specs.Prelude.{◌≡◌, ◌<◌, true, ◌||◌, List, ℕ, eqb, get_or};
 ghost use Rattle.model.specs.Tables.{view, tables_of};
 ghost use Rattle.model.specs.Classes.{classes_fit};
 ghost use Rattle.model.specs.Sound.{chain_counts, chain_ok, chained, sound_on};
@@ -12,10 +11,10 @@ ghost use Rattle.native_ms.specs.SoundLent.{Lengths};
 ghost use Rattle.native_ms.specs.FewCells.{FewCells, cells_in};
 
 use crate::address::Space;
-use crate::sound::{blocks, eager, known};
+use crate::sound::eager;
+use crate::sound::known::{Lent, LentBlock};
 use crate::{block, checks, memory, sound};
 use model::{Address, BINS, Block, Params, Refusal};
-use words::{states, tables};
 
 // From the address `head` on, `count` whole cells of b linked one after the other, and then 0.
 fn chain_counts(
@@ -40,57 +39,59 @@ fn chain_counts(
 
 // The block's count is its chain's length.
 #[tactic(auto, unfolding(model::specs::Sound::chain_ok))]
-fn chain_ok(space: &Space, words: &[usize], heap: &[u8], b: Block) -> bool
-    ensures { result ≡ chain_ok space.now.p heap.now (view words.now) b.0 }
+fn chain_ok(b: LentBlock, heap: &[u8]) -> bool
+    ensures { result ≡ chain_ok b.entry.lent.now.space.now.p heap.now (view b.entry.lent.now.words.now) b.entry.block.0 }
 {
-    let count = tables::cells(words, b.0);
-    let size = tables::size(words, b.0);
+    let space = b.lent.space;
+    let count = b.cells();
+    let size = b.size();
     count <= block::cell_count(space.p, size)
-        && chain_counts(space, heap, b, size, tables::free(words, b.0), count)
+        && chain_counts(space, heap, b.block, size, b.free().0, count)
 }
 
 // An Unallocated block has no chain.
-fn block_chained(space: &Space, words: &[usize], states: &[u8], heap: &[u8], b: Block) -> bool
-    ensures { result ≡ (eqb (get_or states.now b.0 0) 0 || chain_ok space.now.p heap.now (view words.now) b.0) }
+fn block_chained(b: LentBlock, heap: &[u8]) -> bool
+    ensures { result ≡ (eqb (get_or b.entry.lent.now.states.now b.entry.block.0 0) 0 || chain_ok b.entry.lent.now.space.now.p heap.now (view b.entry.lent.now.words.now) b.entry.block.0) }
 {
-    states::state(states, b.0) == block::UNALLOCATED || chain_ok(space, words, heap, b)
+    b.state() == block::UNALLOCATED || chain_ok(b, heap)
 }
 
 // Each block's chain.
-#[tactic(auto, using(laws::proofs::Below::all_below_from), unfolding(model::specs::Sound::chained, model::specs::Sound::state_of))]
-pub(crate) fn chained(space: &Space, words: &[usize], states: &[u8], heap: &[u8]) -> bool
-    ensures { (m : List ℕ) → result ≡ chained space.now.p (tables_of (view words.now) states.now m) heap.now }
+fn chained<'a>(lent: &'a Lent<'a>, heap: &[u8]) -> bool
+    ensures { (m : List ℕ) → result ≡ chained lent.now.space.now.p (tables_of (view lent.now.words.now) lent.now.states.now m) heap.now }
 {
-    for b in 0..space.p.blocks {
-        if !block_chained(space, words, states, heap, Block(b)) {
-            return false;
-        }
-    }
-    true
+    (0..lent.space.p.blocks).all(
+        |b|
+            requires { b < lent.now.space.now.p.blocks }
+        {
+            let block = Block(b);
+            block_chained(LentBlock { lent, block }, heap)
+        },
+    )
 }
 
 // The block's free cells, if it is of the bin.
 #[tactic(auto, unfolding(model::specs::Sound::bin_named))]
-fn cells_in(words: &[usize], blocks: usize, b: Block, bin: usize) -> usize
-    requires { (length words.now ≡ head_words + block_tables * blocks) × (b.0 < blocks) }
-    ensures { result ≡ cells_in (view words.now) bin b.0 }
+fn cells_in(b: LentBlock, bin: usize) -> usize
+    ensures { result ≡ cells_in (view b.entry.lent.now.words.now) bin b.entry.block.0 }
 {
-    if blocks::list_named(words, blocks, b) % BINS == bin {
-        known::cells(words, blocks, b)
+    if b.list_named() % BINS == bin {
+        b.cells()
     } else {
         0
     }
 }
 
-// Those of all blocks of the bin.
+// Those of all blocks of the bin. Not `map` and `sum`, tried: open were that the sum fits, and that it is the machine's.
 #[tactic(auto, using(laws::proofs::Below::sum_start, laws::proofs::Below::sum_up, crate::proofs::FreeCountLaws::in_few, crate::proofs::Limits::blocks_few), unfolding(model::specs::Calls::cells_of))]
-fn cells_of(space: &Space, words: &[usize], bin: usize) -> usize
-    requires { (length words.now ≡ head_words + block_tables * space.now.p.blocks) × FewCells (view words.now) }
-    ensures { result ≡ cells_of space.now.p (view words.now) bin }
+fn cells_of<'a>(lent: &'a Lent<'a>, bin: usize) -> usize
+    requires { FewCells (view lent.now.words.now) }
+    ensures { result ≡ cells_of lent.now.space.now.p (view lent.now.words.now) bin }
 {
     let mut total = 0;
-    for b in 0..space.p.blocks {
-        total += cells_in(words, space.p.blocks, Block(b), bin);
+    for b in 0..lent.space.p.blocks {
+        let block = Block(b);
+        total += cells_in(LentBlock { lent, block }, bin);
     }
     total
 }
@@ -100,9 +101,13 @@ pub(crate) fn sound_on(p: Params, words: &[usize], states: &[u8], heap: &[u8]) -
     requires { (Lengths p words.now states.now) × (classes_fit p ≡ true) }
     ensures { (m : List ℕ) → result ≡ sound_on p (tables_of (view words.now) states.now m) heap.now }
 {
-    sound::sound(p, words, states)
-        && eager::eager_ok(p, words, states)
-        && chained(&Space { p }, words, states, heap)
+    let space = Space { p };
+    let lent = Lent {
+        space: &space,
+        words,
+        states,
+    };
+    sound::sound(&lent) && eager::eager_ok(&lent) && chained(&lent, heap)
 }
 
 // The total free cells of a bin over all lists, in every phase.
@@ -120,5 +125,11 @@ pub fn free_cells(
     if bin < 1 || BINS <= bin {
         return Err(Refusal::BadRequest);
     }
-    Ok(cells_of(&Space { p }, words, bin))
+    let space = Space { p };
+    let lent = Lent {
+        space: &space,
+        words,
+        states,
+    };
+    Ok(cells_of(&lent, bin))
 }

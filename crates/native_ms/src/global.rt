@@ -10,31 +10,25 @@
 // | release, shared release | Marking, Releasing | Releasing; the last: Running |
 mod eager;
 
-ghost use Rattle.std.specs.Prelude.{◌≡◌, not, ◌||◌, List, map, ℕ, ◌<◌, ◌≤◌, length, get_or, replicate};
+ghost use Rattle.std.specs.Prelude.{◌≡◌, List, map, ℕ, ◌<◌, ◌≤◌, length, get_or, replicate};
 ghost use Rattle.model.specs.declared.Params.{Params};
-ghost use Rattle.model.specs.Params.{bins, lists, holders, parts, head_words, abandoned, in_gc};
-ghost use Rattle.model.specs.Tables.{view, tables_of, with_released};
-ghost use Rattle.model.specs.Global.{freed, unmarked_state, release_from, release_bin, release_holder, sweep_later_bin, sweep_later, is_holder, is_bound, has_released, all_released};
+ghost use Rattle.model.specs.Params.{bins, parts, head_words, abandoned, in_gc};
+ghost use Rattle.model.specs.Tables.{Words, view, tables_of, with_released};
+ghost use Rattle.model.specs.Global.{freed, unmarked_state, release_from, release_bin, release_holder, sweep_later_bin, sweep_later, is_holder, is_bound, has_released, all_released, is_last};
 ghost use Rattle.model.specs.Calls.{bind, destroy, prepare, mark, release, shared_release};
 ghost use Rattle.model.specs.Answers.{reply_of, count_reply, mark_reply, release_reply};
 ghost use Rattle.model.specs.Promise.{lend, Promised, SetUpPromised};
 ghost use Rattle.native_ms.specs.Moved.{moved, bin_moves, bins_move, end_moves, part_moves};
 ghost use Rattle.native_ms.specs.Ending.{Does};
-ghost use Rattle.native_ms.specs.Released.{out, total, attempt_release, released_bins};
-ghost use Rattle.native_ms.specs.Eager.{waits};
+ghost use Rattle.native_ms.specs.Released.{out, total, attempt_release, released_bins, TellsReleased};
+ghost use Rattle.native_ms.specs.Eager.{waits, after_part};
 ghost use Rattle.native_ms.specs.Places.{Known};
 
-use crate::address::Space;
-use crate::{address, block, block_list, checks, classes, memory};
+use crate::address::{Bin, Holder, ListNumber, Owner, Part, Space};
+use crate::{block, block_list, checks, classes, memory};
 use model::{ABANDONED, Address, BINS, Block, HOLDERS, IN_GC, PARTS, Params, Refusal, Released};
+pub(crate) use words::tables::{MARKING, RELEASING, RUNNING};
 use words::{marks, states, tables};
-
-// The phases, as table words. No enum: a lent word may hold any number, so that each comparison would first need a TryFrom.
-pub(crate) const RUNNING: usize = 0;
-
-pub(crate) const MARKING: usize = 1;
-
-pub(crate) const RELEASING: usize = 2;
 
 // ---- holders, and what has released
 
@@ -56,27 +50,42 @@ pub(crate) fn has_released(w: &[usize], part: usize) -> bool
     tables::released(w, part) == 1
 }
 
-// The holder is not bound, or has released.
-fn not_due(w: &[usize], holder: usize) -> bool
-    ensures { result ≡ (not (is_bound (view w.now) holder) || has_released (view w.now) holder) }
-{
-    !is_bound(w, holder) || has_released(w, holder)
-}
-
-// Nothing is due any more.
-pub(crate) fn all_released(w: &[usize]) -> bool
-    ensures { result ≡ all_released (view w.now) }
+// Nothing is due any more, where `released` says which parts have released: each holder that is bound has, and the shared part.
+fn none_due<F: Fn(usize) -> bool>(w: &[usize], released: F) -> bool
+    requires { F.IsAlwaysCallable released }
+    ensures { (then : Words) → then.bound ≡ (view w.now).bound → TellsReleased (F.post released) then → result ≡ all_released then }
 {
     for holder in 1..=HOLDERS {
-        if !not_due(w, holder) {
+        if is_bound(w, holder) && !released(holder) {
             return false;
         }
     }
-    has_released(w, 0)
+    released(0)
+}
+
+pub(crate) fn all_released(w: &[usize]) -> bool
+    ensures { result ≡ all_released (view w.now) }
+{
+    none_due(w, |part| has_released(w, part))
+}
+
+// With this part nothing is due any more.
+fn is_last(w: &[usize], part: Part) -> bool
+    requires { head_words ≤ length w.now }
+    ensures { result ≡ is_last part.number (view w.now) }
+{
+    none_due(
+        w,
+        |other|
+            requires { (head_words ≤ length w.now) × (part.number < parts) }
+            ensures { result ≡ has_released (after_part part.number (view w.entry.now)) other }
+        { other == part.number || has_released(w, other) },
+    )
 }
 
 // ---- set-up
 
+// Beside `clear_all` of the bytes: a line each, which one function of either would not make plainer.
 fn clear_words(w: &mut [usize])
     ensures { w.new ≡ replicate (length w.old) 0 }
 {
@@ -131,27 +140,26 @@ pub fn bind(
 }
 
 // One bin of three lists goes behind another owner's. The answer is how many blocks went over.
-fn abandon_bin(space: &Space, w: &mut [usize], to: usize, from: usize, bin: usize) -> usize
-    requires { (to ≤ in_gc) × (from ≤ in_gc) × (bin < bins) }
-    ensures { moved result (view w.new) ≡ bin_moves space.now.p to from bin (view w.old) }
+fn abandon_bin(space: &Space, w: &mut [usize], to: Owner, from: Owner, bin: Bin) -> usize
+    ensures { moved result (view w.new) ≡ bin_moves space.now.p to.set from.set bin.number (view w.old) }
 {
-    let own = address::lists_of(to, bin);
-    let other = address::lists_of(from, bin);
+    let own = to.lists(bin);
+    let other = from.lists(bin);
     let free = block_list::append(space, w, own.available, other.available);
     let full = block_list::append(space, w, own.consumed, other.consumed);
     let kept = block_list::append(space, w, own.unswept, other.unswept);
     free + full + kept
 }
 
-// All lists of one owner, by its first set, go behind another's. The answer is how many blocks went over.
-// A loop over the bins for each step, here and below: a closure over the words would have its contract beside the step's.
-fn abandon_blocks(space: &Space, w: &mut [usize], to: usize, from: usize) -> usize
-    requires { (to ≤ in_gc) × (from ≤ in_gc) }
-    ensures { moved result (view w.new) ≡ bins_move bins space.now.p to from (view w.old) }
+// All lists of one owner go behind another's. The answer is how many blocks went over.
+// A loop over the bins for each step, here and below: one that is given its step would promise a relation over all turns, no plainer
+// than the equation that each of these promises.
+fn abandon_blocks(space: &Space, w: &mut [usize], to: Owner, from: Owner) -> usize
+    ensures { moved result (view w.new) ≡ bins_move bins space.now.p to.set from.set (view w.old) }
 {
     let mut count: usize = 0;
     for bin in 0..BINS {
-        count += abandon_bin(space, w, to, from, bin);
+        count += abandon_bin(space, w, to, from, Bin { number: bin });
     }
     count
 }
@@ -162,8 +170,8 @@ pub(crate) fn do_destroy(space: &Space, w: &mut [usize], holder: usize) -> Resul
     ensures { (s m h : List ℕ) → Does space.now.p (tables_of (view w.old) s m) h (destroy holder) (count_reply result) (tables_of (view w.new) s m) h }
 {
     checks::check_leave(w, holder)?;
-    let from = address::local_sets(holder);
-    let count = abandon_blocks(space, w, ABANDONED, from);
+    let from = Holder { number: holder }.owner();
+    let count = abandon_blocks(space, w, Owner { set: ABANDONED }, from);
     tables::set_bound(w, holder - 1, 0);
     Ok(count)
 }
@@ -266,9 +274,14 @@ pub fn mark(
 
 // Takes the block out of the list and releases it, if it is Unmarked. The answer is how many were released: 1 or 0.
 // No bool: the contract counts, and so does the caller.
-fn attempt_release(space: &Space, w: &mut [usize], st: &mut [u8], list: usize, b: Block) -> usize
-    requires { list < lists }
-    ensures { out result (view w.new) st.new ≡ attempt_release space.now.p list b.0 (view w.old) st.old }
+fn attempt_release(
+    space: &Space,
+    w: &mut [usize],
+    st: &mut [u8],
+    list: ListNumber,
+    b: Block,
+) -> usize
+    ensures { out result (view w.new) st.new ≡ attempt_release space.now.p list.at b.0 (view w.old) st.old }
 {
     let state = states::state(st, b.0);
     if state != block::UNMARKED {
@@ -280,11 +293,10 @@ fn attempt_release(space: &Space, w: &mut [usize], st: &mut [u8], list: usize, b
 }
 
 // Releases the Unmarked blocks of the list. The next link is read before its block is removed.
-fn release_blocks(space: &Space, w: &mut [usize], st: &mut [u8], list: usize) -> usize
-    requires { list < lists }
-    ensures { out result (view w.new) st.new ≡ total (release_from space.now.p.blocks space.now.p list (get_or (view w.old).first list 0) (view w.old) st.old) }
+fn release_blocks(space: &Space, w: &mut [usize], st: &mut [u8], list: ListNumber) -> usize
+    ensures { out result (view w.new) st.new ≡ total (release_from space.now.p.blocks space.now.p list.at (get_or (view w.old).first list.at 0) (view w.old) st.old) }
 {
-    let mut link = tables::first(w, list);
+    let mut link = tables::first(w, list.at);
     let mut released: usize = 0;
     for _ in 0..space.p.blocks {
         if link == 0 {
@@ -298,9 +310,8 @@ fn release_blocks(space: &Space, w: &mut [usize], st: &mut [u8], list: usize) ->
 }
 
 // What stays of the other list is swept later; with the choice of eager sweeping it stays where it is.
-fn left_unswept(space: &Space, w: &mut [usize], list: usize, other: usize)
-    requires { list < lists }
-    ensures { view w.new ≡ waits space.now.p list other (view w.old) }
+fn left_unswept(space: &Space, w: &mut [usize], list: ListNumber, other: ListNumber)
+    ensures { view w.new ≡ waits space.now.p list.at other.at (view w.old) }
 {
     if space.p.eager {
         return;
@@ -309,11 +320,10 @@ fn left_unswept(space: &Space, w: &mut [usize], list: usize, other: usize)
 }
 
 // One bin of a holder's release: what stays of available and consumed blocks becomes unswept.
-fn release_bin(space: &Space, w: &mut [usize], st: &mut [u8], owner: usize, bin: usize) -> usize
-    requires { (owner ≤ in_gc) × (bin < bins) }
-    ensures { out result (view w.new) st.new ≡ total (release_bin space.now.p owner bin (freed (view w.old) st.old)) }
+fn release_bin(space: &Space, w: &mut [usize], st: &mut [u8], owner: Owner, bin: Bin) -> usize
+    ensures { out result (view w.new) st.new ≡ total (release_bin space.now.p owner.set bin.number (freed (view w.old) st.old)) }
 {
-    let own = address::lists_of(owner, bin);
+    let own = owner.lists(bin);
     let free = release_blocks(space, w, st, own.available);
     left_unswept(space, w, own.unswept, own.available);
     let full = release_blocks(space, w, st, own.consumed);
@@ -321,34 +331,31 @@ fn release_bin(space: &Space, w: &mut [usize], st: &mut [u8], owner: usize, bin:
     free + full
 }
 
-fn release_bins(space: &Space, w: &mut [usize], st: &mut [u8], owner: usize) -> usize
-    requires { owner ≤ in_gc }
-    ensures { out result (view w.new) st.new ≡ total (released_bins space.now.p owner bins (view w.old) st.old) }
+fn release_bins(space: &Space, w: &mut [usize], st: &mut [u8], owner: Owner) -> usize
+    ensures { out result (view w.new) st.new ≡ total (released_bins space.now.p owner.set bins (view w.old) st.old) }
 {
     let mut released: usize = 0;
     for bin in 0..BINS {
-        released += release_bin(space, w, st, owner, bin);
+        released += release_bin(space, w, st, owner, Bin { number: bin });
     }
     released
 }
 
 // A holder's part: its lists end up in-gc.
-fn release_holder(space: &Space, w: &mut [usize], st: &mut [u8], holder: usize) -> usize
-    requires { (1 ≤ holder) × (holder ≤ holders) }
-    ensures { out result (view w.new) st.new ≡ total (release_holder space.now.p holder (view w.old) st.old) }
+fn release_holder(space: &Space, w: &mut [usize], st: &mut [u8], holder: Holder) -> usize
+    ensures { out result (view w.new) st.new ≡ total (release_holder space.now.p holder.number (view w.old) st.old) }
 {
-    let owner = address::local_sets(holder);
+    let owner = holder.owner();
     let released = release_bins(space, w, st, owner);
-    abandon_blocks(space, w, IN_GC, owner);
+    abandon_blocks(space, w, Owner { set: IN_GC }, owner);
     released
 }
 
 // One bin of the shared part.
-fn sweep_later_bin(space: &Space, w: &mut [usize], st: &mut [u8], bin: usize) -> usize
-    requires { bin < bins }
-    ensures { out result (view w.new) st.new ≡ total (sweep_later_bin space.now.p bin (freed (view w.old) st.old)) }
+fn sweep_later_bin(space: &Space, w: &mut [usize], st: &mut [u8], bin: Bin) -> usize
+    ensures { out result (view w.new) st.new ≡ total (sweep_later_bin space.now.p bin.number (freed (view w.old) st.old)) }
 {
-    let shared = address::lists_of(ABANDONED, bin);
+    let shared = Owner { set: ABANDONED }.lists(bin);
     let free = release_blocks(space, w, st, shared.available);
     let full = release_blocks(space, w, st, shared.consumed);
     let waiting = release_blocks(space, w, st, shared.unswept);
@@ -363,7 +370,7 @@ fn sweep_later(space: &Space, w: &mut [usize], st: &mut [u8]) -> usize
 {
     let mut released: usize = 0;
     for bin in 0..BINS {
-        released += sweep_later_bin(space, w, st, bin);
+        released += sweep_later_bin(space, w, st, Bin { number: bin });
     }
     released
 }
@@ -372,9 +379,11 @@ fn sweep_later(space: &Space, w: &mut [usize], st: &mut [u8]) -> usize
 fn merge(space: &Space, w: &mut [usize]) -> usize
     ensures { moved result (view w.new) ≡ bins_move bins space.now.p abandoned in_gc (view w.old) }
 {
-    abandon_blocks(space, w, ABANDONED, IN_GC)
+    abandon_blocks(space, w, Owner { set: ABANDONED }, Owner { set: IN_GC })
 }
 
+// That the head words are there is asked of the words here and below: a struct that holds it would be one of `&mut` (lib.rt says what was
+// tried), and the readers that ask it too are lent the same words.
 fn clear_released(w: &mut [usize])
     requires { head_words ≤ length w.old }
     ensures { view w.new ≡ with_released (replicate parts 0) (view w.old) }
@@ -396,12 +405,12 @@ fn end_of_gc(space: &Space, w: &mut [usize]) -> usize
 }
 
 // A part has released; the last one ends the collection. The answer is how many blocks were merged, 0 if parts are due.
-fn part_released(space: &Space, w: &mut [usize], part: usize) -> usize
+fn part_released(space: &Space, w: &mut [usize], part: Part) -> usize
     requires { head_words ≤ length w.old }
-    ensures { moved result (view w.new) ≡ part_moves space.now.p part (view w.old) }
+    ensures { moved result (view w.new) ≡ part_moves space.now.p part.number (view w.old) }
 {
     tables::set_phase(w, RELEASING);
-    tables::set_released(w, part, 1);
+    tables::set_released(w, part.number, 1);
     let done = all_released(w);
     if done {
         return end_of_gc(space, w);
@@ -411,21 +420,22 @@ fn part_released(space: &Space, w: &mut [usize], part: usize) -> usize
 
 // A holder's release.
 pub(crate) fn do_release(
-    p: Params,
+    space: &Space,
     w: &mut [usize],
     st: &mut [u8],
     m: &[u8],
     heap: &mut [u8],
     holder: usize,
 ) -> Result<Released, Refusal>
-    requires { Known p (length w.old) (length m.now) (length heap.old) }
-    ensures { Does p (tables_of (view w.old) st.old m.now) heap.old (release holder) (release_reply result) (tables_of (view w.new) st.new m.now) heap.new }
+    requires { Known space.now.p (length w.old) (length m.now) (length heap.old) }
+    ensures { Does space.now.p (tables_of (view w.old) st.old m.now) heap.old (release holder) (release_reply result) (tables_of (view w.new) st.new m.now) heap.new }
 {
     checks::check_release(w, holder)?;
-    let space = Space { p };
-    let count = release_holder(&space, w, st, holder);
-    let swept = eager::eagerly(p, w, st, m, heap, holder);
-    let merged = part_released(&space, w, holder);
+    let holder = Holder { number: holder };
+    let count = release_holder(space, w, st, holder);
+    let part = holder.part();
+    let swept = eager::eagerly(space, w, st, m, heap, part);
+    let merged = part_released(space, w, part);
     Ok(Released {
         blocks: count,
         merged,
@@ -444,25 +454,25 @@ pub fn release(
     ensures { Promised p (lend words.old states.old marks.now heap.old) (release holder) (release_reply result) (lend words.new states.new marks.now heap.new) }
 {
     checks::check_lent(p, words, states, marks, heap)?;
-    do_release(p, words, states, marks, heap, holder)
+    do_release(&Space { p }, words, states, marks, heap, holder)
 }
 
 // The shared part's release.
 pub(crate) fn do_shared_release(
-    p: Params,
+    space: &Space,
     w: &mut [usize],
     st: &mut [u8],
     m: &[u8],
     heap: &mut [u8],
 ) -> Result<Released, Refusal>
-    requires { Known p (length w.old) (length m.now) (length heap.old) }
-    ensures { Does p (tables_of (view w.old) st.old m.now) heap.old shared_release (release_reply result) (tables_of (view w.new) st.new m.now) heap.new }
+    requires { Known space.now.p (length w.old) (length m.now) (length heap.old) }
+    ensures { Does space.now.p (tables_of (view w.old) st.old m.now) heap.old shared_release (release_reply result) (tables_of (view w.new) st.new m.now) heap.new }
 {
     checks::check_shared_release(w)?;
-    let space = Space { p };
-    let released = sweep_later(&space, w, st);
-    let swept = eager::eagerly(p, w, st, m, heap, 0);
-    let merged = part_released(&space, w, 0);
+    let released = sweep_later(space, w, st);
+    let part = Part { number: 0 };
+    let swept = eager::eagerly(space, w, st, m, heap, part);
+    let merged = part_released(space, w, part);
     Ok(Released {
         blocks: released,
         merged,
@@ -480,5 +490,5 @@ pub fn shared_release(
     ensures { Promised p (lend words.old states.old marks.now heap.old) shared_release (release_reply result) (lend words.new states.new marks.now heap.new) }
 {
     checks::check_lent(p, words, states, marks, heap)?;
-    do_shared_release(p, words, states, marks, heap)
+    do_shared_release(&Space { p }, words, states, marks, heap)
 }

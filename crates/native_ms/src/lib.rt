@@ -4,8 +4,9 @@
 // they are lent by a letter or two: w the table words, st the state bytes, m the marks, h the heap. All else is spelled out: a list is by
 // its number, a link is an address of a block.
 //
-// What is lent is handed on slice by slice, each as a step needs it: of a struct of `&mut` every step would also have to promise that its
-// fields stay the same references, and where one was made for a call (tried) the proof did not learn what the call left behind them.
+// What is lent for writing is handed on slice by slice, each as a step needs it, with what is known of its length: of a struct of `&mut` every
+// step would also have to promise that its fields stay the same references, and where one was made for a call (tried) the proof did not learn
+// what the call left behind them. What is lent for reading alone is a struct where more than one step reads it (sound/known.rt).
 #![tactic(auto)]
 
 mod address;

@@ -1,5 +1,8 @@
 // Words, zeros and mark bits by address, over the lent heap and mark bytes. Total: an address below the heap is taken for
 // its first byte, as in the definitions.
+#![tactic(auto, unfolding(model::specs::Memory::load, model::specs::Memory::store, model::specs::Memory::zeroed, model::specs::Memory::set_mark, model::specs::Memory::mark_index))]
+
+// Each takes parameters, heap and address, as its definition does.
 ghost use Rattle.std.specs.Prelude.{◌≡◌, ◌-◌};
 ghost use Rattle.model.specs.Memory.{load, store, zeroed, marked, set_mark};
 
@@ -17,26 +20,24 @@ fn offset(p: Params, a: Address) -> usize
 pub(crate) fn load(p: Params, h: &[u8], a: Address) -> usize
     ensures { result ≡ load p h.now a.0 }
 {
-    let from = offset(p, a);
-    bytes::load_word(h, from)
+    bytes::load_word(h, offset(p, a))
 }
 
-// `store` and `zero` have one line in common.
+// `store` and `zero` are a line each: one function that is given the step would be no plainer.
 pub(crate) fn store(p: Params, h: &mut [u8], a: Address, v: usize)
     ensures { h.new ≡ store p h.old a.0 v }
 {
-    let from = offset(p, a);
-    bytes::store_word(h, from, v);
+    bytes::store_word(h, offset(p, a), v);
 }
 
 pub(crate) fn zero(p: Params, h: &mut [u8], a: Address, n: usize)
     ensures { h.new ≡ zeroed p h.old a.0 n }
 {
-    let from = offset(p, a);
-    bytes::zero(h, from, n);
+    bytes::zero(h, offset(p, a), n);
 }
 
 // Whether a place is marked; one outside the heap is not.
+#[tactic(auto, using(laws::proofs::Marks::marked_inside, laws::proofs::Marks::marked_out))]
 pub(crate) fn is_marked(space: &Space, m: &[u8], place: Address) -> bool
     ensures { result ≡ marked space.now.p m.now place.0 }
 {
@@ -46,6 +47,5 @@ pub(crate) fn is_marked(space: &Space, m: &[u8], place: Address) -> bool
 pub(crate) fn set_mark(p: Params, m: &mut [u8], place: Address)
     ensures { m.new ≡ set_mark p m.old place.0 }
 {
-    let from = offset(p, place);
-    marks::set_bit(m, from / 8);
+    marks::set_bit(m, offset(p, place) / 8);
 }

@@ -3,19 +3,19 @@ ghost use Rattle.std.specs.Prelude.{◌≡◌, true, not, ◌&&◌, ◌||◌, �
 ghost use Rattle.model.specs.Params.{power_of_two, lower_ok, max_rows, good_params, word_count, heap_bytes};
 
 use crate::address::Space;
-use model::{BLOCK_TABLES, HEAD_WORDS, Params, ROWS};
+use model::{
+    BLOCK_TABLES, HEAD_WORDS, HEAP_END, MAX_ALIGN, MAX_BLOCKS, MAX_BYTES, MIN_BYTES, Params, ROWS,
+};
+
+// How far L may lie from 0.
+const MAX_LOWER: u64 = 64;
 
 // A power of two up to 65,536.
-#[tactic(auto, using(laws::proofs::Below::any_below_none), unfolding(model::specs::Params::power_of_two))]
+#[tactic(auto, using(crate::proofs::Powers::power_low, crate::proofs::Powers::power_high))]
 pub(crate) fn power_of_two(number: usize) -> bool
     ensures { result ≡ power_of_two number }
 {
-    for shift in 0..17usize {
-        if number == 1 << shift {
-            return true;
-        }
-    }
-    false
+    number <= MAX_BYTES && number.is_power_of_two()
 }
 
 fn good_min(min: usize) -> bool
@@ -37,13 +37,13 @@ fn good_lower(unified: bool, lower: i64) -> bool
     ensures { result ≡ (lower_ok lower && (not unified || eqb (nat_abs lower) 0)) }
 {
     let size = lower.unsigned_abs();
-    size % 8 == 0 && size <= 64 && (!unified || size == 0)
+    size % 8 == 0 && size <= MAX_LOWER && (!unified || size == 0)
 }
 
 fn good_blocks(blocks: usize) -> bool
     ensures { result ≡ (leb 1 blocks && leb blocks 1024) }
 {
-    1 <= blocks && blocks <= 1024
+    1 <= blocks && blocks <= MAX_BLOCKS
 }
 
 // Where the heap stands, once its size is known to be small.
@@ -51,7 +51,7 @@ fn good_base(base: usize, bytes: usize, blocks: usize) -> bool
     requires { (0 < bytes) × (bytes ≤ 65536) × (blocks ≤ 1024) }
     ensures { result ≡ (ltb 0 base && eqb (base % bytes) 0 && leb (base + blocks * bytes) (2 ^ 47)) }
 {
-    0 < base && base % bytes == 0 && base <= (1 << 47) - blocks * bytes
+    0 < base && base % bytes == 0 && base <= HEAP_END - blocks * bytes
 }
 
 // Whether every part of the parameters is good, tested in the definition's order.
@@ -60,9 +60,9 @@ pub(crate) fn good_params(p: Params) -> bool
     ensures { result ≡ good_params p }
 {
     good_min(p.min)
-        && power_between(p.max, p.min, 64)
+        && power_between(p.max, p.min, MAX_ALIGN)
         && good_lower(p.unified, p.lower)
-        && power_between(p.bytes, 4096, 65536)
+        && power_between(p.bytes, MIN_BYTES, MAX_BYTES)
         && good_blocks(p.blocks)
         && good_base(p.base, p.bytes, p.blocks)
         && p.count <= ROWS

@@ -1,15 +1,15 @@
 // Size classes: the cell sizes of the bins, and the bin of a size; document 01's, and those of a customer's rows (02, R-5).
-ghost use Rattle.std.specs.Prelude.{◌≡◌, ◌<◌, ◌≤◌};
+ghost use Rattle.std.specs.Prelude.{◌≡◌, ◌<◌, ◌≤◌, length, take, min, position};
 ghost use Rattle.model.specs.Base.{least_from};
 ghost use Rattle.model.specs.Params.{bins};
 ghost use Rattle.model.specs.SizeClasses.{bin_in_octave, class_bytes, mi_bin, row_at, covers, words_in, words_asked, cell_bytes, bin_of};
 
-use model::{BINS, CLASS_WORDS, LAST_BIN, Params, Row};
+use model::{BINS, CLASS_WORDS, LAST_BIN, Params, ROWS, Row};
 
 // ---- document 01's
 
-// The cell size of a bin in bytes; 0 past the last bin. Past bin 8 there are four bins to the octave. It is computed: the table
-// would be built on the stack for each look-up.
+// The cell size of a bin in bytes; 0 past the last bin, as the definition that it equals has it. Past bin 8 there are four bins to the octave.
+// It is computed, for speed: the table is built on the stack for each look-up (docs/SPEED.md).
 pub fn class_bytes(bin: usize) -> usize
     ensures { result ≡ class_bytes bin }
 {
@@ -44,7 +44,7 @@ fn bin_in_octave(n: usize) -> usize
     b * 4 + ((n >> (b - 2)) & 3) - 3
 }
 
-// The bin of a size in bytes; 0 past the largest class, where there is none.
+// The bin of a size in bytes; 0 past the largest class, where there is none, as 01 numbers bins.
 pub fn mi_bin_from_size(size: usize) -> usize
     ensures { result ≡ mi_bin size }
 {
@@ -82,16 +82,31 @@ pub(crate) fn covers(row: Row, words: usize) -> bool
     0 < row.from && row.from <= words && words <= row.to
 }
 
-// The first row that a count of words falls in, counted from 1; 0 for none, as 01 numbers bins, so that `bin_of` passes it on.
+// The first rows, as many as are given.
+pub(crate) fn given(rows: &[Row; ROWS], count: usize) -> &[Row]
+    ensures rows { result.now ≡ take (min count 48) rows.now }
+    ensures length { length result.now ≡ min count 48 }
+    ensures all { length rows.now ≡ 48 }
+{
+    &rows[..count.min(ROWS)]
+}
+
+// The first of these rows that a count of words falls in.
+fn first_covering(rows: &[Row], words: usize) -> Option<usize>
+    ensures { result ≡ position (λ r. covers r words) rows.now }
+{
+    rows.iter().position(|row| covers(*row, words))
+}
+
+// The same of the rows that are given, counted from 1; 0 for none, as 01 numbers bins, so that `bin_of` passes it on.
 fn row_for(p: Params, words: usize) -> usize
     ensures { result ≡ least_from p.count 1 (λ n. covers (row_at p n) words) }
 {
-    for n in 0..p.count.min(p.rows.len()) {
-        if covers(p.rows[n], words) {
-            return n + 1;
-        }
+    let rows = given(&p.rows, p.count);
+    match first_covering(rows, words) {
+        Some(n) => n + 1,
+        None => 0,
     }
-    0
 }
 
 // The bin of a size in bytes: the row that its words fall in, or without rows `mi_bin_from_size`. 0 for none, as 01 numbers bins and

@@ -11,25 +11,23 @@ ghost use Rattle.std.specs.Prelude.{◌≡◌, true, List, ℕ};
 ghost use Rattle.model.specs.Tables.{view, tables_of};
 ghost use Rattle.model.specs.Classes.{classes_fit};
 ghost use Rattle.model.specs.Sound.{sound};
-ghost use Rattle.native_ms.specs.SoundLent.{Lengths};
 
-use crate::address::Space;
 use crate::classes;
 use crate::sound::blocks::Blocks;
+use crate::sound::known::Lent;
 use crate::sound::lists::Lists;
-use model::Params;
 
-pub(crate) fn sound(p: Params, words: &[usize], states: &[u8]) -> bool
-    requires { (Lengths p words.now states.now) × (classes_fit p ≡ true) }
-    ensures { (m : List ℕ) → result ≡ sound p (tables_of (view words.now) states.now m) }
+pub(crate) fn sound<'a>(lent: &'a Lent<'a>) -> bool
+    requires { classes_fit lent.now.space.now.p ≡ true }
+    ensures { (m : List ℕ) → result ≡ sound lent.now.space.now.p (tables_of (view lent.now.words.now) lent.now.states.now m) }
 {
-    let firsts = known::firsts(words);
-    if !parts::all_fit(words, &firsts) {
+    let lists = Lists::new(lent);
+    if !parts::all_fit(&lists) {
         return false;
     }
-    let classes = classes::class_sizes(&Space { p });
-    let Some(unused) = Blocks::new(&p, words, states, &classes).unused() else {
+    let classes = &classes::class_sizes(lent.space);
+    let Some(unused) = (Blocks { lent, classes }).unused() else {
         return false;
     };
-    Lists::new(&p, words, states).passes(&firsts) == Some(unused)
+    lists.passes() == Some(unused)
 }

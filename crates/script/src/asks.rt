@@ -1,11 +1,9 @@
 // The lines of the seven calls after set-up, and a call as the numbers that exports and rows take.
 use crate::numbers;
 use crate::numbers::Words;
+use exports::row::CALL_WORDS;
 use model::{Ask, Block, Request};
 use native_ms::run;
-
-// The words of a call in a row (`z`).
-pub(crate) const CALL_WORDS: usize = 6;
 
 // `-`, or a block.
 fn offer(word: &str) -> Option<Option<Block>> {
@@ -29,34 +27,18 @@ fn alloc(mut words: Words) -> Option<Ask> {
     Some(Ask::Alloc { holder, request })
 }
 
-// The call of a line.
+// The call of a line. A match: the letters differ in the words behind them, so that a table of functions would say no less.
 pub(crate) fn ask(letter: char, words: Words) -> Option<Ask> {
     match letter {
         'a' => alloc(words),
-        'b' => {
-            let [holder] = words.all::<1>()?;
-            Some(Ask::Bind(holder))
-        }
-        'd' => {
-            let [holder] = words.all::<1>()?;
-            Some(Ask::Destroy(holder))
-        }
-        'm' => {
-            let [place, block] = words.all::<2>()?;
-            Some(Ask::Mark { place, block })
-        }
-        'r' => {
-            let [holder] = words.all::<1>()?;
-            Some(Ask::Release(holder))
-        }
-        'p' => {
-            words.end()?;
-            Some(Ask::Prepare)
-        }
-        's' => {
-            words.end()?;
-            Some(Ask::SharedRelease)
-        }
+        'b' => words.all::<1>().map(|[holder]| Ask::Bind(holder)),
+        'd' => words.all::<1>().map(|[holder]| Ask::Destroy(holder)),
+        'm' => words
+            .all::<2>()
+            .map(|[place, block]| Ask::Mark { place, block }),
+        'r' => words.all::<1>().map(|[holder]| Ask::Release(holder)),
+        'p' => words.end().map(|()| Ask::Prepare),
+        's' => words.end().map(|()| Ask::SharedRelease),
         _ => None,
     }
 }

@@ -26,15 +26,12 @@ pub(crate) fn call(p: &Params, via: Option<usize>, lent: &mut Lent, entry: Entry
     if let Some(length) = via {
         return through::answer(p, length, lent, entry);
     }
-    let heap = &mut *lent.heap;
-    let said = match entry {
-        Entry::SetUp => calls::set_up(*p, lent.words, lent.states, lent.marks, heap),
-        Entry::Call(ask) => calls::perform(*p, lent.words, lent.states, lent.marks, heap, ask),
-    };
+    let said = entry.enter(*p, lent.words, lent.states, lent.marks, lent.heap);
     Reply::of_call(entry, said)
 }
 
-// The answer to a line of one letter.
+// The answer to a line of one letter. A match: each line is given another part of what is lent, which functions of one form would have to
+// take whole.
 pub(crate) fn answer(
     p: &Params,
     via: Option<usize>,

@@ -3,18 +3,17 @@ use crate::lines::Lines;
 use crate::numbers::Words;
 use crate::out::Out;
 use crate::reply::{MOST_ANSWER, Reply};
+use crate::rows::Rows;
 use crate::space::Memory;
-use crate::{Stop, direct, dump, numbers, rows, run_lines, setup};
+use crate::{Stop, direct, dump, numbers, run_lines, setup};
 use model::Params;
-use native_ms::classes;
 use std::io::Write;
 
 #[derive(Drop)]
 pub(crate) struct Driver<'a> {
-    // those of the last set-up, with the rows in force
-    params: Params,
-    // whether that set-up stands
-    stands: bool,
+    rows: Rows,
+    // those of the last set-up, if it stands
+    params: Option<Params>,
     // the length of the answer slice, where calls are made through the exports
     via: Option<usize>,
     memory: &'a mut Memory,
@@ -32,35 +31,26 @@ fn say(reply: Option<Reply>, out: &mut Out) -> Result<(), Stop> {
 }
 
 impl<'a> Driver<'a> {
-    // No set-up stands.
     pub(crate) fn new(memory: &'a mut Memory) -> Driver<'a> {
-        let params = Params {
-            base: 0,
-            bytes: 0,
-            blocks: 0,
-            min: 0,
-            max: 0,
-            offsets: false,
-            unified: false,
-            lower: 0,
-            eager: false,
-            rows: classes::no_rows(),
-            count: 0,
-        };
         Driver {
-            params,
-            stands: false,
+            rows: Rows::none(),
+            params: None,
             via: None,
             memory,
         }
     }
 
     fn set_up(&mut self, rest: &str) -> Option<Reply> {
-        let start = setup::read(&self.params, Words::new(rest)?)?;
+        let start = setup::read(&self.rows, Words::new(rest)?)?;
         let reply = setup::set_up(&start, self.via, self.memory)?;
-        self.params = start.params;
-        self.stands = reply.is_done();
+        self.params = reply.is_done().then_some(start.params);
         Some(reply)
+    }
+
+    // What a call is given: the parameters of the set-up that stands, with the rows in force.
+    fn given(&self) -> Result<Params, Stop> {
+        let params = self.params.ok_or(Stop::Bad)?;
+        Ok(self.rows.with(params))
     }
 
     // `x length`, `x -`: whether the lines that follow go through the exports.
@@ -78,21 +68,19 @@ impl<'a> Driver<'a> {
 
     // `k from to cell ..`: the rows that later calls are given, set-up too.
     fn give_rows(&mut self, rest: &str) -> Option<Reply> {
-        self.params = rows::given(&self.params, Words::new(rest)?)?;
+        self.rows = Rows::read(Words::new(rest)?)?;
         Some(Reply::Done)
     }
 
-    // A line on what a set-up lent. What looks at it answers in more lines than one.
+    // A line on what a set-up lent. A match: two letters print by themselves and the others reply, so functions of one form would do both.
     fn on_space(&mut self, letter: char, rest: &str, out: &mut Out) -> Result<(), Stop> {
-        if !self.stands {
-            return Err(Stop::Bad);
-        }
-        let mut lent = self.memory.lend(&self.params);
+        let params = self.given()?;
+        let mut lent = self.memory.lend(&params);
         match (letter, rest) {
             ('D', "") => dump::all(&lent, out)?,
             ('H', "") => dump::heap_line(lent.heap, out)?,
             _ => say(
-                direct::answer(&self.params, self.via, &mut lent, letter, rest),
+                direct::answer(&params, self.via, &mut lent, letter, rest),
                 out,
             )?,
         }
@@ -101,14 +89,15 @@ impl<'a> Driver<'a> {
 
     // `z n`: the next n lines are read, and then made by one call; not through the exports.
     fn run_row(&mut self, count: usize, lines: &mut Lines, out: &mut Out) -> Result<(), Stop> {
-        if !self.stands || self.via.is_some() {
+        let params = self.given()?;
+        if self.via.is_some() {
             return Err(Stop::Bad);
         }
-        let mut lent = self.memory.lend(&self.params);
-        run_lines::run_row(&self.params, count, lines, &mut lent, out)
+        let mut lent = self.memory.lend(&params);
+        run_lines::run_row(&params, count, lines, &mut lent, out)
     }
 
-    // The line that was read last.
+    // The line that was read last. A match, as the lines change the driver, the space or nothing: as closures all would hold the driver.
     pub(crate) fn hear(&mut self, lines: &mut Lines, out: &mut Out) -> Result<(), Stop> {
         if lines.is_skipped() {
             return Ok(());
@@ -121,7 +110,7 @@ impl<'a> Driver<'a> {
         match letter {
             'x' => say(self.choose(rest), out),
             'k' => say(self.give_rows(rest), out),
-            'c' => say(rows::check(&self.params, rest), out),
+            'c' => say(self.rows.check(rest), out),
             'z' => {
                 let count = run_lines::asked(rest).ok_or(Stop::Bad)?;
                 self.run_row(count, lines, out)

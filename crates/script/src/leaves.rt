@@ -2,10 +2,10 @@
 use crate::numbers::Words;
 use crate::reply::Reply;
 use crate::rows;
-use model::{Address, Params, ROWS};
+use model::{Address, Params};
 use native_ms::{allocator, size_class};
 
-// A bin, of which the functions asked give 0 for none, as 01 does.
+// A bin, of which the functions asked give 0 for none, as 01 numbers bins: an Option made of it would be taken apart at once.
 fn bin_reply(bin: usize) -> Reply {
     if bin == 0 {
         Reply::Nothing
@@ -26,7 +26,7 @@ pub(crate) fn bin_of_words(words: Words) -> Option<Reply> {
     Some(bin_reply(usize::from(size_table::bin_of_words(count))))
 }
 
-// What alloc would not refuse as BadRequest.
+// What alloc would not refuse as BadRequest. The library's test asks for parameters known to be good, as by a rule no public function may.
 fn is_good_request(p: &Params, size: usize, align: usize, offset: usize) -> bool {
     size.is_multiple_of(p.min)
         && offset.is_multiple_of(p.min)
@@ -45,16 +45,13 @@ fn largest(p: &Params) -> Params {
     }
 }
 
-// The cell size of a bin, in bytes. Accepted rows have cells of at most a block.
+// The cell size of a bin, in bytes. The library's asks for bins and rows known to be good, as by a rule no public function may.
 fn cell_size(p: &Params, bin: usize) -> usize {
     if p.count == 0 {
         return size_class::class_bytes(bin);
     }
-    if bin == 0 || ROWS < bin {
-        return 0;
-    }
-    let row = p.rows[bin - 1];
-    if row.cell <= 8192 { 8 * row.cell } else { 0 }
+    let row = bin.checked_sub(1).and_then(|at| p.rows.get(at));
+    row.map_or(0, |row| row.cell.saturating_mul(8))
 }
 
 // `q size align`.

@@ -2,6 +2,7 @@
 use model::{Address, BINS, Params, Refusal, SETS};
 use native_ms::block_list::BlockList;
 use native_ms::{block_list, size_class};
+use std::array;
 use words::tables;
 
 // The record of a list and its bin, as the table words have it.
@@ -18,14 +19,6 @@ pub(crate) fn pages(p: &Params, words: &[usize], set: usize) -> Option<Result<us
     if set >= SETS || words.len() < BINS * set + BINS {
         return None;
     }
-    let none = BlockList {
-        first: Address(0),
-        last: Address(0),
-        size: 0,
-    };
-    let mut records = [none; BINS];
-    for bin in 0..BINS {
-        records[bin] = record(words, BINS * set + bin, bin);
-    }
+    let records: [BlockList; BINS] = array::from_fn(|bin| record(words, BINS * set + bin, bin));
     Some(block_list::pages_used(*p, words, &records))
 }

@@ -61,15 +61,6 @@ impl From<Refusal> for Reply {
     }
 }
 
-impl From<Result<(), Refusal>> for Reply {
-    fn from(answer: Result<(), Refusal>) -> Reply {
-        match answer {
-            Ok(()) => Reply::Done,
-            Err(refusal) => Reply::from(refusal),
-        }
-    }
-}
-
 impl From<Result<usize, Refusal>> for Reply {
     fn from(answer: Result<usize, Refusal>) -> Reply {
         match answer {

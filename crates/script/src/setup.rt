@@ -1,9 +1,10 @@
 // `setup base log_block_bytes blocks MIN MAX use_offset unified L seed eager`.
 use crate::numbers::Words;
 use crate::reply::Reply;
+use crate::rows::Rows;
 use crate::space::Memory;
 use crate::{direct, fill, rows, space, through};
-use exports::Entry;
+use exports::{Entry, call};
 use model::{Params, Refusal};
 
 // What a set-up asks for: its parameters, whether good or off, with the rows in force; and the seed of the heap's bytes.
@@ -14,7 +15,7 @@ pub(crate) struct Start {
 }
 
 // The set-up of a line. The eager word may be left out, and is 0 then.
-pub(crate) fn read(now: &Params, mut words: Words) -> Option<Start> {
+pub(crate) fn read(rows: &Rows, mut words: Words) -> Option<Start> {
     let [base, log, blocks, min, max] = words.take::<5>()?;
     let offsets = words.flag()?;
     let unified = words.flag()?;
@@ -35,7 +36,8 @@ pub(crate) fn read(now: &Params, mut words: Words) -> Option<Start> {
         unified,
         lower,
         eager,
-        ..*now
+        rows: rows.table,
+        count: rows.count,
     };
     Some(Start { params, seed })
 }
@@ -53,7 +55,7 @@ fn beyond(p: &Params, via: Option<usize>) -> Option<Reply> {
     match rows::verdict(p) {
         Reply::Done => None,
         Reply::Refused(_) => Some(refused(via, Refusal::BadSetup)),
-        _ if via.is_none_or(|length| length == through::ANSWER_BYTES) => {
+        _ if via.is_none_or(|length| length == call::ANSWER_BYTES) => {
             Some(refused(via, Refusal::BadClasses))
         }
         _ => Some(refused(via, Refusal::BadSetup)),

@@ -6,12 +6,12 @@ pub(crate) const BLOCKS: usize = 1024;
 
 pub(crate) const WORDS: usize = HEAD_WORDS + BLOCK_TABLES * BLOCKS;
 
-pub(crate) const MARKS: usize = HEAP / MARKED;
+pub(crate) const MARKS: usize = HEAP / BYTES_OF_A_MARK;
 
 pub(crate) const HEAP: usize = 4194304;
 
 // How many heap bytes share a mark byte.
-const MARKED: usize = 64;
+const BYTES_OF_A_MARK: usize = 64;
 
 // All of it.
 #[derive(Drop)]
@@ -57,7 +57,7 @@ impl Memory {
                 HEAD_WORDS + BLOCK_TABLES * blocks,
             ),
             states: first(self.states.as_mut_slice(), blocks),
-            marks: first(self.marks.as_mut_slice(), bytes / MARKED),
+            marks: first(self.marks.as_mut_slice(), bytes / BYTES_OF_A_MARK),
             heap: first(self.heap.as_mut_slice(), bytes),
         }
     }

@@ -8,6 +8,7 @@ ghost use Rattle.std.specs.Prelude.{◌<◌, ◌≤◌};
 
 use model::{Address, Params};
 use native_ms::{allocator, classes, size_class};
+use std::fmt;
 use std::io::Result;
 
 // Sizes from 0 to 65,544, and word counts from 0 to 8,200.
@@ -19,158 +20,186 @@ const OFFSETS: usize = 33;
 
 const REGIONS: usize = 16;
 
-// The checksum h with one more number: h × 1,000,003 + x modulo a prime.
-fn mixed(h: usize, x: usize) -> usize
-    requires { h < 4294967291 }
-    ensures { result < 4294967291 }
-{
-    (h * 1000003 + x % 4294967291) % 4294967291
+// MAX and the align go over these, from MIN on.
+const POWERS: [usize; 5] = [4, 8, 16, 32, 64];
+
+// A prime.
+const MODULUS: usize = 4294967291;
+
+// A checksum: each number more makes h into h × 1,000,003 + x modulo a prime.
+#[derive(Clone, Copy)]
+struct Checksum {
+    h: usize,
+    ghost low: { h < 4294967291 },
 }
 
-// Of the answers to every question below n.
-fn checksum<F: Fn(usize) -> usize>(n: usize, answer: F) -> usize
-    requires { F.IsAlwaysCallable answer }
-{
-    let mut h: usize = 0;
-    for question in 0..n {
-        h = mixed(h, answer(question));
+impl Checksum {
+    fn new() -> Checksum {
+        Checksum { h: 0 }
     }
-    h
+
+    fn and(self, x: usize) -> Checksum {
+        Checksum {
+            h: (self.h * 1000003 + x % MODULUS) % MODULUS,
+        }
+    }
+
+    // Of the answers to every question below n.
+    fn of<F: Fn(usize) -> usize>(n: usize, answer: F) -> Checksum
+        requires { F.IsAlwaysCallable answer }
+    {
+        let mut sum = Checksum::new();
+        for question in 0..n {
+            sum = sum.and(answer(question));
+        }
+        sum
+    }
 }
 
-fn bins() -> usize {
-    checksum(SIZES, |size| size_class::mi_bin_from_size(size))
+impl fmt::Display for Checksum {
+    fn fmt<W: fmt::Write>(&self, f: &mut fmt::Formatter<W>) -> fmt::Result {
+        let h = self.h;
+        write!(f, "{h}")
+    }
+}
+
+fn bins() -> Checksum {
+    Checksum::of(SIZES, |size| size_class::mi_bin_from_size(size))
 }
 
 // By look-up in the table, taken once: each of its entries, and eight counts past it.
-fn entries() -> usize {
+fn entries() -> Checksum {
     let table = size_table::bin_table();
-    checksum(
+    Checksum::of(
         WORD_COUNTS,
         |words| usize::from(size_table::bin_in(&table, words)),
     )
 }
 
 // The same counts, each by a call of its own.
-fn bins_of_words() -> usize {
-    checksum(
+fn bins_of_words() -> Checksum {
+    Checksum::of(
         WORD_COUNTS,
         |words| usize::from(size_table::bin_of_words(words)),
     )
 }
 
-// One raised size, its bin and its cell size; three zeros where there is none.
-fn raised(h: usize, p: Params, size: usize, align: usize) -> usize
-    requires { h < 4294967291 }
-    ensures { result < 4294967291 }
-{
-    match allocator::get_maximum_aligned_size(p, size, align) {
-        None => mixed(mixed(mixed(h, 0), 0), 0),
-        Some(n) => {
-            let bin = size_class::mi_bin_from_size(n);
-            mixed(mixed(mixed(h, n), bin), size_class::class_bytes(bin))
+// What a line is about.
+#[derive(Clone, Copy)]
+struct Asked {
+    p: Params,
+    align: usize,
+    ghost some: { 0 < p.min },
+    ghost few: { p.min ≤ 8 },
+}
+
+impl Asked {
+    // One raised size, its bin and its cell size; three zeros where there is none.
+    fn raised(&self, sum: Checksum, size: usize) -> Checksum {
+        match allocator::get_maximum_aligned_size(self.p, size, self.align) {
+            None => sum.and(0).and(0).and(0),
+            Some(n) => {
+                let bin = size_class::mi_bin_from_size(n);
+                sum.and(n).and(bin).and(size_class::class_bytes(bin))
+            }
         }
     }
+
+    // Every size that is a multiple of MIN.
+    fn sizes(&self) -> Checksum {
+        let mut sum = Checksum::new();
+        for size in (0..SIZES).step_by(self.p.min) {
+            sum = self.raised(sum, size);
+        }
+        sum
+    }
+
+    fn shifted(&self, sum: Checksum, region: usize, offset: usize) -> Checksum {
+        let shifted = allocator::shift_address(Address(region), self.align, offset);
+        sum.and(shifted.map_or(0, |a| a.0))
+    }
+
+    // The offsets from `first` on, in steps of MIN.
+    fn offsets(&self, sum: Checksum, region: usize, first: usize) -> Checksum
+        requires { first ≤ 65536 }
+    {
+        let mut sum = sum;
+        for k in 0..OFFSETS {
+            sum = self.shifted(sum, region, first + k * self.p.min);
+        }
+        sum
+    }
+
+    // The regions from `from` on, in steps of 8.
+    fn regions(&self, sum: Checksum, from: usize, first: usize) -> Checksum
+        requires { (from ≤ 140737488355328) × (first ≤ 65536) }
+    {
+        let mut sum = sum;
+        for k in 0..REGIONS {
+            sum = self.offsets(sum, from + 8 * k, first);
+        }
+        sum
+    }
 }
 
-// Every size that is a multiple of MIN.
-fn sizes(p: Params, min: usize, align: usize) -> usize
-    requires { (0 < min) × (min ≤ 8) }
-{
-    let mut h: usize = 0;
-    for size in (0..SIZES).step_by(min) {
-        h = raised(h, p, size, align);
-    }
-    h
-}
-
-fn shifted(h: usize, region: usize, align: usize, offset: usize) -> usize
-    requires { h < 4294967291 }
-    ensures { result < 4294967291 }
-{
-    match allocator::shift_address(Address(region), align, offset) {
-        None => mixed(h, 0),
-        Some(a) => mixed(h, a.0),
-    }
-}
-
-// The offsets from `first` on, in steps of MIN.
-fn offsets(h: usize, region: usize, min: usize, align: usize, first: usize) -> usize
-    requires { (h < 4294967291) × (min ≤ 8) × (first ≤ 65536) }
-    ensures { result < 4294967291 }
-{
-    let mut g = h;
-    let mut offset = first;
-    for _ in 0..OFFSETS {
-        g = shifted(g, region, align, offset);
-        offset += min;
-    }
-    g
-}
-
-// The regions from `from` on, in steps of 8.
-fn regions(h: usize, from: usize, min: usize, align: usize, first: usize) -> usize
-    requires { (h < 4294967291) × (from ≤ 140737488355328) × (min ≤ 8) × (first ≤ 65536) }
-    ensures { result < 4294967291 }
-{
-    let mut g = h;
-    for k in 0..REGIONS {
-        g = offsets(g, from + 8 * k, min, align, first);
-    }
-    g
+// A MIN.
+#[derive(Clone, Copy)]
+struct Min {
+    bytes: usize,
+    ghost some: { 0 < bytes },
+    ghost few: { bytes ≤ 8 },
 }
 
 // The line of one MIN, MAX and align.
-fn line(rt: &impl Print, min: usize, max: usize, align: usize) -> Result<()>
-    requires { (0 < min) × (min ≤ 8) }
-{
-    let p = Params {
-        base: 65536,
-        bytes: 65536,
-        blocks: 1,
-        min,
-        max,
-        offsets: false,
-        unified: true,
-        lower: 0,
-        eager: false,
-        rows: classes::no_rows(),
-        count: 0,
+fn line(rt: &impl Print, min: Min, max: usize, align: usize) -> Result<()> {
+    let min = min.bytes;
+    let asked = Asked {
+        p: Params {
+            base: 65536,
+            bytes: 65536,
+            blocks: 1,
+            min,
+            max,
+            offsets: false,
+            unified: true,
+            lower: 0,
+            eager: false,
+            rows: classes::no_rows(),
+            count: 0,
+        },
+        align,
     };
-    let all = sizes(p, min, align);
-    let low = regions(0, 8, min, align, 0);
-    let high = regions(low, 140737488355200, min, align, 65536 - 32 * min);
+    let all = asked.sizes();
+    let low = asked.regions(Checksum::new(), 8, 0);
+    let high = asked.regions(low, 140737488355200, 65536 - 32 * min);
     println!(rt; "{min} {max} {align} {all} {high}")
 }
 
-fn aligns(rt: &impl Print, min: usize, max: usize) -> Result<()>
-    requires { (0 < min) × (min ≤ 8) × (max ≤ 64) }
+// Each power of two from low to high.
+fn each_power<F: Fn(usize) -> Result<()>>(low: usize, high: usize, step: F) -> Result<()>
+    requires { F.IsAlwaysCallable step }
 {
-    // Doubled each turn: a range of exponents would be no plainer.
-    let mut align = min;
-    while align <= max {
-        line(rt, min, max, align)?;
-        align *= 2;
+    for power in POWERS {
+        if low <= power && power <= high {
+            step(power)?;
+        }
     }
     Ok(())
 }
 
-fn maxes(rt: &impl Print, min: usize) -> Result<()>
-    requires { (0 < min) × (min ≤ 8) }
-{
-    let mut max = min;
-    while max <= 64 {
-        aligns(rt, min, max)?;
-        max *= 2;
-    }
-    Ok(())
+fn lines(rt: &impl Print, min: Min) -> Result<()> {
+    each_power(
+        min.bytes,
+        64,
+        |max| each_power(min.bytes, max, |align| line(rt, min, max, align)),
+    )
 }
 
 fn all(rt: &impl Print) -> Result<()> {
     println!(rt; "{}", bins())?;
     println!(rt; "{} {}", entries(), bins_of_words())?;
-    maxes(rt, 4)?;
-    maxes(rt, 8)
+    lines(rt, Min { bytes: 4 })?;
+    lines(rt, Min { bytes: 8 })
 }
 
 fn main(rt: HostRuntime) {

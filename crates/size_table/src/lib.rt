@@ -16,7 +16,7 @@ pub fn bin_table() -> [u8; ENTRIES]
 }
 
 // The bin of a count of words, by a table that the caller holds: one load, and 0 past the table's end.
-// Not `table.get(words).copied().unwrap_or(0)`: that is no plainer, and the edit past_the_end stands on the test.
+// The test is spelled out: by `get` it would be the same test, no plainer, and the must-fail edit of it could not be written.
 pub fn bin_in(table: &[u8], words: usize) -> u8
     ensures { table.now ≡ bin_table → result ≡ bin_of_words words }
 {

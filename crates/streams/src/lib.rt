@@ -19,6 +19,7 @@ pub fn read_input(from: Stdin, buf: &mut [u8]) -> Result<usize, Cut>
 {
     let mut input = from;
     let mut n: usize = 0;
+    // a `while`: n grows by what each read gives, so that a `for` would have nothing to count
     while n < buf.len() {
         let Ok(more) = input.read(&mut buf[n..]) else {
             return Err(Cut { len: n });

@@ -3,11 +3,11 @@ use mathlib.Core.Path.{◌≡◌, refl, sym}
 use mathlib.Core.Bool.{true, false}
 use mathlib.Core.Logic.{◌⊎◌, inl, inr}
 use mathlib.Core.List.{List, [], ◌∷◌}
-use Prim.Native.Nat.{ℕ, suc, ◌+◌, ◌-◌, ◌≤◌, ◌<◌}
+use Prim.Native.Nat.{ℕ, ◌+◌, ◌-◌, ◌≤◌, ◌<◌}
 use native.Mathlib.Omega.{arith}
 use lib.Dec.{ltb}
-use lib.ListN.{length, take, drop}
-use lib.Seq.{take-nil}
+use lib.ListN.{length, take, drop, length-drop}
+use lib.Seq.{take_all}
 use borrow.Author.Tests.{ltb-true, ltb-false, lt-ltb, le-ltb}
 use Rattle.model.specs.Census.{newline}
 use Rattle.laws.proofs.Below.{test}
@@ -82,17 +82,9 @@ next_over s at h = go (test (ltb at (length s)))
     go (inl y) = absurd (not_line _ (sym (rw y at h)))
     go (inr z) = lines_end s at (ltb-false _ _ z)
 
--- ---- a loop over lines: n are passed, at most `limit` are read
-
-module _ (limit n : ℕ) (s : List ℕ) (at : ℕ) where
-  pub left_round : (line : Line) → n < limit → next_line s at ≡ Some line
-      → take (limit - n) (lines_from s at) ≡ line_bytes s line.from line.to ∷ take (limit - (n + 1)) (lines_from s line.next)
-  left_round line l e =
-      let d : limit - n ≡ suc (limit - (n + 1)) = omega arith in
-      rw (d, (next_step s at line e).rest)
-
-  pub left_none : next_line s at ≡ None → take (limit - n) (lines_from s at) ≡ []
-  left_none e = rw (next_over s at e) (take-nil (limit - n))
-
-  pub left_end : limit ≤ n → take (limit - n) (lines_from s at) ≡ []
-  left_end l = let d : limit - n ≡ 0 = omega arith in rw d
+-- the lines of what is left behind a place
+pub left_behind : (s : List ℕ) (at : ℕ) → lines_from (take (length s - at) (drop at s)) 0 ≡ lines_from s at
+unfolding lines_from
+left_behind s at =
+    let all : take (length s - at) (drop at s) ≡ drop at s = take_all (length s - at) (drop at s) (rw length-drop (omega arith)) in
+    rw all

@@ -1,22 +1,23 @@
 -- The words of a line: pieces by what is left of the line. Assumes nothing.
-use mathlib.Core.Path.{◌≡◌, refl, sym}
+use mathlib.Core.Path.{◌≡◌, refl, sym, ap, ◌∙◌}
 use mathlib.Core.Bool.{Bool, true, false}
 use mathlib.Core.List.{List, [], ◌∷◌}
-use Prim.Native.Nat.{ℕ, zero, suc, ◌+◌, ◌-◌, ◌≤◌, ◌<◌}
-use native.Mathlib.Nat.{not-suc-le-zero}
-use native.Mathlib.Numerals.{add-one}
+use Prim.Native.Nat.{ℕ, suc, ◌+◌}
 use native.Mathlib.Omega.{arith}
 use lib.Dec.{eqb, ltb}
-use lib.ListN.{length, get_or, take, drop}
-use borrow.Author.Tests.{lt-ltb, le-ltb, ltb-false}
-use Rattle.std.specs.Prelude.{if◌then◌else◌, ◌==◌, cond, unwrap_or, position, count_by}
-use Rattle.std.specs.List.{position_or_len}
-use Rattle.std.proofs.lemmas.List.Recursion.{is_position_or_len, is_count_by}
+use lib.ListN.{length, get_or}
+use borrow.Author.Tests.{ltb-false}
+use denote.Ref.{Bor}
+use Rattle.std.specs.Prelude.{if◌then◌else◌, ◌==◌, cond, Option, Some, None, unwrap_or, position}
+use Rattle.std.specs.Option.{option_map}
+use Rattle.std.specs.List.{position_or_len, slice_get, slice_split, onto_first}
+use Rattle.std.proofs.lemmas.Option.{unwrap_or-slice_get}
+use Rattle.std.proofs.lemmas.List.Recursion.{is_position_or_len}
 use Rattle.model.specs.Census.{before, pieces}
 use Rattle.model.specs.Text.{until}
 use mathlib.Core.Logic.{◌⊎◌, inl, inr}
 use Rattle.laws.proofs.Below.{test}
-use Rattle.laws.proofs.Text.{behind, pieces_step, until_le}
+use Rattle.laws.proofs.Text.{until_le}
 
 -- how many bytes stand before the first separator, by the library's words
 first_or_end : (sep : ℕ) (xs : List ℕ) → until sep xs ≡ position_or_len (λ x. x == sep) xs
@@ -35,44 +36,30 @@ until_first sep xs = go (test (ltb (position_or_len (λ x. x == sep) xs) (length
     go (inl y) = rw y (sym (first_or_end sep xs))
     go (inr z) = rw z (omega (arith, ltb-false _ _ z, first_or_end sep xs, until_le sep xs))
 
--- ---- the words of what is left
+-- ---- the words of a line
 
-module _ (rest : List ℕ) where
-  pub word_here : take (until 32 rest) rest ≡ get_or (pieces 32 rest) 0 []
-  word_here = rw pieces_step
-
-  pub word_none : (k : ℕ) → 0 < k → length rest ≤ until 32 rest → [] ≡ get_or (pieces 32 rest) k []
-  unfolding behind
-  word_none zero l m = absurd (not-suc-le-zero l)
-  word_none (suc k) l m = rw (pieces_step, le-ltb (until 32 rest) (length rest) m)
-
-  pub word_next : (k : ℕ) → 0 < k → until 32 rest < length rest
-      → get_or (pieces 32 (drop (until 32 rest + 1) rest)) (k - 1) [] ≡ get_or (pieces 32 rest) k []
-  unfolding behind
-  word_next zero l m = absurd (not-suc-le-zero l)
-  word_next (suc k) l m =
-      let d : suc k - 1 ≡ k = omega arith in
-      let e : pieces 32 rest ≡ take (until 32 rest) rest ∷ pieces 32 (drop (suc (until 32 rest)) rest) = rw (pieces_step 32 rest, lt-ltb (until 32 rest) (length rest) m) in
-      rw (d, e, add-one (until 32 rest))
-
--- ---- how many there are
-
-some_pieces : (sep : ℕ) (xs : List ℕ) → 0 < length (pieces sep xs)
-some_pieces sep xs = rw pieces_step (omega arith)
-
-length_before : (byte sep : ℕ) (bytes : List ℕ) → length (before byte (pieces sep bytes)) ≡ length (pieces sep bytes)
-unfolding before
-length_before byte sep bytes = rw pieces_step
-
--- those behind the first
-behind_first : (sep : ℕ) (xs : List ℕ) → length (pieces sep xs) - 1 ≡ count_by (λ x. x == sep) xs
-unfolding pieces
-behind_first sep xs = is_count_by (λ ys. length (pieces sep ys) - 1) (λ x. x == sep) refl (λ x ys. go x ys (eqb x sep)) xs
+-- the pieces, by the library's word
+pub split_pieces : (sep : ℕ) (xs : List ℕ) → slice_split (λ x. x == sep) xs ≡ pieces sep xs
+unfolding pieces before
+split_pieces sep [] = refl
+split_pieces sep (x ∷ xs) = go (eqb x sep) (slice_split (λ y. y == sep) xs) (split_pieces sep xs)
   where
-    go : (x : ℕ) (ys : List ℕ) (b : Bool) → length (if b then ([] ∷ pieces sep ys) else before x (pieces sep ys)) - 1
-        ≡ cond b (1 + (length (pieces sep ys) - 1)) (length (pieces sep ys) - 1)
-    go x ys true = omega (arith, some_pieces sep ys)
-    go x ys false = omega (arith, length_before x sep ys)
+    first : (ys : List (List ℕ)) → onto_first x ys ≡ before x ys
+    first [] = refl
+    first (y ∷ ys) = refl
 
-pub count_pieces : (sep : ℕ) (xs : List ℕ) → 1 + count_by (λ x. x == sep) xs ≡ length (pieces sep xs)
-count_pieces sep xs = omega (arith, behind_first sep xs, some_pieces sep xs)
+    go : (b : Bool) (ys : List (List ℕ)) → ys ≡ pieces sep xs → cond b ([] ∷ ys) (onto_first x ys) ≡ (if b then ([] ∷ pieces sep xs) else before x (pieces sep xs))
+    go true ys e = ap (λ (zs : List (List ℕ)). [] ∷ zs) e
+    go false ys e = first ys ∙ ap (before x) e
+
+-- what the library finds at a place, or nothing
+pub word_found : (xs : List ℕ) (k : ℕ) (r : Option (Bor (List ℕ))) (d : Bor (List ℕ)) {w : Bor (List ℕ)} → d.now ≡ []
+    → option_map (λ (x : Bor (List ℕ)). x.now) r ≡ slice_get (slice_split (λ x. x == 32) xs) k → w ≡ unwrap_or r d
+    → w.now ≡ get_or (pieces 32 xs) k []
+word_found xs k r d z e f =
+    ap (λ (x : Bor (List ℕ)). x.now) f ∙ go r ∙ ap (λ (o : Option (List ℕ)). unwrap_or o []) e
+    ∙ unwrap_or-slice_get (slice_split (λ x. x == 32) xs) k [] ∙ ap (λ (ws : List (List ℕ)). get_or ws k []) (split_pieces 32 xs)
+  where
+    go : (r : Option (Bor (List ℕ))) → (unwrap_or r d).now ≡ unwrap_or (option_map (λ (x : Bor (List ℕ)). x.now) r) []
+    go None = z
+    go (Some x) = refl

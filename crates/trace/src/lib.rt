@@ -3,13 +3,14 @@
 #![tactic(auto)]
 
 ghost use Rattle.model.specs.Census.{census};
-ghost use Rattle.model.specs.Promise.{lend};
 ghost use Rattle.model.specs.Text.{Printed};
 ghost use Rattle.model.specs.Text.{Listed, Whole};
 ghost use Rattle.trace.specs.Census.{listed_from};
+ghost use Rattle.trace.specs.Run.{lent_in};
 
-use listing::{Standing, space};
+use listing::space;
 use native_ms::global;
+use run::Buffers;
 
 mod line_words;
 pub mod lines;
@@ -32,36 +33,31 @@ const MARKS: usize = 256;
 const HEAP: usize = 16384;
 
 // Sets up on what is lent, runs the trace and lists what stands then.
-fn run_and_list(
-    trace: &[u8],
-    out: &mut [u8],
-    words: &mut [usize],
-    states: &mut [u8],
-    marks: &mut [u8],
-    heap: &mut [u8],
-) -> usize
-    ensures { Printed out.old out.new 0 result (listed_from (lend words.old states.old marks.old heap.old) trace.now) }
+fn run_and_list(trace: &[u8], out: &mut [u8], buffers: &mut Buffers) -> usize
+    ensures { Printed out.old out.new 0 result (listed_from (lent_in buffers.old) trace.now) }
 {
-    let _ = global::set_up(space::params(), words, states, marks, heap);
-    let refused = run::run(trace, words, states, marks, heap);
-    let standing = Standing {
-        words,
-        states,
-        marks,
-        heap,
-    };
-    listing::listing(out, refused.as_slice(), &standing)
+    let _ = global::set_up(
+        space::params(),
+        &mut buffers.words,
+        &mut buffers.states,
+        &mut buffers.marks,
+        &buffers.heap,
+    );
+    let refused = buffers.run(trace);
+    listing::listing(out, refused.as_slice(), &buffers.standing())
 }
 
 // The listing of a trace, as many of its bytes as the buffer holds. The answer is how many.
 pub fn census(trace: &[u8], out: &mut [u8]) -> usize
     ensures { Listed out.old out.new result (census trace.now) }
 {
-    let mut words = [0usize; WORDS];
-    let mut states = [0u8; space::BLOCKS];
-    let mut marks = [0u8; MARKS];
-    let mut heap = [0u8; HEAP];
-    run_and_list(trace, out, &mut words, &mut states, &mut marks, &mut heap)
+    let mut buffers = Buffers {
+        words: [0; WORDS],
+        states: [0; space::BLOCKS],
+        marks: [0; MARKS],
+        heap: [0; HEAP],
+    };
+    run_and_list(trace, out, &mut buffers)
 }
 
 // The same in a buffer that holds every listing.

@@ -34,22 +34,14 @@ pub(crate) fn piece_end(s: &[u8], sep: u8, at: usize) -> usize
 pub(crate) fn count(s: &[u8]) -> usize
     ensures { result ≡ length (pieces space s.now) }
 {
-    1 + s.iter().filter(|b| **b == b' ').count()
+    s.split(|b| *b == b' ').count()
 }
 
 // The word k; blank if there are fewer.
 pub(crate) fn word(s: &[u8], k: usize) -> &[u8]
     ensures { result.now ≡ get_or (pieces space s.now) k [] }
 {
-    let mut rest = s;
-    for _ in 0..k {
-        let e = until(rest, b' ');
-        if e == rest.len() {
-            return &[];
-        }
-        rest = from(rest, e + 1);
-    }
-    &rest[..until(rest, b' ')]
+    s.split(|b| *b == b' ').nth(k).unwrap_or(&[])
 }
 
 // The letter that a word is; none if it has another length.

@@ -1,5 +1,6 @@
 // The lines of a trace: where each begins and ends, and what it asks.
-ghost use Rattle.std.specs.Prelude.{◌≡◌, [], ltb, length, get_or, take};
+ghost use Rattle.std.specs.Prelude.{◌≡◌, [], length, get_or, take};
+ghost use Rattle.std.specs.Iterator.{YieldsFirstRef, at_most};
 ghost use Rattle.model.specs.Text.{lines_from};
 ghost use Rattle.model.specs.Answers.{call_of};
 ghost use Rattle.model.specs.Census.{pieces, space, line_of, unread};
@@ -10,7 +11,8 @@ ghost use Rattle.trace.specs.Lines.{next_line};
 use crate::{LINES, TRACE_BYTES, line_words, numbers};
 use model::{Ask, Block, Request};
 
-// A line of a trace, from its first byte to before its newline, with the place of the next. Places, since an equation can say them.
+// A line of a trace, from its first byte to before its newline, with the place of the next. Places and no
+// slices: what `next_line` promises is then one equation.
 #[derive(Clone, Copy)]
 pub struct Line {
     pub from: usize,
@@ -40,25 +42,40 @@ pub fn next_line(s: &[u8], at: usize) -> Option<Line>
     Some(Line { from: at, to, next })
 }
 
-// Whether a line is left behind the first 256.
-fn line_left(s: &[u8]) -> bool
-    ensures { result ≡ ltb 256 (length (lines_from s.now 0)) }
-{
-    let mut at: usize = 0;
-    for n in 0..LINES {
-        let Some(line) = next_line(s, at) else {
-            return false;
-        };
-        at = line.next;
+// The lines of what is left of a trace, one after the other.
+#[derive(Drop)]
+pub struct LinesLeft<'a> {
+    rest: &'a [u8],
+}
+
+impl<'a> LinesLeft<'a> {
+    pub fn of(s: &'a [u8]) -> LinesLeft<'a>
+        ensures { result.rest.now ≡ s.now }
+    {
+        LinesLeft { rest: s }
     }
-    at < s.len()
+}
+
+impl<'a> Iterator for LinesLeft<'a> {
+    type Item = &'a [u8];
+
+    ghost next_gives = { YieldsFirstRef (λ s. lines_from s.rest.now 0) };
+
+    ghost remaining = { λ s. at_most (length s.rest.now) };
+
+    fn next(&mut self) -> Option<&'a [u8]> {
+        let line = next_line(self.rest, 0)?;
+        let bytes = &self.rest[line.from..line.to];
+        self.rest = &self.rest[line.next..];
+        Some(bytes)
+    }
 }
 
 // Whether a trace has a rest that is unread.
 pub fn unread(s: &[u8]) -> bool
     ensures { result ≡ unread s.now }
 {
-    TRACE_BYTES < s.len() || line_left(read_part(s))
+    TRACE_BYTES < s.len() || LINES < LinesLeft::of(read_part(s)).count()
 }
 
 fn number_at(s: &[u8], k: usize) -> Option<usize>
@@ -132,7 +149,8 @@ fn ask_alloc(s: &[u8]) -> Option<Ask>
     })
 }
 
-// What a line asks; nothing, if it has another form.
+// What a line asks; nothing, if it has another form. A match: each letter is another call with other arguments, so that a table of
+// functions would say no less.
 pub fn parse(s: &[u8]) -> Option<Ask>
     ensures { line_for result ≡ line_of (pieces space s.now) }
 {

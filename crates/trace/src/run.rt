@@ -1,79 +1,81 @@
 // A trace's lines, run one after the other: each makes the call that it asks for, on the space of the census.
-ghost use Rattle.std.specs.Prelude.{◌≡◌, ◌<◌, ◌++◌, take};
-ghost use Rattle.arrayvec.specs.ArrayVec.{array_vec_len};
+ghost use Rattle.std.specs.Prelude.{◌≡◌, take};
 ghost use Rattle.model.specs.Census.{lines_of, run_lines};
 ghost use Rattle.model.specs.Text.{lines_from};
-ghost use Rattle.model.specs.Promise.{lend};
 ghost use Rattle.trace.specs.Line.{line_for};
-ghost use Rattle.trace.specs.Run.{LineRan, TraceRan, kept};
+ghost use Rattle.trace.specs.Run.{lent_in, LineRan, TraceRan};
 
-use crate::{LINES, lines};
+use crate::lines::{self, LinesLeft};
+use crate::{HEAP, LINES, MARKS, WORDS};
 use arrayvec::ArrayVec;
 use listing::print::Refused;
-use listing::space;
+use listing::{Standing, space};
 use model::{Ask, Refusal};
 
-// Makes the call that a line asks for. The answer is the number that the listing prints: the
-// refusal's as the call says it, 0 for none.
-fn run_line(
-    words: &mut [usize],
-    states: &mut [u8],
-    marks: &mut [u8],
-    heap: &mut [u8],
-    line: Option<Ask>,
-) -> usize
-    ensures { LineRan (lend words.old states.old marks.old heap.old) (line_for line) result (lend words.new states.new marks.new heap.new) }
-{
-    let Some(ask) = line else {
-        return usize::from(Refusal::BadLine);
-    };
-    calls::perform(space::params(), words, states, marks, heap, ask).number
+// What is lent to the calls: as much as the census's space takes.
+// The programs that replay own theirs, of other lengths or as bytes: what these structs share is the names of four fields.
+#[derive(Drop)]
+pub(crate) struct Buffers {
+    pub words: [usize; WORDS],
+    pub states: [u8; space::BLOCKS],
+    pub marks: [u8; MARKS],
+    pub heap: [u8; HEAP],
 }
 
-// Keeps a line, if it was refused.
-#[tactic(auto, using(crate::proofs::RunLaws::kept_one, crate::proofs::RunLaws::kept_none))]
-fn keep(refused: &mut ArrayVec<Refused, LINES>, line: usize, number: usize)
-    requires { array_vec_len refused.old < 256 }
-    ensures { refused.new.items ≡ refused.old.items ++ kept line number }
-{
-    if number != 0 {
-        refused.push(Refused { line, number });
+impl Buffers {
+    pub(crate) fn standing(&self) -> Standing<'_>
+        ensures words { result.words.now ≡ self.now.words }
+        ensures states { result.states.now ≡ self.now.states }
+        ensures marks { result.marks.now ≡ self.now.marks }
+        ensures heap { result.heap.now ≡ self.now.heap }
+    {
+        Standing {
+            words: &self.words,
+            states: &self.states,
+            marks: &self.marks,
+            heap: &self.heap,
+        }
     }
-}
 
-// Runs the lines of what was read.
-fn run_read(
-    s: &[u8],
-    words: &mut [usize],
-    states: &mut [u8],
-    marks: &mut [u8],
-    heap: &mut [u8],
-) -> ArrayVec<Refused, LINES>
-    ensures { TraceRan (run_lines 1 (take 256 (lines_from s.now 0)) (lend words.old states.old marks.old heap.old)) result.items (lend words.new states.new marks.new heap.new) }
-{
-    let mut refused = ArrayVec::new();
-    let mut at: usize = 0;
-    for n in 0..LINES {
-        let Some(line) = lines::next_line(s, at) else {
-            return refused;
+    // Makes the call that a line asks for. If it is refused, the answer is the number that the listing prints: `perform` gives it, so that a
+    // Refusal would be made of it and unmade at once.
+    fn run_line(&mut self, line: Option<Ask>) -> Option<usize>
+        ensures { LineRan (lent_in self.old) (line_for line) result (lent_in self.new) }
+    {
+        let Some(ask) = line else {
+            return Some(usize::from(Refusal::BadLine));
         };
-        let ask = lines::parse(&s[line.from..line.to]);
-        let number = run_line(words, states, marks, heap, ask);
-        keep(&mut refused, n + 1, number);
-        at = line.next;
+        let said = calls::perform(
+            space::params(),
+            &mut self.words,
+            &mut self.states,
+            &mut self.marks,
+            &mut self.heap,
+            ask,
+        );
+        (said.number != 0).then_some(said.number)
     }
-    refused
-}
 
-// Runs a trace's lines one after the other. The answer is those that were refused.
-pub(crate) fn run(
-    trace: &[u8],
-    words: &mut [usize],
-    states: &mut [u8],
-    marks: &mut [u8],
-    heap: &mut [u8],
-) -> ArrayVec<Refused, LINES>
-    ensures { TraceRan (run_lines 1 (lines_of trace.now) (lend words.old states.old marks.old heap.old)) result.items (lend words.new states.new marks.new heap.new) }
-{
-    run_read(lines::read_part(trace), words, states, marks, heap)
+    // Runs the lines of what was read.
+    fn run_read(&mut self, s: &[u8]) -> ArrayVec<Refused, LINES>
+        ensures { TraceRan (run_lines 1 (take 256 (lines_from s.now 0)) (lent_in self.old)) result.items (lent_in self.new) }
+    {
+        let mut refused = ArrayVec::new();
+        for (n, line) in LinesLeft::of(s).take(LINES).enumerate() {
+            if let Some(number) = self.run_line(lines::parse(line)) {
+                refused.push(Refused {
+                    line: n + 1,
+                    number,
+                });
+            }
+        }
+        refused
+    }
+
+    // Runs a trace's lines one after the other. The answer is those that were refused.
+    pub(crate) fn run(&mut self, trace: &[u8]) -> ArrayVec<Refused, LINES>
+        ensures { TraceRan (run_lines 1 (lines_of trace.now) (lent_in self.old)) result.items (lent_in self.new) }
+    {
+        self.run_read(lines::read_part(trace))
+    }
 }

@@ -5,12 +5,12 @@ use Prim.Native.Nat.{ℕ, zero, suc, ◌+◌, ◌-◌, ◌/◌, ◌%◌, ◌≤�
 use native.Mathlib.Nat.{not-suc-le-zero, le_of_suc-le-suc, div-div-eq-div-mul}
 use native.Mathlib.Decide.{dec_lt}
 use native.Mathlib.Omega.{arith}
-use lib.ListN.{length, get_or, replicate, take, drop, length-drop}
-use lib.Seq.{length-take-le}
-use Rattle.std.proofs.lemmas.List.{get_or-take, get_or-drop}
+use lib.ListN.{length, get_or, replicate, take, drop, length-drop, length-replicate, get_or-append, get_or-eq_default}
+use lib.Seq.{length-take-le, get_or-append_right}
+use Rattle.std.proofs.lemmas.List.{get_or-take, get_or-drop, get_or-replicate}
 use borrow.Rule.Slice.PartMut.{put_mid}
-use Rattle.std.specs.Int.{w64, to_le_bytes}
-use Rattle.model.specs.Memory.{bytes_of, overwrite}
+use Rattle.std.specs.Int.{w64, to_le_bytes, from_le_bytes}
+use Rattle.model.specs.Memory.{bytes_of, load_bytes, overwrite}
 use Rattle.laws.proofs.Memory.{overwrite_nil, zeros_short}
 
 over_front : (vs h : List ℕ) → length vs ≤ length h → vs ++ drop (length vs) h ≡ overwrite 0 vs h
@@ -63,3 +63,54 @@ take_bytes (suc n) (suc m) v l = ap (λ (k : List ℕ). v % 256 ∷ k) (take_byt
 -- the low bytes of a word, as the library has them
 pub word_bytes : (n v : ℕ) → n ≤ 8 → take n (to_le_bytes w64 v) ≡ bytes_of n v
 word_bytes n v l = ap (take n) (word_is v) ∙ take_bytes n 8 v l
+
+-- ---- the number that bytes make
+
+-- eight of them, as the library joins them
+word_from : (bs : List ℕ) → from_le_bytes w64 bs ≡ load_bytes 8 bs 0
+unfolding load_bytes
+word_from bs = omega arith
+
+-- n bytes, and m where those past the n are 0
+load_same : (m n : ℕ) (bs h : List ℕ) (j i : ℕ) → n ≤ m → ((k : ℕ) → k < n → get_or bs (j + k) 0 ≡ get_or h (i + k) 0)
+    → ((k : ℕ) → n ≤ k → k < m → get_or bs (j + k) 0 ≡ 0) → load_bytes m bs j ≡ load_bytes n h i
+unfolding load_bytes
+load_same zero zero bs h j i l f z = refl
+load_same zero (suc n) bs h j i l f z = absurd (not-suc-le-zero l)
+load_same (suc m) zero bs h j i l f z =
+    let d : j ≡ j + 0 = omega arith in
+    let first : get_or bs j 0 ≡ 0 = ap (λ (x : ℕ). get_or bs x 0) d ∙ z 0 (omega arith) (omega arith) in
+    let rest : load_bytes m bs (j + 1) ≡ 0 =
+    load_same m zero bs h (j + 1) i (omega arith) (λ k x. absurd (not-suc-le-zero x))
+    (λ k x y. let e : j + 1 + k ≡ j + (k + 1) = omega arith in ap (λ (x : ℕ). get_or bs x 0) e ∙ z (k + 1) (omega arith) (omega (arith, y))) in
+    omega (arith, first, rest)
+load_same (suc m) (suc n) bs h j i l f z =
+    let d : j ≡ j + 0 = omega arith in
+    let g : i + 0 ≡ i = omega arith in
+    let first : get_or bs j 0 ≡ get_or h i 0 = ap (λ (x : ℕ). get_or bs x 0) d ∙ f 0 (omega arith) ∙ ap (λ (x : ℕ). get_or h x 0) g in
+    let rest : load_bytes m bs (j + 1) ≡ load_bytes n h (i + 1) =
+    load_same m n bs h (j + 1) (i + 1) (le_of_suc-le-suc l)
+    (λ k x. let e : j + 1 + k ≡ j + (k + 1) = omega arith in let o : i + (k + 1) ≡ i + 1 + k = omega arith in
+    ap (λ (x : ℕ). get_or bs x 0) e ∙ f (k + 1) (omega (arith, x)) ∙ ap (λ (x : ℕ). get_or h x 0) o)
+    (λ k x y. let e : j + 1 + k ≡ j + (k + 1) = omega arith in ap (λ (x : ℕ). get_or bs x 0) e ∙ z (k + 1) (omega (arith, x)) (omega (arith, y))) in
+    rw (first, rest)
+
+zero_read : (m k : ℕ) → get_or (replicate {A = ℕ} m 0) k 0 ≡ 0
+zero_read m k = go (dec_lt k m)
+  where
+    go : Dec (k < m) → get_or (replicate {A = ℕ} m 0) k 0 ≡ 0
+    go (yes y) = get_or-replicate m k 0 0 y
+    go (no y) = get_or-eq_default (replicate m 0) 0 {n = k} (omega (arith, length-replicate {A = ℕ} m 0, y))
+
+-- the n bytes from i on, before zeros
+pub part_from : (i n : ℕ) (h : List ℕ) → i + n ≤ length h → n ≤ 8
+    → from_le_bytes w64 (take (i + n - i) (drop i h) ++ drop n (replicate 8 0)) ≡ load_bytes n h i
+part_from i n h l m =
+    let part : List ℕ = take (i + n - i) (drop i h) in
+    let zs : List ℕ = drop n (replicate 8 0) in
+    let len : length part ≡ n = part_length i n h l in
+    word_from (part ++ zs) ∙ load_same 8 n (part ++ zs) h 0 i m
+    (λ k x. let e : 0 + k ≡ k = omega arith in ap (λ (y : ℕ). get_or (part ++ zs) y 0) e ∙ get_or-append part zs 0 k (omega (arith, x, len)) ∙ part_item i n h k x)
+    (λ k x y. let e : 0 + k ≡ k = omega arith in
+    ap (λ (y : ℕ). get_or (part ++ zs) y 0) e ∙ get_or-append_right part zs k 0 (omega (arith, x, len))
+    ∙ get_or-drop n (replicate 8 0) (k - length part) 0 ∙ zero_read 8 (n + (k - length part)))

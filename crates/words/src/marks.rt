@@ -17,7 +17,8 @@ pub fn test(m: &[u8], g: usize) -> bool
     g / 8 < m.len() && bit(m, g)
 }
 
-// The two that write are apart: their one difference, `|=` and `&= !`, would be a closure longer than what they share.
+// Two functions that write, since one would be no plainer: their one difference, `|=` and `&= !`, would be a closure longer than what
+// they share.
 pub fn set_bit(m: &mut [u8], g: usize)
     ensures { m.new ≡ set m.old (g / 8) (set_bit (get_or m.old (g / 8) 0) (g % 8)) }
 {

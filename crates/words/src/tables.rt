@@ -5,25 +5,39 @@
 ghost use Rattle.std.specs.Prelude.{◌≡◌, ◌+◌, ◌*◌, ◌<◌, get_or};
 ghost use Rattle.model.specs.Params.{block_tables};
 ghost use Rattle.model.specs.Tables.{view, part, blocks_in, block_table, put_in, put_block_word, put_first, put_last, put_phase, put_bound, put_released, put_next, put_prev, put_free, put_size, put_list, put_tls, put_cells};
+ghost use Rattle.words.specs.Table.{table_number};
 
 use model::{
     BLOCK_TABLES, BOUND_WORDS, HEAD_WORDS, HOLDERS, LISTS, PARTS, PHASE_WORD, RELEASED_WORDS,
 };
 
-// The numbers of the block tables, in the order of `view`.
-pub const NEXT: usize = 0;
+// The phases, as 01 numbers them. No enum: a lent word may hold any number, so that each comparison would first need a TryFrom, no plainer.
+pub const RUNNING: usize = 0;
 
-pub const PREV: usize = 1;
+pub const MARKING: usize = 1;
 
-pub const FREE: usize = 2;
+pub const RELEASING: usize = 2;
 
-pub const SIZE: usize = 3;
+// The block tables, in the order of `view`.
+#[derive(Clone, Copy)]
+pub enum Table {
+    Next,
+    Prev,
+    Free,
+    Size,
+    List,
+    Tls,
+    Cells,
+}
 
-pub const LIST: usize = 4;
-
-pub const TLS: usize = 5;
-
-pub const CELLS: usize = 6;
+impl Table {
+    // How many block tables stand before it.
+    pub fn number(self) -> usize
+        ensures { (result ≡ table_number self) × (result < block_tables) }
+    {
+        self as usize
+    }
+}
 
 // How many blocks the words are for.
 pub fn blocks(w: &[usize]) -> usize
@@ -32,7 +46,7 @@ pub fn blocks(w: &[usize]) -> usize
     w.len().saturating_sub(HEAD_WORDS) / BLOCK_TABLES
 }
 
-// The word i of `count` words from the word `from` on.
+// The word i of `count` words from the word `from` on. A stretch and not a slice of the words: one that is cut short, or not there, reads 0.
 fn word(w: &[usize], from: usize, count: usize, i: usize) -> usize
     ensures { result ≡ get_or (part from count w.now) i 0 }
 {
@@ -50,27 +64,23 @@ fn put(w: &mut [usize], from: usize, count: usize, i: usize, v: usize)
     }
 }
 
-// The word of the block i in the block table of this number.
-fn block_word(w: &[usize], table: usize, i: usize) -> usize
-    requires { table < block_tables }
-    ensures { result ≡ get_or (block_table (blocks_in w.now) table w.now) i 0 }
+// The word of the block i in a block table.
+fn block_word(w: &[usize], table: Table, i: usize) -> usize
+    ensures { result ≡ get_or (block_table (blocks_in w.now) (table_number table) w.now) i 0 }
 {
     let blocks_in = blocks(w);
-    word(w, HEAD_WORDS + table * blocks_in, blocks_in, i)
+    word(w, HEAD_WORDS + table.number() * blocks_in, blocks_in, i)
 }
 
-fn put_block_word(w: &mut [usize], table: usize, i: usize, v: usize)
-    requires { table < block_tables }
-    ensures { w.new ≡ put_block_word table i v w.old }
+fn put_block_word(w: &mut [usize], table: Table, i: usize, v: usize)
+    ensures { w.new ≡ put_block_word (table_number table) i v w.old }
 {
     let blocks_in = blocks(w);
-    put(w, HEAD_WORDS + table * blocks_in, blocks_in, i, v);
+    put(w, HEAD_WORDS + table.number() * blocks_in, blocks_in, i, v);
 }
 
-// A function for each table: a parameter that names the table would be no plainer, since each contract cites its table's own
-// definition (`tables::next(w, i)` beside `tables::word(w, Table::Next, i)`).
-//
-// 0 Running, 1 Marking, 2 Releasing.
+// A function for each table, `set_bound` beside `set_released` too: one function with a parameter that names the table would be no
+// plainer, since each contract cites its table's own definition (`tables::next(w, i)` beside `tables::word(w, Table::Next, i)`).
 pub fn phase(w: &[usize]) -> usize
     ensures { result ≡ (view w.now).phase }
 {
@@ -139,89 +149,89 @@ pub fn set_released(w: &mut [usize], i: usize, v: usize)
 pub fn next(w: &[usize], i: usize) -> usize
     ensures { result ≡ get_or (view w.now).next i 0 }
 {
-    block_word(w, NEXT, i)
+    block_word(w, Table::Next, i)
 }
 
 pub fn set_next(w: &mut [usize], i: usize, v: usize)
     ensures { w.new ≡ put_next i v w.old }
 {
-    put_block_word(w, NEXT, i, v);
+    put_block_word(w, Table::Next, i, v);
 }
 
 // The previous on its list.
 pub fn prev(w: &[usize], i: usize) -> usize
     ensures { result ≡ get_or (view w.now).prev i 0 }
 {
-    block_word(w, PREV, i)
+    block_word(w, Table::Prev, i)
 }
 
 pub fn set_prev(w: &mut [usize], i: usize, v: usize)
     ensures { w.new ≡ put_prev i v w.old }
 {
-    put_block_word(w, PREV, i, v);
+    put_block_word(w, Table::Prev, i, v);
 }
 
 // The head of its free chain.
 pub fn free(w: &[usize], i: usize) -> usize
     ensures { result ≡ get_or (view w.now).free i 0 }
 {
-    block_word(w, FREE, i)
+    block_word(w, Table::Free, i)
 }
 
 pub fn set_free(w: &mut [usize], i: usize, v: usize)
     ensures { w.new ≡ put_free i v w.old }
 {
-    put_block_word(w, FREE, i, v);
+    put_block_word(w, Table::Free, i, v);
 }
 
 // Its cell size.
 pub fn size(w: &[usize], i: usize) -> usize
     ensures { result ≡ get_or (view w.now).size i 0 }
 {
-    block_word(w, SIZE, i)
+    block_word(w, Table::Size, i)
 }
 
 pub fn set_size(w: &mut [usize], i: usize, v: usize)
     ensures { w.new ≡ put_size i v w.old }
 {
-    put_block_word(w, SIZE, i, v);
+    put_block_word(w, Table::Size, i, v);
 }
 
 // The word that names its list.
 pub fn list(w: &[usize], i: usize) -> usize
     ensures { result ≡ get_or (view w.now).list i 0 }
 {
-    block_word(w, LIST, i)
+    block_word(w, Table::List, i)
 }
 
 pub fn set_list(w: &mut [usize], i: usize, v: usize)
     ensures { w.new ≡ put_list i v w.old }
 {
-    put_block_word(w, LIST, i, v);
+    put_block_word(w, Table::List, i, v);
 }
 
 // Its holder.
 pub fn tls(w: &[usize], i: usize) -> usize
     ensures { result ≡ get_or (view w.now).tls i 0 }
 {
-    block_word(w, TLS, i)
+    block_word(w, Table::Tls, i)
 }
 
 pub fn set_tls(w: &mut [usize], i: usize, v: usize)
     ensures { w.new ≡ put_tls i v w.old }
 {
-    put_block_word(w, TLS, i, v);
+    put_block_word(w, Table::Tls, i, v);
 }
 
 // Its free count.
 pub fn cells(w: &[usize], i: usize) -> usize
     ensures { result ≡ get_or (view w.now).cells i 0 }
 {
-    block_word(w, CELLS, i)
+    block_word(w, Table::Cells, i)
 }
 
 pub fn set_cells(w: &mut [usize], i: usize, v: usize)
     ensures { w.new ≡ put_cells i v w.old }
 {
-    put_block_word(w, CELLS, i, v);
+    put_block_word(w, Table::Cells, i, v);
 }

@@ -1,79 +1,56 @@
-// A block's words, where the count of all words is known: it was tested once for the whole call. A block that isn't there has 0.
-#![tactic(auto, unfolding(model::specs::Tables::view, model::specs::Tables::put_free, model::specs::Tables::put_size, model::specs::Tables::put_tls, model::specs::Tables::put_cells))]
-
+// A block's words, where the count of all words is known: it was tested once for the whole call, and is asked for since the words are lent for
+// writing (lib.rt). A block that isn't there has 0, as in the definitions.
 ghost use Rattle.std.specs.Prelude.{◌≡◌, ◌+◌, ◌*◌, ◌<◌, length, get_or};
 ghost use Rattle.model.specs.Params.{head_words, block_tables};
-ghost use Rattle.model.specs.Tables.{view, blocks_in, block_table, put_block_word, set_free, set_size, set_tls, set_cells};
+ghost use Rattle.model.specs.Tables.{view, put_block_word, set_free, set_cells};
+ghost use Rattle.words.specs.Table.{table_number};
 
+use crate::block::chain::Chain;
 use crate::sound::known;
 use model::{Block, HEAD_WORDS};
-use words::tables;
+use words::tables::Table;
 
-// The block's word in the block table of this number. Below a function for each table, as in `words::tables`.
-fn word(words: &[usize], blocks: usize, table: usize, b: Block) -> usize
-    requires { (length words.now ≡ head_words + block_tables * blocks) × (table < block_tables) }
-    ensures { result ≡ get_or (block_table (blocks_in words.now) table words.now) b.0 0 }
+// What the tables hold of a block's cells: their size, and the chain of the free ones.
+#[derive(Clone, Copy)]
+pub(crate) struct Cells {
+    pub size: usize,
+    pub free: Chain,
+}
+
+#[tactic(auto, using(crate::proofs::SoundLent::table_none), unfolding(model::specs::Tables::view))]
+pub(crate) fn cells_of(words: &[usize], blocks: usize, b: Block) -> Cells
+    requires { length words.now ≡ head_words + block_tables * blocks }
+    ensures size { result.size ≡ get_or (view words.now).size b.0 0 }
+    ensures head { result.free.head ≡ get_or (view words.now).free b.0 0 }
+    ensures count { result.free.count ≡ get_or (view words.now).cells b.0 0 }
 {
     if b.0 < blocks {
-        return known::block_word(words, blocks, table, b);
+        return Cells {
+            size: known::block_word(words, blocks, Table::Size, b),
+            free: Chain {
+                head: known::block_word(words, blocks, Table::Free, b),
+                count: known::block_word(words, blocks, Table::Cells, b),
+            },
+        };
     }
-    0
+    let free = Chain { head: 0, count: 0 };
+    Cells { size: 0, free }
 }
 
-fn set_word(words: &mut [usize], blocks: usize, table: usize, b: Block, v: usize)
-    requires { (length words.old ≡ head_words + block_tables * blocks) × (table < block_tables) }
-    ensures { words.new ≡ put_block_word table b.0 v words.old }
+pub(crate) fn set_word(words: &mut [usize], blocks: usize, table: Table, b: Block, v: usize)
+    requires { length words.old ≡ head_words + block_tables * blocks }
+    ensures { words.new ≡ put_block_word (table_number table) b.0 v words.old }
 {
     if b.0 < blocks {
-        words[HEAD_WORDS + table * blocks + b.0] = v;
+        words[HEAD_WORDS + table.number() * blocks + b.0] = v;
     }
 }
 
-pub(crate) fn free(words: &[usize], blocks: usize, b: Block) -> usize
-    requires { length words.now ≡ head_words + block_tables * blocks }
-    ensures { result ≡ get_or (view words.now).free b.0 0 }
-{
-    word(words, blocks, tables::FREE, b)
-}
-
-pub(crate) fn size(words: &[usize], blocks: usize, b: Block) -> usize
-    requires { length words.now ≡ head_words + block_tables * blocks }
-    ensures { result ≡ get_or (view words.now).size b.0 0 }
-{
-    word(words, blocks, tables::SIZE, b)
-}
-
-pub(crate) fn cells(words: &[usize], blocks: usize, b: Block) -> usize
-    requires { length words.now ≡ head_words + block_tables * blocks }
-    ensures { result ≡ get_or (view words.now).cells b.0 0 }
-{
-    word(words, blocks, tables::CELLS, b)
-}
-
-pub(crate) fn set_free(words: &mut [usize], blocks: usize, b: Block, v: usize)
+// The block's free head, and how many cells are free.
+pub(crate) fn set_chain(words: &mut [usize], blocks: usize, b: Block, chain: Chain)
     requires { length words.old ≡ head_words + block_tables * blocks }
-    ensures { view words.new ≡ set_free b.0 v (view words.old) }
+    ensures { view words.new ≡ set_cells b.0 chain.count (set_free b.0 chain.head (view words.old)) }
 {
-    set_word(words, blocks, tables::FREE, b, v);
-}
-
-pub(crate) fn set_size(words: &mut [usize], blocks: usize, b: Block, v: usize)
-    requires { length words.old ≡ head_words + block_tables * blocks }
-    ensures { view words.new ≡ set_size b.0 v (view words.old) }
-{
-    set_word(words, blocks, tables::SIZE, b, v);
-}
-
-pub(crate) fn set_tls(words: &mut [usize], blocks: usize, b: Block, v: usize)
-    requires { length words.old ≡ head_words + block_tables * blocks }
-    ensures { view words.new ≡ set_tls b.0 v (view words.old) }
-{
-    set_word(words, blocks, tables::TLS, b, v);
-}
-
-pub(crate) fn set_cells(words: &mut [usize], blocks: usize, b: Block, v: usize)
-    requires { length words.old ≡ head_words + block_tables * blocks }
-    ensures { view words.new ≡ set_cells b.0 v (view words.old) }
-{
-    set_word(words, blocks, tables::CELLS, b, v);
+    set_word(words, blocks, Table::Free, b, chain.head);
+    set_word(words, blocks, Table::Cells, b, chain.count);
 }

@@ -1,71 +1,132 @@
-// Words and state bytes at places that are known to be there. `words::tables` tests each index; here lengths were tested once
-// for the whole call, since a test for each word of each block takes a good part of the time.
+// Words and state bytes at places that are known to be there. `words::tables` tests each index; here lengths were tested once for the whole
+// call, for speed: a test for each word of each block takes a good part of the time of a call (docs/SPEED.md).
 #![tactic(auto, unfolding(model::specs::Tables::view))]
 
 ghost use Rattle.std.specs.Prelude.{◌≡◌, ◌+◌, ◌-◌, ◌*◌, ◌<◌, ◌≤◌, eqb, length, get_or};
 ghost use Rattle.model.specs.Base.{all_below};
 ghost use Rattle.model.specs.Params.{lists, head_words, block_tables, holders};
 ghost use Rattle.model.specs.Tables.{view, blocks_in, block_table};
-ghost use Rattle.native_ms.specs.SoundLent.{zero_at, Firsts};
+ghost use Rattle.words.specs.Table.{table_number};
+ghost use Rattle.native_ms.specs.SoundLent.{Lengths, zero_at, Firsts};
 
+use crate::address::{ListNumber, Space};
 use model::{Address, BINS, Block, HEAD_WORDS, LISTS, PHASE_WORD, SETS};
-use words::tables;
+use words::tables::Table;
 
-// A block's word in one of the seven block tables. Below a function for each table, as in `words::tables`.
-pub(crate) fn block_word(words: &[usize], blocks: usize, table: usize, b: Block) -> usize
-    requires { (length words.now ≡ head_words + block_tables * blocks) × (b.0 < blocks) × (table < block_tables) }
-    ensures { result ≡ get_or (block_table (blocks_in words.now) table words.now) b.0 0 }
-{
-    words[HEAD_WORDS + table * blocks + b.0]
+// Words and state bytes of the lengths that the parameters give.
+#[derive(Clone, Copy)]
+pub(crate) struct Lent<'a> {
+    pub space: &'a Space,
+    pub words: &'a [usize],
+    pub states: &'a [u8],
+    ghost lengths: { Lengths space.now.p words.now states.now },
 }
 
-pub(crate) fn next(words: &[usize], blocks: usize, b: Block) -> Address
+impl<'a> Lent<'a> {
+    pub(crate) fn first(&self, list: ListNumber) -> Address
+        ensures { result.0 ≡ get_or (view self.now.words.now).first list.at 0 }
+    {
+        first(self.words, list.at)
+    }
+
+    pub(crate) fn last(&self, list: ListNumber) -> Address
+        ensures { result.0 ≡ get_or (view self.now.words.now).last list.at 0 }
+    {
+        Address(self.words[LISTS + list.at])
+    }
+
+    // Of each set, the union of its lists' firsts: 0 if the set is empty.
+    pub(crate) fn firsts(&self) -> [usize; SETS]
+        ensures { Firsts self.now.words.now result }
+    {
+        let mut unions = [0usize; SETS];
+        for (set, union) in unions.iter_mut().enumerate() {
+            *union = union_of(self.words, BINS * set, BINS);
+        }
+        unions
+    }
+}
+
+// One of the blocks. A loop over all of them makes it of its number: an iterator would give no more than that line.
+#[derive(Clone, Copy)]
+pub(crate) struct LentBlock<'a> {
+    pub lent: &'a Lent<'a>,
+    pub block: Block,
+    ghost low: { block.0 < lent.now.space.now.p.blocks },
+}
+
+impl<'a> LentBlock<'a> {
+    fn word(self, table: Table) -> usize
+        ensures { result ≡ get_or (block_table (blocks_in self.entry.lent.now.words.now) (table_number table) self.entry.lent.now.words.now) self.entry.block.0 0 }
+    {
+        block_word(self.lent.words, self.lent.space.p.blocks, table, self.block)
+    }
+
+    // A method for each table, as in `words::tables`.
+    pub(crate) fn next(self) -> Address
+        ensures { result.0 ≡ get_or (view self.entry.lent.now.words.now).next self.entry.block.0 0 }
+    {
+        Address(self.word(Table::Next))
+    }
+
+    pub(crate) fn prev(self) -> Address
+        ensures { result.0 ≡ get_or (view self.entry.lent.now.words.now).prev self.entry.block.0 0 }
+    {
+        Address(self.word(Table::Prev))
+    }
+
+    pub(crate) fn free(self) -> Address
+        ensures { result.0 ≡ get_or (view self.entry.lent.now.words.now).free self.entry.block.0 0 }
+    {
+        Address(self.word(Table::Free))
+    }
+
+    pub(crate) fn size(self) -> usize
+        ensures { result ≡ get_or (view self.entry.lent.now.words.now).size self.entry.block.0 0 }
+    {
+        self.word(Table::Size)
+    }
+
+    pub(crate) fn list(self) -> usize
+        ensures { result ≡ get_or (view self.entry.lent.now.words.now).list self.entry.block.0 0 }
+    {
+        self.word(Table::List)
+    }
+
+    pub(crate) fn tls(self) -> usize
+        ensures { result ≡ get_or (view self.entry.lent.now.words.now).tls self.entry.block.0 0 }
+    {
+        self.word(Table::Tls)
+    }
+
+    pub(crate) fn cells(self) -> usize
+        ensures { result ≡ get_or (view self.entry.lent.now.words.now).cells self.entry.block.0 0 }
+    {
+        self.word(Table::Cells)
+    }
+
+    pub(crate) fn state(self) -> u8
+        ensures { result ≡ get_or self.entry.lent.now.states.now self.entry.block.0 0 }
+    {
+        state(self.lent.states, self.block)
+    }
+}
+
+// A block's word in one of the seven block tables.
+pub(crate) fn block_word(words: &[usize], blocks: usize, table: Table, b: Block) -> usize
     requires { (length words.now ≡ head_words + block_tables * blocks) × (b.0 < blocks) }
-    ensures { result.0 ≡ get_or (view words.now).next b.0 0 }
+    ensures { result ≡ get_or (block_table (blocks_in words.now) (table_number table) words.now) b.0 0 }
 {
-    Address(block_word(words, blocks, tables::NEXT, b))
+    words[HEAD_WORDS + table.number() * blocks + b.0]
 }
 
-pub(crate) fn prev(words: &[usize], blocks: usize, b: Block) -> Address
-    requires { (length words.now ≡ head_words + block_tables * blocks) × (b.0 < blocks) }
-    ensures { result.0 ≡ get_or (view words.now).prev b.0 0 }
-{
-    Address(block_word(words, blocks, tables::PREV, b))
-}
-
+// ---- by themselves, for calls that are lent no state bytes or go to one place: they go on to write these words, so that what is known of the
+// words' length is asked for (lib.rt)
 pub(crate) fn free(words: &[usize], blocks: usize, b: Block) -> Address
     requires { (length words.now ≡ head_words + block_tables * blocks) × (b.0 < blocks) }
     ensures { result.0 ≡ get_or (view words.now).free b.0 0 }
 {
-    Address(block_word(words, blocks, tables::FREE, b))
-}
-
-pub(crate) fn size(words: &[usize], blocks: usize, b: Block) -> usize
-    requires { (length words.now ≡ head_words + block_tables * blocks) × (b.0 < blocks) }
-    ensures { result ≡ get_or (view words.now).size b.0 0 }
-{
-    block_word(words, blocks, tables::SIZE, b)
-}
-
-pub(crate) fn list(words: &[usize], blocks: usize, b: Block) -> usize
-    requires { (length words.now ≡ head_words + block_tables * blocks) × (b.0 < blocks) }
-    ensures { result ≡ get_or (view words.now).list b.0 0 }
-{
-    block_word(words, blocks, tables::LIST, b)
-}
-
-pub(crate) fn tls(words: &[usize], blocks: usize, b: Block) -> usize
-    requires { (length words.now ≡ head_words + block_tables * blocks) × (b.0 < blocks) }
-    ensures { result ≡ get_or (view words.now).tls b.0 0 }
-{
-    block_word(words, blocks, tables::TLS, b)
-}
-
-pub(crate) fn cells(words: &[usize], blocks: usize, b: Block) -> usize
-    requires { (length words.now ≡ head_words + block_tables * blocks) × (b.0 < blocks) }
-    ensures { result ≡ get_or (view words.now).cells b.0 0 }
-{
-    block_word(words, blocks, tables::CELLS, b)
+    Address(block_word(words, blocks, Table::Free, b))
 }
 
 pub(crate) fn first(words: &[usize], list: usize) -> Address
@@ -73,13 +134,6 @@ pub(crate) fn first(words: &[usize], list: usize) -> Address
     ensures { result.0 ≡ get_or (view words.now).first list 0 }
 {
     Address(words[list])
-}
-
-pub(crate) fn last(words: &[usize], list: usize) -> Address
-    requires { (head_words ≤ length words.now) × (list < lists) }
-    ensures { result.0 ≡ get_or (view words.now).last list 0 }
-{
-    Address(words[LISTS + list])
 }
 
 pub(crate) fn phase(words: &[usize]) -> usize
@@ -104,7 +158,8 @@ pub(crate) fn state(states: &[u8], b: Block) -> u8
     states[b.0]
 }
 
-// The union of the `count` words from `from` on, which is 0 if each is: no early exit, so that it is done several words at a time.
+// The union of the `count` words from `from` on, which is 0 if each is: no early exit, so that it is done several words at a time (speed). A
+// stretch and not a slice, since what it promises speaks of places in all the words.
 pub(crate) fn union_of(words: &[usize], from: usize, count: usize) -> usize
     requires { from + count ≤ length words.now }
     ensures { eqb result 0 ≡ all_below count (zero_at words.now from) }
@@ -114,16 +169,4 @@ pub(crate) fn union_of(words: &[usize], from: usize, count: usize) -> usize
         union |= *word;
     }
     union
-}
-
-// Of each set, the union of its lists' firsts: 0 if the set is empty.
-pub(crate) fn firsts(words: &[usize]) -> [usize; SETS]
-    requires { head_words ≤ length words.now }
-    ensures { Firsts words.now result }
-{
-    let mut unions = [0usize; SETS];
-    for set in 0..SETS {
-        unions[set] = union_of(words, BINS * set, BINS);
-    }
-    unions
 }

@@ -1,5 +1,4 @@
 -- `bin_in` meets its contract: an entry of the table is its bin, and past the table's end there is none.
-use borrow.Author.Rules.{rules}
 use Rattle.size_table.proofs.Table.{held_at, held_past}
 use Rattle.size_table.proofs.bin_in.Goals as goal
 

@@ -1,5 +1,4 @@
 -- `bin_of_words` meets its contract: it is read off the whole table.
-use borrow.Author.Rules.{rules}
 use Rattle.size_table.proofs.bin_of_words.Goals as goal
 
 pub returns : goal.returns

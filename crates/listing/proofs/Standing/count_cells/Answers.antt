@@ -1,23 +1,38 @@
-use mathlib.Core.Path.{sym, ◌∙◌}
-use native.Mathlib.Omega.{arith}
-use Rattle.listing.specs.Sections.{occupied_in}
-use Rattle.listing.proofs.SectionsLaws.{printed_few, total_cells, counted_start, counted_room, counted_yes, counted_no, counted_end}
+-- `sections::count_cells` sums up the cells of the occupied blocks: at most 4096 of each, so that they fit.
+use mathlib.Core.Path.{refl}
+use Prim.Native.Nat.{◌^◌}
+use borrow.Author.Rules.{rules}
+use borrow.Author.Tests.{tests}
+use Rattle.std.proofs.Common.{of_calls}
+use Rattle.std.proofs.lemmas.Iterator.{YieldsList-from_range, YieldsList-from_map}
+use Rattle.std.proofs.lemmas.Iterator.Consumers.{YieldsList-at, YieldsList-from_filter, sum_by_from_yields_List, fits_by_from_yields_list}
+use Rattle.listing.specs.Sections.{is_occupied}
+use Rattle.listing.proofs.SectionsLaws.{cells_in, occupied_kept, cells_fit, cells_counted}
 use Rattle.listing.proofs.Standing.count_cells.Goals as goal
-use Rattle.listing.proofs.Standing.count_cells.Goals.{then-is_occupied, else-is_occupied}
 
-pub loop-block-init : goal.loop-block-init
-loop-block-init c = counted_start _ _ _ _
-
-pub overflow_add-n : goal.overflow_add-n
-overflow_add-n c = omega (arith, counted_room _ _ _ _ _ _ c.loop-block.invariant (printed_few _ _ _) c.loop-block-test.true c.count_of-n.ensures)
-
-pub loop-block-preserved : goal.loop-block-preserved
-loop-block-preserved c =
-    elim c.if-is_occupied.branch [
-      | then-is_occupied w ↦ rw w.n-is (counted_yes _ _ _ _ _ _ c.loop-block.invariant (printed_few _ _ _) c.loop-block-test.true w.count_of-n.ensures (sym c.is_occupied.ensures ∙ w.if-is_occupied.true))
-      | else-is_occupied w ↦ rw w.n-is (counted_no _ _ _ _ _ _ c.loop-block.invariant c.loop-block-test.true (sym c.is_occupied.ensures ∙ w.if-is_occupied.false))
-    ]
+pub sum-requires : goal.sum-requires
+sum-requires c =
+    let st = c.args.self.now.states.now in
+    let g = cells_in c.args.self.now.words.now c.args.self.now.marks.now c.args.self.now.heap.now in
+    record {
+      can = search of_calls;
+      finite = search of_calls;
+      fits =
+          fits_by_from_yields_list g (occupied_kept st) c.map.result (2 ^ 64)
+          (YieldsList-from_map _ g
+          (YieldsList-at c.map.ensures.source
+          (YieldsList-from_filter _ (is_occupied st) (YieldsList-from_range 0 4 4 c.filter.ensures.source refl) c.filter.ensures.closure (λ x r q k. search (rules, tests))))
+          c.map.ensures.closure (λ x r q k. search (rules, tests)))
+          (cells_fit _ _ _ _);
+    }
 
 pub returns : goal.returns
-unfolding occupied_in
-returns c = counted_end _ _ _ _ _ _ c.loop-block.invariant c.loop-block-test.false ∙ total_cells _ _ _ _ _
+returns c =
+    let st = c.args.self.now.states.now in
+    let g = cells_in c.args.self.now.words.now c.args.self.now.marks.now c.args.self.now.heap.now in
+    cells_counted _ _ _ _
+    (sum_by_from_yields_List g (occupied_kept st) c.map.result _ c.sum.ensures.ran
+    (YieldsList-from_map _ g
+    (YieldsList-at c.map.ensures.source
+    (YieldsList-from_filter _ (is_occupied st) (YieldsList-from_range 0 4 4 c.filter.ensures.source refl) c.filter.ensures.closure (λ x r q k. search (rules, tests))))
+    c.map.ensures.closure (λ x r q k. search (rules, tests))))

@@ -3,8 +3,8 @@ use Rattle.listing.proofs.PrintLaws.{retext, print_section}
 use Rattle.listing.proofs.SectionsLaws.{free_section_lem, free_none}
 use Rattle.listing.proofs.Standing.free_section.Goals as goal
 
-pub returns-then-phase-eq1 : goal.returns-then-phase-eq1
-returns-then-phase-eq1 c = retext (free_none _ _ _ _ c.phase.ensures c.if-phase-eq1.true) c.head.ensures
+pub returns-then-phase-eq-MARKING : goal.returns-then-phase-eq-MARKING
+returns-then-phase-eq-MARKING c = retext (free_none _ _ _ _ c.phase.ensures c.if-phase-eq-MARKING.true) c.head.ensures
 
 pub returns : goal.returns
-returns c = retext (free_section_lem _ _ _ _ c.phase.ensures c.if-phase-eq1.false) (print_section _ _ _ c.count_cells.ensures c.head-2.ensures c.cell_rows.ensures)
+returns c = retext (free_section_lem _ _ _ _ c.phase.ensures c.if-phase-eq-MARKING.false) (print_section _ _ _ c.count_cells.ensures c.head-2.ensures c.cell_rows.ensures)

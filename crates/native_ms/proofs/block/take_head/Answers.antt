@@ -6,15 +6,15 @@ use Rattle.native_ms.proofs.Chains.{take}
 use Rattle.native_ms.proofs.ShortWay.{head_from, head_room, head_word}
 use Rattle.native_ms.proofs.block.take_head.Goals as goal
 
-pub overflow_sub-at : goal.overflow_sub-at
-overflow_sub-at c = head_from _ _ c.requires c.free-cell.ensures c.size-size.ensures
+pub overflow_sub-offset : goal.overflow_sub-offset
+overflow_sub-offset c = head_from _ _ c.requires c.cells_of-cells.ensures.head c.cells_of-cells.ensures.size
 
 pub read-next-requires : goal.read-next-requires
-read-next-requires c = (head_word _ _ c.requires c.free-cell.ensures c.size-size.ensures, omega arith)
+read-next-requires c = (head_word _ _ c.requires c.cells_of-cells.ensures.head c.cells_of-cells.ensures.size, omega arith)
 
 pub fill-requires : goal.fill-requires
-fill-requires c = head_room _ _ c.requires c.free-cell.ensures c.size-size.ensures
+fill-requires c = head_room _ _ c.requires c.cells_of-cells.ensures.head c.cells_of-cells.ensures.size
 
 pub returns : goal.returns
 unfolding load zeroed
-returns c = take c.args.p c.args.b.0 (view c.args.words.now) c.args.heap.now c.free-cell.ensures c.size-size.ensures c.cells-counted.ensures c.read-next.ensures c.saturating_sub-left.ensures c.set_free.ensures c.set_cells.ensures c.fill.ensures
+returns c = take c.args.space.now.p c.args.b.0 (view c.args.words.now) c.args.heap.now c.cells_of-cells.ensures.head c.cells_of-cells.ensures.size c.cells_of-cells.ensures.count c.read-next.ensures c.behind.ensures c.set_chain.ensures c.fill.ensures

@@ -8,7 +8,7 @@ pub returns-then-link-eq0 : goal.returns-then-link-eq0
 returns-then-link-eq0 c = relabel_stop _ _ _ _ _ c.if-link-eq0.true ∙ c.loop.invariant
 
 pub loop-preserved : goal.loop-preserved
-loop-preserved c = rw later (relabel_step _ _ _ _ _ (left_some c.loop-test.true) c.if-link-eq0.false c.block_at-b.ensures c.list_word-word.ensures c.next-link.ensures (put_list_lem _ _ _ c.set_list.ensures)) ∙ c.loop.invariant
+loop-preserved c = rw later (relabel_step _ _ _ _ _ (left_some c.loop-test.true) c.if-link-eq0.false c.block_at-b.ensures c.word-word.ensures c.next-link.ensures (put_list_lem _ _ _ c.set_list.ensures)) ∙ c.loop.invariant
 
 pub returns : goal.returns
 returns c = relabel_end _ _ _ _ _ (left_none c.loop-test.false) ∙ c.loop.invariant

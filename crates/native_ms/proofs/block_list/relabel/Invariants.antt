@@ -6,4 +6,4 @@ use Rattle.model.specs.BlockList.{relabel}
 use Rattle.native_ms.proofs.block_list.relabel.Given as goal
 
 abbrev pub invariant-loop : goal.invariant-loop
-invariant-loop l = relabel (l.end - l.counter) l.space.p l.list l.link (view l.w) ≡ relabel l.space.p.blocks l.space.p l.list l.initial.link (view l.initial.w)
+invariant-loop l = relabel (l.end - l.counter) l.space.p l.fn.list.at l.link (view l.w) ≡ relabel l.space.p.blocks l.space.p l.fn.list.at l.initial.link (view l.initial.w)

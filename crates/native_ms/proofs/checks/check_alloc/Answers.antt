@@ -2,7 +2,6 @@
 use Rattle.std.proofs.lemmas.Result.{err_from_is_err_and}
 use Rattle.model.specs.Calls.{call_tests}
 use Rattle.native_ms.proofs.AllocCall.{bin_refused, bin_passed}
-use native.Mathlib.Omega.{arith}
 use Rattle.native_ms.proofs.checks.check_alloc.Goals as goal
 
 pub returns-in_err-check_bound : goal.returns-in_err-check_bound

@@ -1,6 +1,5 @@
 -- `checks::good_offer` tests the offer as `good_offer` does. One law for each way out.
 use Rattle.native_ms.proofs.AllocCall.{offer_none, offer_out, offer_in}
-use native.Mathlib.Omega.{arith}
 use Rattle.native_ms.proofs.checks.good_offer.Goals as goal
 
 pub returns-then-b-p : goal.returns-then-b-p

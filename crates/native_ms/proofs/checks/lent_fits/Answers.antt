@@ -1,5 +1,4 @@
 -- `checks::lent_fits` is `fits`. Assumes nothing.
-use mathlib.Core.Path.{sym, ◌∙◌}
 use Rattle.native_ms.proofs.Tests.{fits_bad, fits_good}
 use Rattle.native_ms.proofs.checks.lent_fits.Goals as goal
 

@@ -5,11 +5,11 @@ use Rattle.native_ms.specs.Borders.{Level}
 use Rattle.native_ms.proofs.Borders.{over}
 use Rattle.native_ms.proofs.classes.survey.Given as goal
 
-abbrev pub invariant-loop-n : goal.invariant-loop-n
-invariant-loop-n l = record {
-  few : l.over ≤ l.n;
-  rows : l.over ≡ over l.space.p.rows l.at l.n;
+abbrev pub invariant-loop-row : goal.invariant-loop-row
+invariant-loop-row l = record {
+  few : l.over ≤ l.row-index;
+  rows : l.over ≡ over l.space.p.rows l.at l.row-index;
   past : l.at < l.next;
   low : l.next ≤ l.end;
-  level : (i : ℕ) → i < l.n → Level (get_or l.space.p.rows i no_row) l.at l.next;
+  level : (i : ℕ) → i < l.row-index → Level (get_or l.space.p.rows i no_row) l.at l.next;
 }

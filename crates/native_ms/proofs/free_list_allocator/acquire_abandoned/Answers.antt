@@ -10,7 +10,7 @@ pub returns-in_default : goal.returns-in_default
 returns-in_default c = acquire_none _ _ _ _ _ _ _ _ c.in_default.ensures (left_some c.loop-test.true) refl ∙ c.loop.invariant.same
 
 pub overflow_add-swept : goal.overflow_add-swept
-overflow_add-swept c = omega (arith, c.loop.invariant.few, c.loop-test.true, c.requires.1, (good_bounds c.args.p c.requires.0.good).blocks_high, one_at_most _ c.from-swept.ensures)
+overflow_add-swept c = omega (arith, c.loop.invariant.few, c.loop-test.true, c.requires.1, (good_bounds c.args.wanted.now.space.now.p c.requires.0.good).blocks_high, one_at_most _ c.from-swept.ensures)
 
 pub returns-then-free : goal.returns-then-free
 returns-then-free c = acquire_found _ _ _ _ _ _ _ (not_none c.in-Some.next.at.some) refl _ _ c.in-Some.ensures c.take_over-free.ensures c.from-swept.ensures (left_some c.loop-test.true) c.if-free.true ∙ c.loop.invariant.same

@@ -10,5 +10,5 @@ use Rattle.native_ms.proofs.free_list_allocator.acquire_abandoned.Given as goal
 abbrev pub invariant-loop : goal.invariant-loop
 invariant-loop l = record {
   few : l.swept ≤ l.initial.swept + l.counter;
-  same : closed l.p l.swept l.heap (acquire_abandoned (l.end - l.counter) l.p l.marks l.wanted.holder l.wanted.bin (view l.words)) ≡ closed l.p l.initial.swept l.initial.heap (acquire_abandoned l.p.blocks l.p l.marks l.wanted.holder l.wanted.bin (view l.initial.words));
+  same : closed l.wanted.space.now.p l.swept l.heap (acquire_abandoned (l.end - l.counter) l.wanted.space.now.p l.marks l.wanted.holder.number l.wanted.bin.number (view l.words)) ≡ closed l.wanted.space.now.p l.initial.swept l.initial.heap (acquire_abandoned l.wanted.space.now.p.blocks l.wanted.space.now.p l.marks l.wanted.holder.number l.wanted.bin.number (view l.initial.words));
 }

@@ -1,9 +1,12 @@
 -- `free_list_allocator::alloc` promises `call`: refused by its first tests, or its step on sound tables. Assumes nothing.
 use Rattle.std.proofs.lemmas.Result.{err_from_is_err_and}
 use Rattle.model.specs.Answers.{alloc_reply}
-use Rattle.native_ms.proofs.Tests.{lent_refused, lent_passed}
+use Rattle.native_ms.proofs.Tests.{lent_refused, lent_passed, open_good}
 use mathlib.Core.Path.{sym, ◌∙◌}
 use Rattle.native_ms.proofs.free_list_allocator.alloc.Goals as goal
+
+pub invariant_of-do_alloc : goal.invariant_of-do_alloc
+invariant_of-do_alloc c = record { good = open_good c.args.p _ _ _ _ (sym c.check_lent.ensures ∙ c.in_ok-check_lent.was) }
 
 pub returns-in_err-check_lent : goal.returns-in_err-check_lent
 unfolding alloc_reply

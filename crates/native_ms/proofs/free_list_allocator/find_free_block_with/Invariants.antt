@@ -7,4 +7,4 @@ use Rattle.native_ms.specs.Closing.{skimmed}
 use Rattle.native_ms.proofs.free_list_allocator.find_free_block_with.Given as goal
 
 abbrev pub invariant-loop : goal.invariant-loop
-invariant-loop l = skimmed (find_free_block_with (l.end - l.counter) l.space.p l.own.available l.own.consumed (view l.words)) ≡ skimmed (find_free_block_with l.space.p.blocks l.space.p l.own.available l.own.consumed (view l.initial.words))
+invariant-loop l = skimmed (find_free_block_with (l.end - l.counter) l.space.p l.own.available.at l.own.consumed.at (view l.words)) ≡ skimmed (find_free_block_with l.space.p.blocks l.space.p l.own.available.at l.own.consumed.at (view l.initial.words))

@@ -10,5 +10,5 @@ use Rattle.native_ms.proofs.free_list_allocator.recycle_local_blocks.Given as go
 abbrev pub invariant-loop : goal.invariant-loop
 invariant-loop l = record {
   count : l.swept ≡ l.counter;
-  same : closed l.p l.swept l.heap (recycle_local_blocks (l.end - l.counter) l.p l.marks l.owner l.bin (view l.words)) ≡ closed l.p l.initial.swept l.initial.heap (recycle_local_blocks l.p.blocks l.p l.marks l.owner l.bin (view l.initial.words));
+  same : closed l.space.p l.swept l.heap (recycle_local_blocks (l.end - l.counter) l.space.p l.marks l.fn.owner.set l.fn.bin.number (view l.words)) ≡ closed l.space.p l.initial.swept l.initial.heap (recycle_local_blocks l.space.p.blocks l.space.p l.marks l.fn.owner.set l.fn.bin.number (view l.initial.words));
 }

@@ -10,11 +10,11 @@ use Rattle.native_ms.proofs.free_list_allocator.serve_searched.Goals as goal
 
 pub returns-in_default : goal.returns-in_default
 unfolding alloc_reply
-returns-in_default c = serve_none c.args.p c.args.wanted.align c.args.wanted.offset c.args.heap.now (find_block c.args.p c.args.wanted.holder c.args.wanted.bin c.args.wanted.offer (tables_of (view c.args.words.now) c.args.states.now c.args.marks.now)) (rw c.in_default.is at c.find_block-search.ensures) refl
+returns-in_default c = serve_none c.args.wanted.now.space.now.p c.args.wanted.now.request.align c.args.wanted.now.request.offset c.args.heap.now (find_block c.args.wanted.now.space.now.p c.args.wanted.now.holder.number c.args.wanted.now.bin.number c.args.wanted.now.request.offer (tables_of (view c.args.words.now) c.args.states.now c.args.marks.now)) (rw c.in_default.is at c.find_block-search.ensures) refl
 
 pub align_allocation-address-requires : goal.align_allocation-address-requires
-align_allocation-address-requires c = (c.requires.0.shift.align_from, c.requires.0.shift.align_to, cell_low c.args.p c.args.wanted.holder c.args.wanted.bin c.args.wanted.offer (view c.args.words.now) c.args.states.now c.args.heap.now _ c.requires.0.good c.requires.0.heads c.find_block-search.ensures c.block_alloc-taken.ensures, c.requires.0.shift.offset_low)
+align_allocation-address-requires c = (c.args.wanted.now.shift.align_from, c.args.wanted.now.shift.align_to, cell_low c.args.wanted.now.space.now.p c.args.wanted.now.holder.number c.args.wanted.now.bin.number c.args.wanted.now.request.offer (view c.args.words.now) c.args.states.now c.args.heap.now _ c.args.wanted.now.space.now.good c.requires.0.heads c.find_block-search.ensures c.block_alloc-taken.ensures, c.args.wanted.now.shift.offset_low)
 
 pub returns : goal.returns
 unfolding alloc_reply
-returns c = serve_cell c.args.p c.args.wanted.align c.args.wanted.offset c.args.heap.now (find_block c.args.p c.args.wanted.holder c.args.wanted.bin c.args.wanted.offer (tables_of (view c.args.words.now) c.args.states.now c.args.marks.now)) (rw c.in-Some.is at c.find_block-search.ensures) (not_none c.in-Some.start.some) c.block_at-b.ensures c.block_alloc-taken.ensures c.align_allocation-address.ensures
+returns c = serve_cell c.args.wanted.now.space.now.p c.args.wanted.now.request.align c.args.wanted.now.request.offset c.args.heap.now (find_block c.args.wanted.now.space.now.p c.args.wanted.now.holder.number c.args.wanted.now.bin.number c.args.wanted.now.request.offer (tables_of (view c.args.words.now) c.args.states.now c.args.marks.now)) (rw c.in-Some.is at c.find_block-search.ensures) (not_none c.in-Some.end.start.some) c.block_at-b.ensures c.block_alloc-taken.ensures c.align_allocation-address.ensures

@@ -10,4 +10,4 @@ pub overflow_add-result-2 : goal.overflow_add-result-2
 overflow_add-result-2 c = three_fit (moves_low c.args.space.now.p c.args.space.now.good _ _ _ c.append-free.ensures) (moves_low c.args.space.now.p c.args.space.now.good _ _ _ c.append-full.ensures) (moves_low c.args.space.now.p c.args.space.now.good _ _ _ c.append-kept.ensures)
 
 pub returns : goal.returns
-returns c = over_bin _ _ _ _ _ c.lists_of-own.ensures.available c.lists_of-own.ensures.unswept c.lists_of-own.ensures.consumed c.lists_of-other.ensures.available c.lists_of-other.ensures.unswept c.lists_of-other.ensures.consumed c.append-free.ensures c.append-full.ensures c.append-kept.ensures
+returns c = over_bin _ _ _ _ _ c.lists-own.ensures.available c.lists-own.ensures.unswept c.lists-own.ensures.consumed c.lists-other.ensures.available c.lists-other.ensures.unswept c.lists-other.ensures.consumed c.append-free.ensures c.append-full.ensures c.append-kept.ensures

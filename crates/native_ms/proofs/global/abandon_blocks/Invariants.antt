@@ -8,5 +8,5 @@ use Rattle.native_ms.proofs.global.abandon_blocks.Given as goal
 abbrev pub invariant-loop-bin : goal.invariant-loop-bin
 invariant-loop-bin l = record {
   few : l.count ≤ 3072 * l.bin;
-  same : moved l.count (view l.w) ≡ bins_move l.bin l.space.p l.to l.from (view l.initial.w);
+  same : moved l.count (view l.w) ≡ bins_move l.bin l.space.p l.to.set l.from.set (view l.initial.w);
 }

@@ -8,5 +8,5 @@ use Rattle.native_ms.proofs.global.release_bins.Given as goal
 abbrev pub invariant-loop-bin : goal.invariant-loop-bin
 invariant-loop-bin l = record {
   few : l.released ≤ 3072 * l.bin;
-  same : out l.released (view l.w) l.st ≡ total (released_bins l.space.p l.owner l.bin (view l.initial.w) l.initial.st);
+  same : out l.released (view l.w) l.st ≡ total (released_bins l.space.p l.owner.set l.bin (view l.initial.w) l.initial.st);
 }

@@ -10,5 +10,5 @@ use Rattle.native_ms.proofs.global.release_blocks.Given as goal
 abbrev pub invariant-loop : goal.invariant-loop
 invariant-loop l = record {
   few : l.released ≤ l.counter;
-  same : plus l.released (total (release_from (l.end - l.counter) l.space.p l.list l.link (view l.w) l.st)) ≡ total (release_from l.space.p.blocks l.space.p l.list l.initial.link (view l.initial.w) l.initial.st);
+  same : plus l.released (total (release_from (l.end - l.counter) l.space.p l.list.at l.link (view l.w) l.st)) ≡ total (release_from l.space.p.blocks l.space.p l.list.at l.initial.link (view l.initial.w) l.initial.st);
 }

@@ -1,9 +1,12 @@
 -- `global::shared_release` promises `call`: refused by its first tests, or its step on sound tables. Assumes nothing.
 use Rattle.std.proofs.lemmas.Result.{err_from_is_err_and}
 use Rattle.model.specs.Answers.{release_reply}
-use Rattle.native_ms.proofs.Tests.{lent_refused, lent_passed, open_known}
+use Rattle.native_ms.proofs.Tests.{lent_refused, lent_passed, open_good, open_known}
 use mathlib.Core.Path.{sym, ◌∙◌}
 use Rattle.native_ms.proofs.global.shared_release.Goals as goal
+
+pub invariant_of-do_shared_release : goal.invariant_of-do_shared_release
+invariant_of-do_shared_release c = record { good = open_good c.args.p _ _ _ _ (sym c.check_lent.ensures ∙ c.in_ok-check_lent.was) }
 
 pub do_shared_release-requires : goal.do_shared_release-requires
 do_shared_release-requires c = open_known c.args.p _ _ _ _ (sym c.check_lent.ensures ∙ c.in_ok-check_lent.was)

@@ -10,4 +10,4 @@ pub overflow_add-result-2 : goal.overflow_add-result-2
 overflow_add-result-2 c = three_fit (blocks_low c.args.space.now.p c.args.space.now.good _ _ _ _ c.release_blocks-free.ensures) (blocks_low c.args.space.now.p c.args.space.now.good _ _ _ _ c.release_blocks-full.ensures) (blocks_low c.args.space.now.p c.args.space.now.good _ _ _ _ c.release_blocks-waiting.ensures)
 
 pub returns : goal.returns
-returns c = later_total c.args.space.now.p c.args.bin (view c.args.w.now) c.args.st.now c.lists_of-shared.ensures.available c.lists_of-shared.ensures.unswept c.lists_of-shared.ensures.consumed c.release_blocks-free.ensures c.release_blocks-full.ensures c.release_blocks-waiting.ensures c.left_unswept.ensures c.left_unswept-2.ensures
+returns c = later_total c.args.space.now.p c.args.bin.number (view c.args.w.now) c.args.st.now c.lists-shared.ensures.available c.lists-shared.ensures.unswept c.lists-shared.ensures.consumed c.release_blocks-free.ensures c.release_blocks-full.ensures c.release_blocks-waiting.ensures c.left_unswept.ensures c.left_unswept-2.ensures

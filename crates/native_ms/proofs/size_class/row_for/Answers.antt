@@ -1,14 +1,20 @@
-use mathlib.Core.Path.{sym, ◌∙◌}
+-- `size_class::row_for` meets its contract: the first row that the words fall in is named.
 use native.Mathlib.Omega.{arith}
-use lib.ListN.{get_or}
-use Rattle.model.specs.SizeClasses.{no_row, row_at, covers}
-use Rattle.native_ms.proofs.Borders.{first_of, none_of, covers_past}
+use Rattle.model.specs.SizeClasses.{row_at, covers}
+use Rattle.native_ms.proofs.Borders.{first_row, no_first_row, covers_past}
 use Rattle.native_ms.proofs.size_class.row_for.Goals as goal
 
-pub returns-then-covers : goal.returns-then-covers
+pub returns-in-Some : goal.returns-in-Some
 unfolding row_at
-returns-then-covers c = first_of (λ k. covers (get_or c.args.p.rows k no_row) c.args.words) c.args.p.count c.loop-n.n c.loop-n.invariant (omega arith) (sym c.covers.ensures ∙ c.if-covers.true)
+returns-in-Some c =
+    let p = c.args.p in
+    let g = c.given-rows.ensures in
+    first_row p.rows p.count g.rows g.length (λ r. covers r c.args.words) c.in-Some.n c.first_covering.ensures c.in-Some.is
 
-pub returns : goal.returns
+pub returns-in-None : goal.returns-in-None
 unfolding row_at
-returns c = none_of (λ k. covers (get_or c.args.p.rows k no_row) c.args.words) c.args.p.count c.loop-n.n c.loop-n.invariant (λ k a b. covers_past c.args.p.rows c.args.words k (omega arith))
+returns-in-None c =
+    let p = c.args.p in
+    let g = c.given-rows.ensures in
+    no_first_row p.rows p.count g.rows g.length (λ r. covers r c.args.words) c.first_covering.ensures c.in-None.is
+    (λ k a b. covers_past p.rows c.args.words k (omega (arith, a, g.all)))

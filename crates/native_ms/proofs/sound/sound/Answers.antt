@@ -5,10 +5,10 @@ use Rattle.native_ms.proofs.SoundTests.{walk_parts, walk_blocks, walk_lists}
 use Rattle.native_ms.proofs.sound.sound.Goals as goal
 
 pub returns-then-not-all_fit : goal.returns-then-not-all_fit
-returns-then-not-all_fit c = λ m. walk_parts _ _ _ c.all_fit.ensures c.if-not-all_fit.true ∙ sound_walk_lem c.args.p c.requires.0.good _ _ m
+returns-then-not-all_fit c = λ m. walk_parts _ _ _ (rw c.new-lists.ensures at c.all_fit.ensures) c.if-not-all_fit.true ∙ sound_walk_lem c.args.lent.now.space.now.p c.args.lent.now.space.now.good _ _ m
 
 pub returns-in_default : goal.returns-in_default
-returns-in_default c = λ m. walk_blocks _ _ _ c.all_fit.ensures c.if-not-all_fit.false (rw (c.new.ensures.0, c.new.ensures.1, c.new.ensures.2) at c.unused.ensures) c.in_default.is ∙ sound_walk_lem c.args.p c.requires.0.good _ _ m
+returns-in_default c = λ m. walk_blocks _ _ _ (rw c.new-lists.ensures at c.all_fit.ensures) c.if-not-all_fit.false c.unused.ensures c.in_default.is ∙ sound_walk_lem c.args.lent.now.space.now.p c.args.lent.now.space.now.good _ _ m
 
 pub returns : goal.returns
-returns c = λ m. walk_lists _ _ _ c.all_fit.ensures c.if-not-all_fit.false (rw (c.new.ensures.0, c.new.ensures.1, c.new.ensures.2) at c.unused.ensures) c.in-Some.is (rw (c.new-2.ensures.0, c.new-2.ensures.1, c.new-2.ensures.2) at c.passes.ensures) c.eq.ensures ∙ sound_walk_lem c.args.p c.requires.0.good _ _ m
+returns c = λ m. walk_lists _ _ _ (rw c.new-lists.ensures at c.all_fit.ensures) c.if-not-all_fit.false c.unused.ensures c.in-Some.is (rw c.new-lists.ensures at c.passes.ensures) c.eq.ensures ∙ sound_walk_lem c.args.lent.now.space.now.p c.args.lent.now.space.now.good _ _ m

@@ -1,10 +1,16 @@
--- `count` meets its contract: one more than there are spaces. Leans on the laws of words.
-use mathlib.Core.Path.{◌≡◌}
+-- `count` meets its contract: as many as the library's pieces. Leans on the laws of words.
+use mathlib.Core.Path.{ap, ◌∙◌}
 use borrow.Author.Rules.{rules}
-use Rattle.std.specs.Prelude.{◌==◌, count_by}
-use Rattle.trace.proofs.WordsLaws.{count_pieces}
+use borrow.Author.Tests.{tests}
+use lib.ListN.{length}
+use Rattle.std.specs.Prelude.{◌==◌}
+use Rattle.std.proofs.lemmas.Iterator.Consumers.{count_from_yields_List}
+use Rattle.std.proofs.lemmas.Iterator.Splits.{YieldsList-from_slice_split}
+use Rattle.trace.proofs.WordsLaws.{split_pieces}
 use Rattle.trace.proofs.line_words.count.Goals as goal
 
 pub returns : goal.returns
 returns c =
-    let e : c.count.result ≡ count_by (λ x. x == 32) c.args.s.now = search rules in rw e (count_pieces 32 c.args.s.now)
+    count_from_yields_List c.split.result _ c.count.ensures.ran
+    (YieldsList-from_slice_split _ (λ x. x == 32) c.args.s.now c.split.ensures.rest c.split.ensures.done c.split.ensures.closure (λ x r q k. search (rules, tests)))
+    ∙ ap length (split_pieces 32 c.args.s.now)

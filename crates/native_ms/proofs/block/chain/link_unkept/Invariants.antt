@@ -3,4 +3,4 @@ use Rattle.native_ms.proofs.Offsets.{Walking}
 use Rattle.native_ms.proofs.block.chain.link_unkept.Given as goal
 
 abbrev pub invariant-loop : goal.invariant-loop
-invariant-loop g l = Walking l.p (goal.K-post g l.kept) l.span.size l.span.at l.span.count l.first l.head l.initial.heap l.counter l.offset l.bit l.last l.linked l.heap
+invariant-loop g l = Walking l.space.p (goal.K-post g l.kept) l.fn.begin.span.size l.fn.begin.span.at l.fn.begin.span.count l.fn.begin.first l.fn.begin.head l.initial.heap l.counter l.offset l.bit l.last l.linked l.heap

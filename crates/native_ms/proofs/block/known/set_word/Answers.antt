@@ -3,7 +3,7 @@ use Rattle.native_ms.proofs.SoundLent.{table_put, table_left}
 use Rattle.native_ms.proofs.block.known.set_word.Goals as goal
 
 pub returns-then-b-blocks : goal.returns-then-b-blocks
-returns-then-b-blocks c = table_put _ _ _ _ _ c.requires.0 c.if-b-blocks.true
+returns-then-b-blocks c = rw (← c.number.ensures.0) (table_put _ _ c.number.result _ _ c.requires c.if-b-blocks.true)
 
 pub returns-else-b-blocks : goal.returns-else-b-blocks
-returns-else-b-blocks c = table_left _ _ _ _ _ c.requires.0 c.if-b-blocks.false
+returns-else-b-blocks c = table_left _ _ _ _ _ c.requires c.if-b-blocks.false

@@ -3,4 +3,4 @@ use Rattle.native_ms.proofs.EagerLaws.{bin_recycled}
 use Rattle.native_ms.proofs.global.eager.recycle_bin.Goals as goal
 
 pub returns : goal.returns
-returns c = bin_recycled _ _ _ _ c.lists_of.ensures.available c.lists_of.ensures.consumed c.recycle_list.ensures
+returns c = bin_recycled _ _ _ _ c.lists.ensures.available c.lists.ensures.consumed c.recycle_list.ensures

@@ -6,4 +6,4 @@ use Rattle.model.specs.Global.{recycle_bin}
 use Rattle.native_ms.proofs.global.eager.recycle_blocks.Given as goal
 
 abbrev pub invariant-loop-bin : goal.invariant-loop-bin
-invariant-loop-bin l = view l.w ≡ each_below l.bin (recycle_bin l.space.p l.owner) (view l.initial.w)
+invariant-loop-bin l = view l.w ≡ each_below l.bin (recycle_bin l.space.p l.owner.set) (view l.initial.w)

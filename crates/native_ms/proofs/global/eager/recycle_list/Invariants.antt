@@ -6,4 +6,4 @@ use Rattle.model.specs.Global.{recycle_from}
 use Rattle.native_ms.proofs.global.eager.recycle_list.Given as goal
 
 abbrev pub invariant-loop : goal.invariant-loop
-invariant-loop l = recycle_from (l.end - l.counter) l.space.p l.own.available l.own.consumed l.link (view l.w) ≡ recycle_from l.space.p.blocks l.space.p l.own.available l.own.consumed l.initial.link (view l.initial.w)
+invariant-loop l = recycle_from (l.end - l.counter) l.space.p l.own.available.at l.own.consumed.at l.link (view l.w) ≡ recycle_from l.space.p.blocks l.space.p l.own.available.at l.own.consumed.at l.initial.link (view l.initial.w)

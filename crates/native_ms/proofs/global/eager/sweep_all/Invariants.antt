@@ -10,5 +10,5 @@ use Rattle.native_ms.proofs.global.eager.sweep_all.Given as goal
 abbrev pub invariant-loop-number : goal.invariant-loop-number
 invariant-loop-number l = record {
   few : l.swept ≤ l.number;
-  same : done l.swept (view l.w) l.heap ≡ swept_in l.p l.initial.heap (each_below l.number (sweep_block l.p l.m) (freed (view l.initial.w) l.st));
+  same : done l.swept (view l.w) l.heap ≡ swept_in l.space.p l.initial.heap (each_below l.number (sweep_block l.space.p l.m) (freed (view l.initial.w) l.st));
 }

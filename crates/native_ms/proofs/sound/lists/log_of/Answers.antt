@@ -4,4 +4,4 @@ use Rattle.native_ms.proofs.SoundLent.{power_log}
 use Rattle.native_ms.proofs.sound.lists.log_of.Goals as goal
 
 pub returns : goal.returns
-returns c = power_log _ (good c.args.p (c.requires)).bytes_power
+returns c = power_log _ (good c.args.space.now.p c.args.space.now.good).bytes_power

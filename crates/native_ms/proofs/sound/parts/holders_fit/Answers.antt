@@ -1,5 +1,11 @@
-use Rattle.laws.proofs.Below.{all_fails}
+-- `parts::holders_fit` meets its contract.
+use Rattle.std.proofs.Common.{rules}
+use Rattle.std.proofs.iter.runs.Sources.{ranges}
+use Rattle.model.specs.Tables.{view}
+use Rattle.native_ms.specs.SoundWalk.{holder_fits}
+use Rattle.native_ms.proofs.Each.{all_each}
 use Rattle.native_ms.proofs.sound.parts.holders_fit.Goals as goal
 
-pub returns-then-not-holder_fits : goal.returns-then-not-holder_fits
-returns-then-not-holder_fits c = all_fails _ _ _ c.loop-i-test.true c.holder_fits.ensures c.if-not-holder_fits.true
+pub returns : goal.returns
+unfolding holder_fits
+returns c = all_each _ (holder_fits (view c.args.lists.now.lent.now.words.now)) _ (search (rules, ranges))

@@ -1,5 +1,11 @@
-use Rattle.laws.proofs.Below.{all_fails}
+-- `parts::parts_fit` meets its contract.
+use Rattle.std.proofs.Common.{rules}
+use Rattle.std.proofs.iter.runs.Sources.{ranges}
+use Rattle.model.specs.Tables.{view}
+use Rattle.native_ms.specs.SoundWalk.{part_fits}
+use Rattle.native_ms.proofs.Each.{all_each}
 use Rattle.native_ms.proofs.sound.parts.parts_fit.Goals as goal
 
-pub returns-then-not-part_fits : goal.returns-then-not-part_fits
-returns-then-not-part_fits c = all_fails _ _ _ c.loop-part-test.true c.part_fits.ensures c.if-not-part_fits.true
+pub returns : goal.returns
+unfolding part_fits
+returns c = all_each _ (part_fits (view c.args.words.now)) _ (search (rules, ranges))

@@ -9,6 +9,6 @@ use Rattle.native_ms.proofs.sound.blocks.Blocks.unused.Given as goal
 abbrev pub invariant-loop-b : goal.invariant-loop-b
 invariant-loop-b l = record {
   few : l.unused ≤ l.b;
-  all : (k : ℕ) → k < l.b → block_fits l.self.p.now (view l.self.words.now) l.self.states.now k ≡ true;
-  sum : l.unused ≡ sum_below l.b (free_at l.self.states.now);
+  all : (k : ℕ) → k < l.b → block_fits l.lent.space.now.p (view l.lent.words.now) l.lent.states.now k ≡ true;
+  sum : l.unused ≡ sum_below l.b (free_at l.lent.states.now);
 }

@@ -7,4 +7,4 @@ use Rattle.native_ms.specs.SoundWalk.{passes}
 use Rattle.native_ms.proofs.sound.lists.Lists.pass_set.Given as goal
 
 abbrev pub invariant-loop-list : goal.invariant-loop-list
-invariant-loop-list l = (l.from ≤ l.list) × (passes l.list l.self.p.now (view l.self.words.now) l.self.states.now l.left ≡ passes (l.from + bins) l.self.p.now (view l.self.words.now) l.self.states.now l.initial.left)
+invariant-loop-list l = (l.from ≤ l.list) × (passes l.list l.self.lent.now.space.now.p (view l.self.lent.now.words.now) l.self.lent.now.states.now l.left ≡ passes (l.from + bins) l.self.lent.now.space.now.p (view l.self.lent.now.words.now) l.self.lent.now.states.now l.initial.left)

@@ -7,4 +7,4 @@ use Rattle.native_ms.specs.SoundWalk.{passes}
 use Rattle.native_ms.proofs.sound.lists.Lists.passes.Given as goal
 
 abbrev pub invariant-loop-set : goal.invariant-loop-set
-invariant-loop-set l = passes (bins * l.set) l.self.p.now (view l.self.words.now) l.self.states.now l.left ≡ passes (bins * sets) l.self.p.now (view l.self.words.now) l.self.states.now l.initial.left
+invariant-loop-set l = passes (bins * l.set) l.self.lent.now.space.now.p (view l.self.lent.now.words.now) l.self.lent.now.states.now l.left ≡ passes (bins * sets) l.self.lent.now.space.now.p (view l.self.lent.now.words.now) l.self.lent.now.states.now l.initial.left
