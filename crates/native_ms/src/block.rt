@@ -19,7 +19,7 @@ use crate::memory;
 use model::{Address, Block, Params};
 pub(crate) use words::states::{MARKED, UNALLOCATED, UNMARKED};
 use words::tables::Table;
-use words::{bytes, states, tables};
+use words::{states, tables};
 
 // The cell that was taken.
 #[derive(Clone, Copy)]
@@ -293,8 +293,8 @@ pub(crate) fn take_head(space: &Space, words: &mut [usize], heap: &mut [u8], b: 
     let size = cells.size;
     let at = Address(cells.free.head);
     let offset = at.0 - space.p.base;
-    let next = bytes::read(heap, offset, 8);
+    let next = memory::word_at(heap, offset);
     known::set_chain(words, blocks, b, cells.free.behind(next));
-    bytes::fill(heap, offset, size);
+    memory::clear(heap, offset, size);
     Taken { at, size }
 }

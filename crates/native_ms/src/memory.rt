@@ -1,10 +1,11 @@
 // Words, zeros and mark bits by address, over the lent heap and mark bytes. Total: an address below the heap is taken for
-// its first byte, as in the definitions.
+// its first byte, as in the definitions. At the end, words, zeros and mark bits by offset and index that are known to be there: `words` has these
+// for any place, with a test of each, which the loops over a block's cells can't afford.
 #![tactic(auto, unfolding(model::specs::Memory::load, model::specs::Memory::store, model::specs::Memory::zeroed, model::specs::Memory::set_mark, model::specs::Memory::mark_index))]
 
 // Each takes parameters, heap and address, as its definition does.
-ghost use Rattle.std.specs.Prelude.{◌≡◌, ◌-◌};
-ghost use Rattle.model.specs.Memory.{load, store, zeroed, marked, set_mark};
+ghost use Rattle.std.specs.Prelude.{◌≡◌, ◌+◌, ◌-◌, ◌/◌, ◌%◌, ◌<◌, ◌≤◌, length, get_or, replicate};
+ghost use Rattle.model.specs.Memory.{load, store, zeroed, marked, set_mark, load_bytes, bytes_of, overwrite, bit_of};
 
 use crate::address::Space;
 use model::{Address, Params};
@@ -48,4 +49,39 @@ pub(crate) fn set_mark(p: Params, m: &mut [u8], place: Address)
     ensures { m.new ≡ set_mark p m.old place.0 }
 {
     marks::set_bit(m, offset(p, place) / 8);
+}
+
+// ---- at places that are known to be there
+
+// The word at an offset.
+pub(crate) fn word_at(h: &[u8], i: usize) -> usize
+    requires { i + 8 ≤ length h.now }
+    ensures { result ≡ load_bytes 8 h.now i }
+{
+    let mut bytes = [0; 8];
+    bytes.copy_from_slice(&h[i..i + 8]);
+    usize::from_le_bytes(bytes)
+}
+
+pub(crate) fn put_word(h: &mut [u8], i: usize, v: usize)
+    requires { i + 8 ≤ length h.old }
+    ensures { h.new ≡ overwrite i (bytes_of 8 v) h.old }
+{
+    h[i..i + 8].copy_from_slice(&v.to_le_bytes());
+}
+
+// Makes the n bytes from an offset on 0.
+pub(crate) fn clear(h: &mut [u8], i: usize, n: usize)
+    requires { i + n ≤ length h.old }
+    ensures { h.new ≡ overwrite i (replicate n 0) h.old }
+{
+    h[i..i + n].fill(0);
+}
+
+// Mark bit g.
+pub(crate) fn bit(m: &[u8], g: usize) -> bool
+    requires { g / 8 < length m.now }
+    ensures { result ≡ bit_of (get_or m.now (g / 8) 0) (g % 8) }
+{
+    (m[g / 8] >> (g % 8)) & 1 == 1
 }

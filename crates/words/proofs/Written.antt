@@ -50,7 +50,8 @@ zeros_least i n h l = go (dec_lt n (length h - i))
     go (yes y) = let e : min n (length h - i) ≡ n = omega (arith, y) in rw e
     go (no y) = let e : min n (length h - i) ≡ length h - i = omega (arith, y) in rw e (zeros_short (length h - i) n i h (omega (arith, l)) (omega (arith, y)))
 
-word_is : (v : ℕ) → to_le_bytes w64 v ≡ bytes_of 8 v
+-- a word's bytes are the library's
+pub word_is : (v : ℕ) → to_le_bytes w64 v ≡ bytes_of 8 v
 unfolding bytes_of
 word_is v = sym (simp div-div-eq-div-mul)
 
@@ -114,3 +115,11 @@ part_from i n h l m =
     (λ k x y. let e : 0 + k ≡ k = omega arith in
     ap (λ (y : ℕ). get_or (part ++ zs) y 0) e ∙ get_or-append_right part zs k 0 (omega (arith, x, len))
     ∙ get_or-drop n (replicate 8 0) (k - length part) 0 ∙ zero_read 8 (n + (k - length part)))
+
+-- the eight bytes from i on
+pub word_part : (i : ℕ) (h : List ℕ) → i + 8 ≤ length h → from_le_bytes w64 (take (i + 8 - i) (drop i h)) ≡ load_bytes 8 h i
+word_part i h l =
+    let part : List ℕ = take (i + 8 - i) (drop i h) in
+    word_from part ∙ load_same 8 8 part h 0 i (omega arith)
+    (λ k x. let e : 0 + k ≡ k = omega arith in ap (λ (y : ℕ). get_or part y 0) e ∙ part_item i 8 h k x)
+    (λ k x y. absurd (not-suc-le-zero {n = 0} (omega (arith, x, y))))

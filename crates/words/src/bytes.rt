@@ -1,9 +1,9 @@
-// Words of 8 bytes, low byte first, and zeros, in a slice of bytes: first at places that are known to be there, then at any place.
+// Words of 8 bytes, low byte first, and zeros, in a slice of bytes: what the three calls at the end share goes by places that are there.
 ghost use Rattle.std.specs.Prelude.{◌≡◌, ◌+◌, ◌≤◌, length, replicate};
 ghost use Rattle.model.specs.Memory.{load_bytes, bytes_of, overwrite};
 
 // The number that n bytes from i on make.
-pub fn read(h: &[u8], i: usize, n: usize) -> usize
+fn read(h: &[u8], i: usize, n: usize) -> usize
     requires { (i + n ≤ length h.now) × (n ≤ 8) }
     ensures { result ≡ load_bytes n h.now i }
 {
@@ -13,7 +13,7 @@ pub fn read(h: &[u8], i: usize, n: usize) -> usize
 }
 
 // The n low bytes of v, from i on.
-pub fn write(h: &mut [u8], i: usize, v: usize, n: usize)
+fn write(h: &mut [u8], i: usize, v: usize, n: usize)
     requires { (i + n ≤ length h.old) × (n ≤ 8) }
     ensures { h.new ≡ overwrite i (bytes_of n v) h.old }
 {
@@ -21,7 +21,7 @@ pub fn write(h: &mut [u8], i: usize, v: usize, n: usize)
 }
 
 // Makes the n bytes from i on 0.
-pub fn fill(h: &mut [u8], i: usize, n: usize)
+fn fill(h: &mut [u8], i: usize, n: usize)
     requires { i + n ≤ length h.old }
     ensures { h.new ≡ overwrite i (replicate n 0) h.old }
 {

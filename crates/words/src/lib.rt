@@ -1,5 +1,4 @@
-// Access to what is lent. The accessors of the tables, the marks of a cell and the states test each index, so that nothing is required
-// of a caller; bytes::read, write and fill and marks::bit are for places that the caller has tested, and require that.
+// Total access to what is lent: each call tests its index, so that nothing is required of a caller.
 #![tactic(auto)]
 
 pub mod bytes;

@@ -4,7 +4,7 @@ ghost use Rattle.model.specs.Memory.{bit_of, set_bit, cleared};
 ghost use Rattle.words.specs.Bits.{clear_bit};
 
 // Mark bit g, whose byte is known to be there.
-pub fn bit(m: &[u8], g: usize) -> bool
+fn bit(m: &[u8], g: usize) -> bool
     requires { g / 8 < length m.now }
     ensures { result ≡ bit_of (get_or m.now (g / 8) 0) (g % 8) }
 {

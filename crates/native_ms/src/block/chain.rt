@@ -9,8 +9,8 @@ ghost use Rattle.native_ms.specs.Places.{Places, Inside, ByBits, Extends, Reach,
 
 use crate::address::Space;
 use crate::block::{Cell, marks};
+use crate::memory;
 use model::{Address, Block};
-use words::{bytes, marks as bits};
 
 // Cells one behind the other, from the heap offset `at` on.
 #[derive(Clone, Copy)]
@@ -98,7 +98,7 @@ fn link_unkept<K: Fn(usize, usize) -> bool>(
     let mut linked: usize = 0;
     for _ in 0..begin.span.count {
         if !kept(offset, bit) {
-            bytes::write(heap, offset, last, 8);
+            memory::put_word(heap, offset, last);
             last = base + offset;
             linked += 1;
         }
@@ -144,7 +144,7 @@ pub(crate) fn link_by_bit(space: &Space, marks: &[u8], heap: &mut [u8], begin: B
         |_, bit|
             requires { bit / 8 < length marks.now }
             ensures { result ≡ bit_of (get_or marks.entry.now (bit / 8) 0) (bit % 8) }
-        { bits::bit(marks, bit) },
+        { memory::bit(marks, bit) },
     )
 }
 

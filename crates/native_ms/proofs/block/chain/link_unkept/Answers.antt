@@ -9,6 +9,6 @@ overflow_add-last g c = let x = next_in _ _ _ _ _ _ c.requires.cells c.loop-test
 pub loop-preserved : goal.loop-preserved
 loop-preserved g c =
     elim c.if-not-kept.branch [
-      | then-not-kept w ↦ rw (w.heap-is, w.last-is, w.linked-is) (walking_freed _ _ _ _ _ _ _ _ _ _ _ _ _ _ c.loop.invariant c.loop-test.true c.kept.ensures w.if-not-kept.true w.write.ensures)
+      | then-not-kept w ↦ rw (w.heap-is, w.last-is, w.linked-is) (walking_freed _ _ _ _ _ _ _ _ _ _ _ _ _ _ c.loop.invariant c.loop-test.true c.kept.ensures w.if-not-kept.true w.put_word.ensures)
       | else-not-kept w ↦ rw (w.heap-is, w.last-is, w.linked-is) (walking_kept _ _ _ _ _ _ _ _ _ _ _ _ _ _ c.loop.invariant c.loop-test.true c.kept.ensures w.if-not-kept.false)
     ]
