@@ -2,16 +2,16 @@
 -- Each law is one way on or out of a walk. Assumes nothing.
 use Rattle.std.specs.Prelude.{if◌then◌else◌}
 use Rattle.std.proofs.Common.{Option, Some, None}
-use Prim.Native.Nat.{ℕ, zero, suc, min, ◌+◌, ◌*◌, ◌/◌, ◌<◌, ◌≤◌}
+use Prim.Native.Nat.{ℕ, zero, suc, ◌+◌, ◌-◌, ◌*◌, ◌/◌, ◌<◌, ◌≤◌}
 use mathlib.Core.Path.{◌≡◌, refl, sym, ap, ◌∙◌}
 use mathlib.Core.Bool.{Bool, true, false}
 use mathlib.Core.List.{List, [], ◌∷◌, map}
-use Rattle.std.proofs.lemmas.List.{get_or-map, get_or-take, length-take}
+use Rattle.std.proofs.lemmas.List.{get_or-map}
 use native.Mathlib.Nat.{add-zero, zero-add, suc-mul, mul-le-mul, not-suc-le-zero}
 use native.Mathlib.Numerals.{add-one}
 use native.Mathlib.Omega.{arith}
 use lib.Dec.{eqb}
-use lib.ListN.{length, get_or, take, drop}
+use lib.ListN.{length, get_or}
 use borrow.Author.Tests.{eq-eqb, ne_eqb, eqb-true}
 use Rattle.model.specs.declared.Params.{Params}
 use Rattle.model.specs.Base.{all_below, sum_below}
@@ -20,7 +20,7 @@ use Rattle.model.specs.Params.{good_params, word_count, head_words, block_tables
 use Rattle.model.specs.Tables.{view}
 use Rattle.model.specs.BlockList.{walk, ends, pages_used, pages_end}
 use Rattle.model.specs.Calls.{answered, refused, pages}
-use Rattle.laws.proofs.Below.{and_three, all_below_off}
+use Rattle.laws.proofs.Below.{and_three}
 use Rattle.laws.proofs.Params.{Bounds}
 use Rattle.native_ms.specs.Counted.{counted, counted_bins, counted_from, set_fits}
 
@@ -89,45 +89,37 @@ module _ (p : Params) (next : List ℕ) (a k : ℕ) {r : Option ℕ} (e : r ≡ 
   pub counted_few : {m : ℕ} → r ≡ Some m → m ≤ k
   counted_few h = omega (arith, (walk_yes h).same, walk_few k p next a)
 
--- ---- 48 lists, from bin 1 up
+-- ---- 48 lists, from bin 48 down
 
--- where the list of bin k + 1 starts, by what it is lent as: the list k of those from bin 1 on
-starts_at : {X : Type 0} (f : X → ℕ) (xs : List X) (k : ℕ) {x : X} {a : ℕ} → k < length (drop 1 xs) → x ≡ get_or (drop 1 xs) k x → a ≡ f x
-    → a ≡ get_or (map f xs) (k + 1) 0
-starts_at f [] k h e ea = absurd (not-suc-le-zero h)
-starts_at f (y ∷ ys) k {x} h e ea = rw (add-one k) (ea ∙ ap f e ∙ sym (get_or-map f ys k x 0 h))
+-- where the list of a bin starts, by what it is lent as
+pub starts_in : {X : Type 0} (f : X → ℕ) (xs : List X) (k : ℕ) {x : X} {a : ℕ} → k < length xs → x ≡ get_or xs k x → a ≡ f x → a ≡ get_or (map f xs) k 0
+starts_in f xs k {x} h e ea = ea ∙ ap f e ∙ sym (get_or-map f xs k x 0 h)
 
-pub starts_in : {X : Type 0} (f : X → ℕ) (xs : List X) (n k : ℕ) {x : X} {a : ℕ} → k < length (take n (drop 1 xs))
-    → x ≡ get_or (take n (drop 1 xs)) k x → a ≡ f x → a ≡ get_or (map f xs) (k + 1) 0
-starts_in f xs n k {x} h e =
-    let low : k < min n (length (drop 1 xs)) = simp length-take at h in
-    starts_at f xs k (omega arith) (e ∙ get_or-take n (drop 1 xs) k x (omega arith))
+walked_at : Params → List ℕ → List ℕ → ℕ → ℕ
+walked_at p next firsts i = length (walk p.blocks p next (get_or firsts (i + 1) 0))
 
-module _ (p : Params) (next firsts : List ℕ) where
-  ends_at : ℕ → Bool
-  ends_at i = ends p.blocks p next (get_or firsts (i + 1) 0)
-
-  walked_at : ℕ → ℕ
-  walked_at i = length (walk p.blocks p next (get_or firsts (i + 1) 0))
-
-  pub bins_none : (k : ℕ) → k ≤ 0 → Some 0 ≡ counted_bins k p next firsts 0
+module _ (p : Params) (next firsts : List ℕ) (n : ℕ) where
+  pub bins_end : (k : ℕ) → k ≤ 0 → Some n ≡ counted_bins k p next firsts n
   unfolding counted_bins all_below sum_below
-  bins_none zero h = refl
-  bins_none (suc k) h = absurd (not-suc-le-zero h)
+  bins_end zero h = rw (add-zero n)
+  bins_end (suc k) h = absurd (not-suc-le-zero h)
 
-  pub bins_bad : (n k : ℕ) {r : Option ℕ} {a : ℕ} → k < n → a ≡ get_or firsts (k + 1) 0 → r ≡ counted_from p.blocks p next 0 a → r ≡ None
-      → None ≡ counted_bins n p next firsts 0
-  unfolding counted_bins ends_at
-  bins_bad n k {a = a} l ea e h = rw (all_below_off n ends_at k l (rw (← ea) (walk_no p next a p.blocks e h)))
+  pub bins_bad : (k : ℕ) {r : Option ℕ} {a : ℕ} → 0 < k → a ≡ get_or firsts k 0 → r ≡ counted_from p.blocks p next 0 a → r ≡ None
+      → None ≡ counted_bins k p next firsts n
+  unfolding counted_bins all_below
+  bins_bad zero s ea e h = absurd (not-suc-le-zero s)
+  bins_bad (suc k) {a = a} s ea e h = rw (add-one k, ← ea, walk_no p next a p.blocks e h)
 
-  pub bins_step : (k n : ℕ) {r : Option ℕ} {a m : ℕ} → Some n ≡ counted_bins k p next firsts 0 → a ≡ get_or firsts (k + 1) 0
-      → r ≡ counted_from p.blocks p next 0 a → r ≡ Some m → Some (n + m) ≡ counted_bins (k + 1) p next firsts 0
-  unfolding counted_bins all_below sum_below ends_at walked_at
-  bins_step k n {r} {a} {m} i ea e h =
+  pub bins_step : (k : ℕ) {r : Option ℕ} {a m : ℕ} → 0 < k → a ≡ get_or firsts k 0 → r ≡ counted_from p.blocks p next 0 a → r ≡ Some m
+      → counted_bins (k - 1) p next firsts (n + m) ≡ counted_bins k p next firsts n
+  unfolding counted_bins all_below sum_below
+  bins_step zero s ea e h = absurd (not-suc-le-zero s)
+  bins_step (suc k) {r} {a} {m} s ea e h =
+      let d : suc k - 1 ≡ k = omega arith in
       let y = walk_yes p next a p.blocks e h in
-      let before = counted_yes (all_below k ends_at) n (0 + sum_below k walked_at) i in
-      let sum : n + m ≡ 0 + (m + sum_below k walked_at) = omega (arith, before.same) in
-      rw (add-one k, ← ea, y.good, before.good, ← y.same, sum)
+      let rest = sum_below k (λ i. length (walk p.blocks p next (get_or firsts (i + 1) 0))) in
+      let sum : n + m + rest ≡ n + (m + rest) = omega arith in
+      rw (d, add-one k, ← ea, y.good, ← y.same, sum)
 
 -- ---- pages used, from the count of all bins
 

@@ -8,19 +8,20 @@ use native.Mathlib.Nat.{not-suc-le-zero}
 use native.Mathlib.Omega.{arith}
 use lib.Dec.{eqb, leb}
 use lib.ListN.{get_or}
+use mir.Val.{bool_byte}
 use borrow.Author.Tests.{eq-eqb, ne_eqb, lt-ltb, le-ltb, le-leb, lt-leb}
 use Rattle.model.specs.declared.Params.{Params}
-use Rattle.model.specs.Base.{all_below, flag}
-use Rattle.model.specs.Params.{start, block_at, is_start, list_of}
+use Rattle.model.specs.Base.{all_below, sum_below, flag}
+use Rattle.model.specs.Params.{start, block_at, is_start, list_of, holders, parts}
 use Rattle.model.specs.Tables.{Words}
 use Rattle.model.specs.Block.{is_cell}
 use Rattle.model.specs.Global.{is_holder, is_bound, has_released, all_released}
-use Rattle.model.specs.Sound.{owner_empty}
+use Rattle.model.specs.Sound.{owner_empty, in_gc_empty, phase_known, released_some}
 use Rattle.laws.proofs.Below.{and_second, all_below_off, all_below_from}
 use Rattle.laws.proofs.Tables.{by_lt}
 use Rattle.std.specs.Option.{option_eq}
 use Rattle.std.proofs.Common.{Option, None, Some}
-use Rattle.native_ms.specs.SoundWalk.{block_fits, unused, unused_if_fit, stands_on, last_is, pass_from, passes, parts_sound}
+use Rattle.native_ms.specs.SoundWalk.{block_fits, unused, unused_if_fit, stands_on, last_is, pass_from, passes, holder_fits, part_fits, parts_sound}
 use Rattle.native_ms.proofs.SoundWalkLaws.{lists_full, sound_walk}
 
 -- ---- small ones
@@ -164,10 +165,45 @@ module _ (s : List ℕ) where
   abbrev pub free_at : ℕ → ℕ
   free_at b = flag (eqb (get_or s b 0) 0)
 
+  byte_flag : (t : Bool) → bool_byte t ≡ flag t
+  unfolding flag
+  byte_flag true = refl
+  byte_flag false = refl
+
+  pub counts : (b : ℕ) {x y : ℕ} → x ≡ get_or s b 0 → y ≡ bool_byte (eqb x 0) → y ≡ free_at b
+  counts b ex ey = ey ∙ ap (λ (v : ℕ). bool_byte (eqb v 0)) ex ∙ byte_flag (eqb (get_or s b 0) 0)
+
+  flag_one_at_most : (t : Bool) {y : ℕ} → y ≡ flag t → y ≤ 1
+  unfolding flag
+  flag_one_at_most true q = omega (arith, q)
+  flag_one_at_most false q = omega (arith, q)
+
+  pub counts_one : (b : ℕ) {y : ℕ} → y ≡ free_at b → y ≤ 1
+  counts_one b e = flag_one_at_most (eqb (get_or s b 0) 0) e
+
+  -- one block fewer is left, and x counts it
+  pub unused_step : (n k : ℕ) {whole x : ℕ} → 0 < k → n + sum_below k free_at ≡ whole → x ≡ free_at (k - 1) → n + x + sum_below (k - 1) free_at ≡ whole
+  unfolding sum_below
+  unused_step n zero h inv ex = absurd (not-suc-le-zero h)
+  unused_step n (suc k) h inv ex =
+      let d : suc k - 1 ≡ k = omega arith in
+      let e : free_at (suc k - 1) ≡ free_at k = ap free_at d in
+      let o : sum_below (suc k - 1) free_at ≡ sum_below k free_at = ap (λ (j : ℕ). sum_below j free_at) d in
+      omega (arith, inv, ex, e, o)
+
+  pub unused_end : (n k : ℕ) {whole : ℕ} → k ≤ 0 → n + sum_below k free_at ≡ whole → n ≡ whole
+  unfolding sum_below
+  unused_end n zero h inv = omega (arith, inv)
+  unused_end n (suc k) h inv = absurd (not-suc-le-zero h)
+
 module _ (p : Params) (w : Words) (s : List ℕ) where
   pub fit_bad : all_below p.blocks (block_fits p w s) ≡ false → None ≡ unused_if_fit p w s
   unfolding unused_if_fit
   fit_bad e = rw e
+
+  pub fit_some : {n : ℕ} → all_below p.blocks (block_fits p w s) ≡ true → n ≡ sum_below p.blocks (free_at s) → Some n ≡ unused_if_fit p w s
+  unfolding unused_if_fit unused
+  fit_some e q = rw (e, q)
 
   bad_if : (b : Bool) (u : ℕ) {r : Option ℕ} → r ≡ (if b then Some u else None) → r ≡ None → b ≡ false
   bad_if true u {r} e z = let x : ◌≡◌ {A = ℕ} 0 1 = cc in absurd (omega arith)
@@ -273,6 +309,18 @@ module _ (w t : Words) (same : t.bound ≡ w.bound) (k : ℕ) {b : Bool} (eb : b
   then_due from z er = one_due t k from (due_on t k bound_same z er)
 
 -- ---- all of it
+
+five : (a b c d e : Bool) → ((a && b && c) && (d && e)) ≡ (a && b && c && d && e)
+five true true true d e = refl
+five true true false d e = refl
+five true false c d e = refl
+five false b c d e = refl
+
+-- the tests before the lists are read, and those of lists
+pub parts_both : (w : Words) {a b : Bool} → a ≡ (phase_known w && all_below parts (part_fits w) && released_some w)
+    → b ≡ (all_below holders (holder_fits w) && in_gc_empty w) → (a && b) ≡ parts_sound w
+unfolding parts_sound
+parts_both w ea eb = rw (ea, eb) (five (phase_known w) (all_below parts (part_fits w)) (released_some w) (all_below holders (holder_fits w)) (in_gc_empty w))
 
 module _ (p : Params) (w : Words) (s : List ℕ) {a : Bool} (ea : a ≡ parts_sound w) where
   pub walk_parts : a ≡ false → false ≡ sound_walk p w s

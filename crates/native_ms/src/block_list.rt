@@ -296,14 +296,14 @@ fn count_blocks(space: &Space, w: &[usize], first: Address) -> Option<usize>
     None
 }
 
-// The walks of the bins 1 to 48 of a set.
+// The walks of the bins 48 to 1 of a set.
 fn count_bins<L: Starts>(space: &Space, w: &[usize], lists: &[L]) -> Option<usize>
     requires { length lists.now ≡ bins }
     ensures { result ≡ counted_bins last_bin space.now.p (view w.now).next (map L.first_of lists.now) 0 }
 {
     let mut met: usize = 0;
-    for list in &lists[1..] {
-        let first = list.first();
+    for bin in (1..BINS).rev() {
+        let first = lists[bin].first();
         met += count_blocks(space, w, first)?;
     }
     Some(met)

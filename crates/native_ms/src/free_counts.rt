@@ -56,18 +56,17 @@ fn block_chained(b: LentBlock, heap: &[u8]) -> bool
     b.state() == block::UNALLOCATED || chain_ok(b, heap)
 }
 
-// Each block's chain.
+// Each block's chain, from the last block down: one that is broken there is told before the others are walked.
 fn chained<'a>(lent: &'a Lent<'a>, heap: &[u8]) -> bool
     ensures { (m : List ℕ) → result ≡ chained lent.now.space.now.p (tables_of (view lent.now.words.now) lent.now.states.now m) heap.now }
 {
-    (0..lent.space.p.blocks).all(
-        |b|
-            requires { b < lent.now.space.now.p.blocks }
-        {
-            let block = Block(b);
-            block_chained(LentBlock { lent, block }, heap)
-        },
-    )
+    for b in (0..lent.space.p.blocks).rev() {
+        let block = Block(b);
+        if !block_chained(LentBlock { lent, block }, heap) {
+            return false;
+        }
+    }
+    true
 }
 
 // The block's free cells, if it is of the bin.

@@ -21,8 +21,11 @@ pub(crate) fn sound<'a>(lent: &'a Lent<'a>) -> bool
     requires { classes_fit lent.now.space.now.p ≡ true }
     ensures { (m : List ℕ) → result ≡ sound lent.now.space.now.p (tables_of (view lent.now.words.now) lent.now.states.now m) }
 {
+    if !parts::marks_fit(lent.words) {
+        return false;
+    }
     let lists = Lists::new(lent);
-    if !parts::all_fit(&lists) {
+    if !parts::lists_fit(&lists) {
         return false;
     }
     let classes = &classes::class_sizes(lent.space);

@@ -90,14 +90,13 @@ impl<'a> Blocks<'a> {
             && b.tls_ok()
     }
 
-    // How many blocks are Unallocated, if each fits.
-    #[tactic(auto, using(laws::proofs::Below::sum_start, laws::proofs::Below::sum_up, laws::proofs::Below::all_below_from), unfolding(model::specs::Base::flag, crate::specs::SoundWalk::unused_if_fit, crate::specs::SoundWalk::unused))]
+    // How many blocks are Unallocated, if each fits; from the last one down, as all walks over the blocks of a call's first tests.
     pub(crate) fn unused(&self) -> Option<usize>
         ensures { result ≡ unused_if_fit self.now.lent.now.space.now.p (view self.now.lent.now.words.now) self.now.lent.now.states.now }
     {
         let lent = self.lent;
         let mut unused: usize = 0;
-        for b in 0..lent.space.p.blocks {
+        for b in (0..lent.space.p.blocks).rev() {
             let block = Block(b);
             let here = LentBlock { lent, block };
             if !self.block_fits(here) {

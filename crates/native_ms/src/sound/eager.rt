@@ -31,17 +31,18 @@ fn eager_block(b: LentBlock) -> bool
     set % 3 != 1 && (state != block::UNMARKED || !released_before(b.lent, set))
 }
 
-// Each block. Nothing is asked with the choice off.
+// Each block, from the last one down. Nothing is asked with the choice off.
 pub(crate) fn eager_ok<'a>(lent: &'a Lent<'a>) -> bool
     ensures { (m : List ℕ) → result ≡ eager_ok lent.now.space.now.p (tables_of (view lent.now.words.now) lent.now.states.now m) }
 {
-    !lent.space.p.eager
-        || (0..lent.space.p.blocks).all(
-            |b|
-                requires { b < lent.now.space.now.p.blocks }
-            {
-                let block = Block(b);
-                eager_block(LentBlock { lent, block })
-            },
-        )
+    if !lent.space.p.eager {
+        return true;
+    }
+    for b in (0..lent.space.p.blocks).rev() {
+        let block = Block(b);
+        if !eager_block(LentBlock { lent, block }) {
+            return false;
+        }
+    }
+    true
 }

@@ -1,11 +1,11 @@
 // The phase, the bound holders and the released marks.
-ghost use Rattle.std.specs.Prelude.{◌≡◌, ◌<◌};
+ghost use Rattle.std.specs.Prelude.{◌≡◌, ◌<◌, ◌&&◌};
 ghost use Rattle.model.specs.Base.{all_below, any_below};
 ghost use Rattle.model.specs.Params.{holders, parts};
 ghost use Rattle.model.specs.Tables.{view};
 ghost use Rattle.model.specs.Global.{has_released};
 ghost use Rattle.model.specs.Sound.{in_gc_empty, phase_known, released_some};
-ghost use Rattle.native_ms.specs.SoundWalk.{holder_fits, part_fits, parts_sound};
+ghost use Rattle.native_ms.specs.SoundWalk.{holder_fits, part_fits};
 
 use crate::global;
 use crate::sound::lists::Lists;
@@ -78,15 +78,16 @@ fn phase_known(words: &[usize]) -> bool
     phase == global::RUNNING || phase == global::MARKING || phase == global::RELEASING
 }
 
-// The phase, every part and every holder, and in-gc.
-#[tactic(auto, unfolding(crate::specs::SoundWalk::parts_sound))]
-pub(crate) fn all_fit(lists: &Lists) -> bool
-    ensures { result ≡ parts_sound (view lists.now.lent.now.words.now) }
+// The phase and every part: what is tested before the lists' words are read.
+pub(crate) fn marks_fit(words: &[usize]) -> bool
+    ensures { result ≡ (phase_known (view words.now) && all_below parts (part_fits (view words.now)) && released_some (view words.now)) }
 {
-    let words = lists.lent.words;
-    phase_known(words)
-        && parts_fit(words)
-        && released_some(words)
-        && holders_fit(lists)
-        && in_gc_empty(lists)
+    phase_known(words) && parts_fit(words) && released_some(words)
+}
+
+// Every holder, and in-gc.
+pub(crate) fn lists_fit(lists: &Lists) -> bool
+    ensures { result ≡ (all_below holders (holder_fits (view lists.now.lent.now.words.now)) && in_gc_empty (view lists.now.lent.now.words.now)) }
+{
+    holders_fit(lists) && in_gc_empty(lists)
 }

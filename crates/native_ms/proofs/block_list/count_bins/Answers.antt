@@ -1,23 +1,26 @@
-use Rattle.std.proofs.Common.{◌∙◌}
+use Rattle.std.proofs.Common.{◌∙◌, ◌-◌}
 use native.Mathlib.Omega.{arith}
 use Rattle.laws.proofs.Params.{good_bounds}
-use Rattle.native_ms.proofs.CountedLaws.{counted_few, starts_in, bins_none, bins_bad, bins_step}
+use Rattle.native_ms.proofs.CountedLaws.{counted_few, starts_in, bins_end, bins_bad, bins_step}
 use Rattle.native_ms.proofs.block_list.count_bins.Goals as goal
-
-pub loop-list-init : goal.loop-list-init
-loop-list-init g c = record { few = omega arith; same = bins_none _ _ _ 0 (omega arith) }
 
 pub returns-in_err-met : goal.returns-in_err-met
 returns-in_err-met g c =
     c.from_residual.ensures
-    ∙ bins_bad _ _ _ 48 c.loop-list.list-index (omega (arith, c.requires, c.loop-list-test.true)) (starts_in _ _ _ _ c.loop-list-test.true c.list-item.is c.first-first.ensures) c.count_blocks.ensures c.in_err-met.was
+    ∙ bins_bad _ _ _ _ (c.loop-bin.bin - 1) (omega (arith, c.loop-bin-test.true, c.loop-bin.invariant.low)) (starts_in g.L.Starts.first_of c.args.lists.now (c.loop-bin.bin - 1) (omega (arith, c.requires, c.loop-bin.invariant.high, c.loop-bin-test.true)) c.index-lists-bin.is c.first-first.ensures) c.count_blocks.ensures c.in_err-met.was
+    ∙ c.loop-bin.invariant.same
 
 pub overflow_add-met : goal.overflow_add-met
-overflow_add-met g c = omega (arith, c.loop-list.invariant.few, c.loop-list-test.true, counted_few _ _ _ _ c.count_blocks.ensures c.in_ok-met.was, (good_bounds c.args.space.now.p c.args.space.now.good).blocks_high)
+overflow_add-met g c = record { fits = omega (arith, c.loop-bin.invariant.few, c.loop-bin-test.true, counted_few _ _ _ _ c.count_blocks.ensures c.in_ok-met.was, (good_bounds c.args.space.now.p c.args.space.now.good).blocks_high) }
 
-pub loop-list-preserved : goal.loop-list-preserved
-loop-list-preserved g c =
+pub loop-bin-preserved : goal.loop-bin-preserved
+loop-bin-preserved g c =
     record {
-      few = omega (arith, c.loop-list.invariant.few, counted_few _ _ _ _ c.count_blocks.ensures c.in_ok-met.was, (good_bounds c.args.space.now.p c.args.space.now.good).blocks_high);
-      same = bins_step _ _ _ c.loop-list.list-index c.loop-list.met c.loop-list.invariant.same (starts_in _ _ _ _ c.loop-list-test.true c.list-item.is c.first-first.ensures) c.count_blocks.ensures c.in_ok-met.was;
+      low = omega (arith, c.loop-bin-test.true);
+      high = omega (arith, c.loop-bin.invariant.high);
+      few = omega (arith, c.loop-bin.invariant.few, c.loop-bin-test.true, counted_few _ _ _ _ c.count_blocks.ensures c.in_ok-met.was, (good_bounds c.args.space.now.p c.args.space.now.good).blocks_high);
+      same = bins_step _ _ _ _ (c.loop-bin.bin - 1) (omega (arith, c.loop-bin-test.true, c.loop-bin.invariant.low)) (starts_in g.L.Starts.first_of c.args.lists.now (c.loop-bin.bin - 1) (omega (arith, c.requires, c.loop-bin.invariant.high, c.loop-bin-test.true)) c.index-lists-bin.is c.first-first.ensures) c.count_blocks.ensures c.in_ok-met.was ∙ c.loop-bin.invariant.same;
     }
+
+pub returns : goal.returns
+returns g c = bins_end _ _ _ _ _ (omega (arith, c.loop-bin-test.false)) ∙ c.loop-bin.invariant.same
