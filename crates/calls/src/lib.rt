@@ -7,8 +7,8 @@ ghost use Rattle.model.specs.Calls.{call, set_up, check_classes};
 ghost use Rattle.model.specs.Answers.{call_of, said_of, outcome, outcome_of};
 ghost use Rattle.model.specs.Promise.{lend};
 
-use model::{Ask, Params, Said};
-use native_ms::{classes, global, run};
+use model::{Address, Ask, Block, Params, Said};
+use native_ms::{classes, free_list_allocator, global};
 
 // The check of a class table.
 pub fn check_classes(p: Params) -> Said
@@ -30,7 +30,8 @@ pub fn set_up(
     Said::from(global::set_up(p, words, states, marks, heap))
 }
 
-// Any other call: `run::perform` under the name that the programs have for it, so that all three of what is asked stand here.
+// Any other call, by the function that a Rattle caller calls for it: what README says of these then holds what exports and programs run.
+// `run::perform` promises the same, and takes their steps itself.
 pub fn perform(
     p: Params,
     words: &mut [usize],
@@ -41,5 +42,23 @@ pub fn perform(
 ) -> Said
     ensures { outcome result (lend words.new states.new marks.new heap.new) ≡ outcome_of (call p (lend words.old states.old marks.old heap.old) (call_of ask)) }
 {
-    run::perform(p, words, states, marks, heap, ask)
+    match ask {
+        Ask::Bind(h) => Said::from(global::bind(p, words, states, marks, heap, h)),
+        Ask::Destroy(h) => Said::from(global::destroy(p, words, states, marks, heap, h)),
+        Ask::Alloc { holder, request } => Said::from(free_list_allocator::alloc(
+            p, words, states, marks, heap, holder, request,
+        )),
+        Ask::Prepare => Said::from(global::prepare(p, words, states, marks, heap)),
+        Ask::Mark { place, block } => Said::from(global::mark(
+            p,
+            words,
+            states,
+            marks,
+            heap,
+            Address(place),
+            Block(block),
+        )),
+        Ask::Release(h) => Said::from(global::release(p, words, states, marks, heap, h)),
+        Ask::SharedRelease => Said::from(global::shared_release(p, words, states, marks, heap)),
+    }
 }
