@@ -150,7 +150,7 @@ struct Min {
     ghost few: { bytes ≤ 8 },
 }
 
-// The line of one MIN, MAX and align.
+// The line of one MIN, MAX and align. Each sum is written as soon as it is known.
 fn line(rt: &impl Print, min: Min, max: usize, align: usize) -> Result<()> {
     let min = min.bytes;
     let asked = Asked {
@@ -169,10 +169,11 @@ fn line(rt: &impl Print, min: Min, max: usize, align: usize) -> Result<()> {
         },
         align,
     };
-    let all = asked.sizes();
+    print!(rt; "{min} {max} {align} ")?;
+    print!(rt; "{} ", asked.sizes())?;
     let low = asked.regions(Checksum::new(), 8, 0);
     let high = asked.regions(low, 140737488355200, 65536 - 32 * min);
-    println!(rt; "{min} {max} {align} {all} {high}")
+    println!(rt; "{high}")
 }
 
 // Each power of two from low to high.
@@ -197,7 +198,8 @@ fn lines(rt: &impl Print, min: Min) -> Result<()> {
 
 fn all(rt: &impl Print) -> Result<()> {
     println!(rt; "{}", bins())?;
-    println!(rt; "{} {}", entries(), bins_of_words())?;
+    print!(rt; "{} ", entries())?;
+    println!(rt; "{}", bins_of_words())?;
     lines(rt, Min { bytes: 4 })?;
     lines(rt, Min { bytes: 8 })
 }
