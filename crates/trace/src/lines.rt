@@ -71,11 +71,11 @@ impl<'a> Iterator for LinesLeft<'a> {
     }
 }
 
-// Whether a trace has a rest that is unread.
+// Whether a trace has a rest that is unread. Lines are looked at up to the first that is too many.
 pub fn unread(s: &[u8]) -> bool
     ensures { result ≡ unread s.now }
 {
-    TRACE_BYTES < s.len() || LINES < LinesLeft::of(read_part(s)).count()
+    TRACE_BYTES < s.len() || LinesLeft::of(read_part(s)).nth(LINES).is_some()
 }
 
 fn number_at(s: &[u8], k: usize) -> Option<usize>
