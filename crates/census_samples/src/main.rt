@@ -3,6 +3,8 @@
 // Traces with the listings that oracle/census/listing.py worked out from document 01, replayed: the library's listing of each
 // must have the same bytes. Standard input (made by oracle/census/traces.py) has for each a head of 47 bytes, its lengths and
 // its name, then the trace and the listing.
+ghost use Rattle.std.specs.Prelude.{◌+◌, ◌<◌, ◌≤◌, length};
+
 use std::fmt;
 use std::io::{self, Stdin};
 
@@ -46,17 +48,26 @@ struct Sample {
     out: [u8; trace::LISTING_BYTES],
 }
 
-// The number of these digits.
-fn number(digits: &[u8]) -> Result<usize, Stop> {
-    let Ok(text) = str::from_utf8(digits) else {
-        return Err(Stop::Cut);
-    };
-    text.parse().map_err(|_| Stop::Cut)
+// What a byte says as a digit: its low four bits, and of these the last decimal digit. So each byte is one.
+fn digit(byte: u8) -> usize
+    ensures { result < 10 }
+{
+    usize::from(byte % 16 % 10)
 }
 
-// The lengths of a sample's trace and of its listing.
-fn lengths(head: &[u8; HEAD]) -> Result<(usize, usize), Stop> {
-    Ok((number(&head[..6])?, number(&head[7..13])?))
+// Three digits from `at` on, and six.
+fn three(head: &[u8], at: usize) -> usize
+    requires { at + 3 ≤ length head.now }
+    ensures { result < 1000 }
+{
+    100 * digit(head[at]) + 10 * digit(head[at + 1]) + digit(head[at + 2])
+}
+
+fn number(head: &[u8], at: usize) -> usize
+    requires { at + 6 ≤ length head.now }
+    ensures { result < 1000000 }
+{
+    1000 * three(head, at) + three(head, at + 3)
 }
 
 fn name(head: &[u8; HEAD]) -> &[u8] {
@@ -72,12 +83,14 @@ fn tell(rt: &impl Print, name: &[u8], as_it_must: bool) -> io::Result<()> {
     rt.write_all(b" DIFFERS\n")
 }
 
-// Fills the buffer, as there must be so many bytes.
-fn fill(from: Stdin, buf: &mut [u8]) -> Result<(), Stop> {
-    if streams::read_input(from, buf)? < buf.len() {
+// Reads n bytes into the buffer, which must come and fit. What is too long is told behind a read, so that one that fails is told first.
+fn fill<'a>(from: Stdin, buf: &'a mut [u8], n: usize) -> Result<&'a [u8], Stop> {
+    let room = n.min(buf.len());
+    let part = &mut buf[..room];
+    if streams::read_input(from, part)? < n {
         return Err(Stop::Cut);
     }
-    Ok(())
+    Ok(part)
 }
 
 // Reads the next sample's head. The answer is whether there is one.
@@ -107,15 +120,8 @@ fn replay(rt: &impl Print, from: Stdin, sample: &mut Sample) -> Result<bool, Sto
     if !next_head(from, &mut sample.head)? {
         return Ok(false);
     }
-    let (read, known) = lengths(&sample.head)?;
-    let Some(input) = sample.input.get_mut(..read) else {
-        return Err(Stop::Cut);
-    };
-    let Some(wanted) = sample.wanted.get_mut(..known) else {
-        return Err(Stop::Cut);
-    };
-    fill(from, input)?;
-    fill(from, wanted)?;
+    let input = fill(from, &mut sample.input, number(&sample.head, 0))?;
+    let wanted = fill(from, &mut sample.wanted, number(&sample.head, 7))?;
     compare(rt, name(&sample.head), input, wanted, &mut sample.out)?;
     Ok(true)
 }
