@@ -18,6 +18,8 @@ pub(crate) struct Lines {
     bytes: [u8; INPUT_BYTES],
     // which of the bytes are still to be looked at
     waiting: Range<usize>,
+    // whether the input ended behind the line
+    last: bool,
     line: ArrayVec<u8, LINE_BYTES>,
 }
 
@@ -29,6 +31,7 @@ impl Lines {
             errors,
             bytes: [0; INPUT_BYTES],
             waiting: 0..0,
+            last: false,
             line: ArrayVec::new(),
         }
     }
@@ -58,9 +61,13 @@ impl Lines {
     // Nothing says that the input ends: the turns are counted to a number that no run reaches.
     fn read(&mut self) -> io::Result<bool> {
         self.line.clear();
+        self.last = false;
         for _ in 0..u64::MAX {
             match self.next()? {
-                None => break,
+                None => {
+                    self.last = true;
+                    break;
+                }
                 Some(b'\n') => return Ok(true),
                 Some(byte) => {
                     let _ = self.line.try_push(byte);
@@ -68,6 +75,11 @@ impl Lines {
             }
         }
         Ok(!self.line.is_empty())
+    }
+
+    // Whether the input ended behind the line. A terminal that is asked again waits for more.
+    pub(crate) fn is_last(&self) -> bool {
+        self.last
     }
 
     // The line without its newline.

@@ -49,6 +49,9 @@ fn hear_all(memory: &mut Memory, lines: &mut Lines, out: &mut Out) -> Result<(),
             break;
         }
         driver.hear(lines, out)?;
+        if lines.is_last() {
+            break;
+        }
     }
     Ok(())
 }

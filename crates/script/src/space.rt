@@ -1,5 +1,7 @@
 // The memory that the driver lends to the library.
-use model::{BLOCK_TABLES, HEAD_WORDS, Params};
+ghost use Rattle.std.specs.Prelude.{◌≤◌};
+
+use model::{BLOCK_TABLES, HEAD_WORDS, MAX_BYTES, Params};
 
 // At most 4 MiB of arena, and the tables of 1,024 blocks.
 pub(crate) const BLOCKS: usize = 1024;
@@ -31,8 +33,22 @@ pub(crate) struct Lent<'a> {
     pub heap: &'a mut [u8],
 }
 
+// None where there are more blocks than any space has, or larger ones: such parameters are refused, and no heap is filled for them.
 fn heap_bytes(p: &Params) -> usize {
-    p.blocks.saturating_mul(p.bytes)
+    if BLOCKS < p.blocks || MAX_BYTES < p.bytes {
+        return 0;
+    }
+    p.blocks * p.bytes
+}
+
+// The blocks that get tables; none of too many.
+fn table_blocks(p: &Params) -> usize
+    ensures { result ≤ 1024 }
+{
+    if BLOCKS < p.blocks {
+        return 0;
+    }
+    p.blocks
 }
 
 // Whether the heap of these parameters has room.
@@ -49,7 +65,7 @@ pub(crate) fn first<T>(all: &mut [T], n: usize) -> &mut [T] {
 impl Memory {
     // Parts of the exact lengths. Parameters that are off may get less, since they are refused.
     pub(crate) fn lend(&mut self, p: &Params) -> Lent<'_> {
-        let blocks = p.blocks.min(BLOCKS);
+        let blocks = table_blocks(p);
         let bytes = heap_bytes(p);
         Lent {
             words: first(
